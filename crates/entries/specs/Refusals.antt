@@ -1,0 +1,15 @@
+-- Document 01, "Turning a job back": the number of each refusal.
+use Prim.Native.Nat.{ℕ}
+use Rattle.entries.specs.declared.Refusal.{Refusal}
+use Rattle.entries.specs.declared.Refusal.the-variants.{ShortBuffer, LongJob, MissingByte, WrongMark, OutOfRange, ExtraByte, RepeatedId, UnknownBlock, ManyNodes}
+
+abbrev pub refusalNumber : Refusal → ℕ
+refusalNumber ShortBuffer = 1
+refusalNumber LongJob = 2
+refusalNumber MissingByte = 3
+refusalNumber WrongMark = 4
+refusalNumber OutOfRange = 5
+refusalNumber ExtraByte = 6
+refusalNumber RepeatedId = 7
+refusalNumber UnknownBlock = 8
+refusalNumber ManyNodes = 9

@@ -1,0 +1,51 @@
+// The types that all crates share. A number is kept in a struct of its own where the Rust keeps it apart from other numbers.
+
+// A variable of the compiled function (`IdentifierId` of the Rust).
+pub struct IdentifierId(pub u32);
+
+// A block of the compiled function (`BlockId` of the Rust).
+pub struct BlockId(pub u32);
+
+// A node of the registry: its place in the order of making.
+pub struct NodeId(pub usize);
+
+// A property: the host's number for a name, or the stored bits of a number.
+pub enum PropertyLiteral {
+    String(u64),
+    Number(u64),
+}
+
+// One step of a path: `.property`, or `?.property` where `optional`. The span is the host's number for a place in its source; 0 is none. A job's
+// spans have 32 bits; 64 leave room for wider ones.
+pub struct DependencyPathEntry {
+    pub property: PropertyLiteral,
+    pub optional: bool,
+    pub span: u64,
+}
+
+// How a position of the dependency tree is reached, and whether a dependency ends there.
+pub enum PropertyAccessType {
+    OptionalAccess,
+    UnconditionalAccess,
+    OptionalDependency,
+    UnconditionalDependency,
+}
+
+// What is known of the value at a position of the hoistable tree.
+pub enum HoistableAccessType {
+    Optional,
+    NonNull,
+}
+
+// Why a job is turned back, in the order of document 01's numbers 1 to 9.
+pub enum Refusal {
+    ShortBuffer,
+    LongJob,
+    MissingByte,
+    WrongMark,
+    OutOfRange,
+    ExtraByte,
+    RepeatedId,
+    UnknownBlock,
+    ManyNodes,
+}
