@@ -1,0 +1,210 @@
+-- Document 01, "Answer and sheet" and "Turning a job back": for any job bytes and any out buffer, the number returned and the buffer afterwards.
+use Prim.Native.Nat.{ℕ, zero, suc, _+_, _*_, _/_, _%_}
+use mathlib.Core.Bool.{Bool, true, false, cond}
+use mathlib.Core.List.{List, [], _∷_, _++_}
+use lib.ListN.{length, drop, replicate}
+use lib.IntN.{ℤ, pos, negℤ}
+use lib.Dec.{ltb}
+use Rattle.entries.specs.declared.IdentifierId.{IdentifierId}
+use Rattle.entries.specs.declared.NodeId.{NodeId}
+use Rattle.entries.specs.declared.BlockId.{BlockId}
+use Rattle.entries.specs.declared.PropertyLiteral.{PropertyLiteral}
+use Rattle.entries.specs.declared.PropertyLiteral.the-variants.{String, Number}
+use Rattle.entries.specs.declared.DependencyPathEntry.{DependencyPathEntry}
+use Rattle.entries.specs.declared.Refusal.{Refusal}
+use Rattle.entries.specs.declared.Refusal.the-variants.{ShortBuffer, LongJob, ManyNodes}
+use Rattle.entries.specs.Path.{ReactiveScopeDependency}
+use Rattle.entries.specs.Refusals.{refusalNumber}
+use Rattle.model.specs.Lists.{concatMap}
+use Rattle.model.specs.Sets.{NodeSet, contains}
+use Rattle.model.specs.Registry.{nodeLimit, rootMark, Origin, root, childOf, PropertyPathNode}
+use Rattle.model.specs.Rounds.{Rounds}
+use Rattle.model.specs.Propagation.{Work}
+use Rattle.model.specs.Read.{Read, got, refused, Reader, andThen, mapped, readMany, readU8, readU16, readNumber, readMark, readFlag}
+use Rattle.model.specs.Job.{Block, Job, markOf, HD, readPath, readJob}
+use Rattle.model.specs.Stage.{propagated, returnedPaths}
+
+-- Bytes.
+
+-- "Numbers are unsigned, lowest byte first": a number in so many bytes.
+unfoldable pub numberBytes : ℕ → ℕ → List ℕ
+numberBytes zero x = []
+numberBytes (suc bytes) x = x % 256 ∷ numberBytes bytes (x / 256)
+
+abbrev pub u8 : ℕ → List ℕ
+u8 = numberBytes 1
+
+abbrev pub u16 : ℕ → List ℕ
+u16 = numberBytes 2
+
+abbrev pub u32 : ℕ → List ℕ
+u32 = numberBytes 4
+
+abbrev pub u64 : ℕ → List ℕ
+u64 = numberBytes 8
+
+abbrev pub flag : Bool → ℕ
+flag false = 0
+flag true = 1
+
+abbrev pub AN : ℕ
+AN = markOf 0x41 0x4E
+
+abbrev pub DE : ℕ
+DE = markOf 0x44 0x45
+
+abbrev pub SH : ℕ
+SH = markOf 0x53 0x48
+
+abbrev pub NO : ℕ
+NO = markOf 0x4E 0x4F
+
+abbrev pub SE : ℕ
+SE = markOf 0x53 0x45
+
+-- a property's kind and value, as the numbers of a job
+abbrev pub kindOf : PropertyLiteral → ℕ
+kindOf (String v) = 0
+kindOf (Number v) = 1
+
+abbrev pub valueOf : PropertyLiteral → ℕ
+valueOf (String v) = v
+valueOf (Number v) = v
+
+-- optional, kind, value
+abbrev pub stepBytes : DependencyPathEntry → List ℕ
+stepBytes e = u8 (flag (e .optional)) ++ u8 (kindOf (e .property)) ++ u64 (valueOf (e .property))
+
+abbrev pub entryBytes : ℕ → DependencyPathEntry → List ℕ
+entryBytes spanBytes e = stepBytes e ++ numberBytes spanBytes (e .span)
+
+-- a path under a mark, "fields as PA"
+unfoldable pub pathBytes : ℕ → ℕ → ReactiveScopeDependency → List ℕ
+unfolding numberBytes
+pathBytes spanBytes mark d =
+    u16 mark ++ u32 (d .identifier .0) ++ u8 (flag (d .reactive)) ++ numberBytes spanBytes (d .span) ++ u8 (length (d .path))
+    ++ concatMap (entryBytes spanBytes) (d .path)
+
+-- "The answer is AN, count u16, rounds u8, settled u8 (1 or 0), then a DE record per returned path, fields as PA."
+unfoldable pub answerBytes : ℕ → Job → Rounds Work → List ℕ
+unfolding numberBytes pathBytes returnedPaths
+answerBytes spanBytes job p =
+    let returned = returnedPaths job (p .work) in
+    u16 AN ++ u16 (length returned) ++ u8 (p .rounds) ++ u8 (flag (p .settled)) ++ concatMap (pathBytes spanBytes DE) returned
+
+-- The same read back: what an answer holds.
+
+pub record Answered : Type 0 where
+  pub paths : List ReactiveScopeDependency
+  pub rounds : ℕ
+  pub settled : Bool
+
+unfoldable pub readAnswer : ℕ → Reader Answered
+unfolding readMark readNumber readFlag readPath
+readAnswer spanBytes s at =
+    andThen (readMark AN s at) (λ _ countAt.
+    andThen (readU16 s countAt) (λ count roundsAt.
+    andThen (readU8 s roundsAt) (λ rounds settledAt.
+    andThen (readFlag s settledAt) (λ settled pathsAt.
+    mapped (λ paths. record { paths = paths; rounds = rounds; settled = settled }) (readMany count (readPath spanBytes DE) s pathsAt)))))
+
+-- "Parent u16 (65535 for a root)."
+abbrev pub parentNumber : Origin → ℕ
+parentNumber root = rootMark
+parentNumber (childOf p e) = p .0
+
+-- "Optional u8, kind u8, value u64 (these three 0 for a root)."
+abbrev pub originBytes : Origin → List ℕ
+originBytes root = u8 0 ++ u8 0 ++ u64 0
+originBytes (childOf p e) = stepBytes e
+
+-- "Per node NO, parent u16, identifier u32, optional u8, kind u8, value u64, span u32, the root's reactive u8."
+unfoldable pub nodeBytes : ℕ → PropertyPathNode → List ℕ
+unfolding numberBytes
+nodeBytes spanBytes n =
+    u16 NO ++ u16 (parentNumber (n .origin)) ++ u32 (n .fullPath .identifier .0) ++ originBytes (n .origin)
+    ++ numberBytes spanBytes (n .fullPath .span) ++ u8 (flag (n .fullPath .reactive))
+
+-- n bits, the first for node k and worth 1
+unfoldable pub bitsFrom : NodeSet → ℕ → ℕ → ℕ
+bitsFrom s k zero = 0
+bitsFrom s k (suc n) = flag (contains s (record { 0 = k })) + 2 * bitsFrom s (k + 1) n
+
+-- n bytes of 8 nodes each, the first for nodes k to k + 7
+unfoldable pub rowBytes : NodeSet → ℕ → ℕ → List ℕ
+unfolding bitsFrom
+rowBytes s k zero = []
+rowBytes s k (suc n) = bitsFrom s k 8 ∷ rowBytes s (k + 8) n
+
+-- "Per block in job order SE, id u32, 64 bytes where node k is bit k mod 8 of byte k div 8, bit 0 being worth 1."
+unfoldable pub setBytes : List Block → List NodeSet → List ℕ
+unfolding numberBytes rowBytes
+setBytes [] sets = []
+setBytes (b ∷ bs) [] = []
+setBytes (b ∷ bs) (s ∷ sets) = u16 SE ++ u32 (b .id .0) ++ rowBytes s 0 64 ++ setBytes bs sets
+
+-- "The sheet is SH, nodes u16, blocks u16, rounds u8, settled u8; per node .., per block .."
+unfoldable pub sheetBytes : ℕ → Job → Rounds Work → List ℕ
+unfolding numberBytes nodeBytes setBytes
+sheetBytes spanBytes job p =
+    let w = p .work in
+    u16 SH ++ u16 (length (w .registry)) ++ u16 (length (job .blocks)) ++ u8 (p .rounds) ++ u8 (flag (p .settled))
+    ++ concatMap (nodeBytes spanBytes) (w .registry) ++ setBytes (job .blocks) (w .sets)
+
+-- The two operations.
+
+-- what an operation does: it writes these bytes, or turns the job back
+pub data Verdict : Type 0 where
+  writes : List ℕ → Verdict
+  turnsBack : Refusal → Verdict
+
+-- 1: "The out buffer is shorter than 24,576 bytes." 2: "The job is longer than 32,768 bytes." The two limits are given.
+abbrev pub withinLengths : ℕ → ℕ → List ℕ → List ℕ → Verdict → Verdict
+withinLengths leastOut mostJob job out rest =
+    cond (ltb (length out) leastOut) (turnsBack ShortBuffer) (cond (ltb mostJob (length job)) (turnsBack LongJob) rest)
+
+-- 9: "The reference's registry would pass 512 nodes by the end of propagation."
+abbrev pub withinNodes : Rounds Work → List ℕ → Verdict
+withinNodes p bytes = cond (ltb nodeLimit (length (p .work .registry))) (turnsBack ManyNodes) (writes bytes)
+
+abbrev pub onJob : (Job → Rounds Work → List ℕ) → Read Job → Verdict
+onJob bytes (got job next) = let p = propagated (job .blocks) in withinNodes p (bytes job p)
+onJob bytes (refused r) = turnsBack r
+
+-- "Span u32", in the job and in what is written.
+abbrev pub spanWidth : ℕ
+spanWidth = 4
+
+-- 1 and 2, then 3 to 8, and 9
+unfoldable pub verdict : (ℕ → Job → Rounds Work → List ℕ) → List ℕ → List ℕ → Verdict
+unfolding readJob propagated
+verdict bytes job out = withinLengths 24576 32768 job out (onJob (bytes spanWidth) (readJob HD spanWidth job))
+
+unfoldable pub answerOf : List ℕ → List ℕ → Verdict
+unfolding verdict answerBytes
+answerOf job out = verdict answerBytes job out
+
+unfoldable pub sheetOf : List ℕ → List ℕ → Verdict
+unfolding verdict sheetBytes
+sheetOf job out = verdict sheetBytes job out
+
+-- "Both report the bytes written"; "the length or minus the refusal number".
+abbrev pub numberReturned : Verdict → ℤ
+numberReturned (writes bytes) = pos (length bytes)
+numberReturned (turnsBack r) = negℤ (pos (refusalNumber r))
+
+-- "Bytes beyond stay." "Every refusal writes nothing."
+abbrev pub bufferAfter : Verdict → List ℕ → List ℕ
+bufferAfter (writes bytes) out = bytes ++ drop (length bytes) out
+bufferAfter (turnsBack r) out = out
+
+-- "Program `answer` reads a job from standard input and writes the answer, or RF and the number as one byte; `sheet` likewise."
+abbrev pub programOutput : Verdict → List ℕ
+programOutput (writes bytes) = bytes
+programOutput (turnsBack r) = 0x52 ∷ 0x46 ∷ refusalNumber r ∷ []
+
+unfoldable pub answerProgram : List ℕ → List ℕ
+answerProgram input = programOutput (answerOf input (replicate 24576 0))
+
+unfoldable pub sheetProgram : List ℕ → List ℕ
+sheetProgram input = programOutput (sheetOf input (replicate 24576 0))

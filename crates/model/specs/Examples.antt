@@ -1,0 +1,181 @@
+-- Document 01, "Proved examples": T1 to T8, R1, R2, P1, P2, P3 and the bytes case of "Answer and sheet" as one list, proved by computation.
+use Prim.Native.Nat.{ℕ, zero, _+_, _≤_}
+use mathlib.Core.Path.{_≡_, refl, ap, _∙_}
+use mathlib.Core.Bool.{Bool, true, false, cond, true≢false}
+use mathlib.Core.List.{List, [], _∷_, map}
+use lib.ListN.{length}
+use lib.Dec.{T, ltb, ltb→lt}
+use native.Mathlib.Omega.{arith}
+use Rattle.entries.specs.declared.BlockId.{BlockId}
+use Rattle.entries.specs.declared.PropertyLiteral.the-variants.{String}
+use Rattle.entries.specs.declared.DependencyPathEntry.{DependencyPathEntry}
+use Rattle.entries.specs.Path.{ReactiveScopeDependency}
+use Rattle.model.specs.Sets.{NodeSet}
+use Rattle.model.specs.Registry.{fullPathOf, getOrCreateProperty}
+use Rattle.model.specs.Reduction.{Reduced, reduceMaybeOptionalChains}
+use Rattle.model.specs.Tree.{deriveMinimalDependencies}
+use Rattle.model.specs.Job.{Block}
+use Rattle.model.specs.Stage.{Entered, enterPaths, propagated}
+use Rattle.model.specs.Answer.{Verdict, writes, answerOf}
+
+-- What an example says.
+
+pub data Example : Type 0 where
+  -- hoistable paths, candidates, returned paths
+  tree : List ReactiveScopeDependency → List ReactiveScopeDependency → List ReactiveScopeDependency → Example
+  -- the paths of a set, entered in this order, and those of the reduced set
+  reduction : List ReactiveScopeDependency → List ReactiveScopeDependency → Example
+  -- blocks in job order, the paths of each one's propagated set, and the rounds, the last of which changed nothing
+  propagation : List Block → List (List ReactiveScopeDependency) → ℕ → Example
+  -- a job's bytes and its answer's
+  bytes : List ℕ → List ℕ → Example
+
+abbrev pub reducedPaths : Reduced → List ReactiveScopeDependency
+reducedPaths r = map (fullPathOf (r .registry)) (r .set)
+
+abbrev pub reduceEntered : Entered → Reduced
+reduceEntered e = reduceMaybeOptionalChains (e .registry) (e .set)
+
+abbrev pub Holds : Example → Type 0
+Holds (tree hs cs ds) = deriveMinimalDependencies hs cs ≡ ds
+Holds (reduction before after) = reducedPaths (reduceEntered (enterPaths [] [] before)) ≡ after
+Holds (propagation blocks sets rounds) =
+    let p = propagated blocks in
+    (map (map (fullPathOf (p .work .registry))) (p .work .sets) ≡ sets) × (p .rounds ≡ rounds) × (p .settled ≡ true)
+Holds (bytes job answer) = (out : List ℕ) → 24576 ≤ length out → answerOf job out ≡ writes answer
+
+abbrev pub AllHold : List Example → Type 0
+AllHold [] = Unit {0}
+AllHold (x ∷ xs) = Holds x × AllHold xs
+
+-- The notation of document 01. What it leaves open is chosen so that a wrong choice shows: hoistable paths are not reactive and have spans of their
+-- own, and a second candidate has other spans than the first.
+
+-- `.v` and `?.v` with a span
+abbrev plainAt : ℕ → ℕ → DependencyPathEntry
+plainAt span v = record { property = String v; optional = false; span = span }
+
+abbrev optionalAt : ℕ → ℕ → DependencyPathEntry
+optionalAt span v = record { property = String v; optional = true; span = span }
+
+-- `.v` and `?.v` of a first candidate, whose span is 20 + v, of a second, 40 + v, and of a hoistable path, 60 + v
+abbrev plain : ℕ → DependencyPathEntry
+plain v = plainAt (20 + v) v
+
+abbrev optional : ℕ → DependencyPathEntry
+optional v = optionalAt (20 + v) v
+
+abbrev plain2 : ℕ → DependencyPathEntry
+plain2 v = plainAt (40 + v) v
+
+abbrev known : ℕ → DependencyPathEntry
+known v = plainAt (60 + v) v
+
+abbrev knownOptional : ℕ → DependencyPathEntry
+knownOptional v = optionalAt (60 + v) v
+
+abbrev pathOf : ℕ → Bool → ℕ → List DependencyPathEntry → ReactiveScopeDependency
+pathOf identifier reactive span entries = record { identifier = record { 0 = identifier }; reactive = reactive; path = entries; span = span }
+
+-- a hoistable path of identifier 1; a first and a second candidate
+abbrev hoistable : List DependencyPathEntry → ReactiveScopeDependency
+hoistable es = pathOf 1 false 3 es
+
+abbrev candidate : List DependencyPathEntry → ReactiveScopeDependency
+candidate es = pathOf 1 true 1 es
+
+abbrev candidate2 : List DependencyPathEntry → ReactiveScopeDependency
+candidate2 es = pathOf 1 false 2 es
+
+abbrev lastSpan : ℕ → List DependencyPathEntry → ℕ
+lastSpan s [] = s
+lastSpan s (e ∷ es) = lastSpan (e .span) es
+
+-- a returned path: reactive as the first candidate is, with the span of its last entry, or the first candidate's where it has none
+abbrev one : List DependencyPathEntry → ReactiveScopeDependency
+one es = pathOf 1 true (lastSpan 1 es) es
+
+abbrev five : ReactiveScopeDependency
+five = pathOf 5 true 0 []
+
+abbrev block : ℕ → List ℕ → List ReactiveScopeDependency → Block
+block id predecessors assumed = record { id = record { 0 = id }; predecessors = map (λ i. record { 0 = i }) predecessors; assumed = assumed }
+
+abbrev exampleJob : List ℕ
+exampleJob =
+    0x48 ∷ 0x44 ∷ 0x01 ∷ 0x00 ∷ 0x01 ∷ 0x00 ∷ 0x07 ∷ 0x00 ∷ 0x00 ∷ 0x00
+    ∷ 0x42 ∷ 0x4C ∷ 0x07 ∷ 0x00 ∷ 0x00 ∷ 0x00 ∷ 0x00 ∷ 0x01
+    ∷ 0x50 ∷ 0x41 ∷ 0x01 ∷ 0x00 ∷ 0x00 ∷ 0x00 ∷ 0x01 ∷ 0x00 ∷ 0x00 ∷ 0x00 ∷ 0x00 ∷ 0x00
+    ∷ 0x43 ∷ 0x41 ∷ 0x01 ∷ 0x00 ∷ 0x00 ∷ 0x00 ∷ 0x01 ∷ 0x05 ∷ 0x00 ∷ 0x00 ∷ 0x00 ∷ 0x01
+    ∷ 0x00 ∷ 0x00 ∷ 0x0A ∷ 0x00 ∷ 0x00 ∷ 0x00 ∷ 0x00 ∷ 0x00 ∷ 0x00 ∷ 0x00 ∷ 0x06 ∷ 0x00 ∷ 0x00 ∷ 0x00 ∷ []
+
+abbrev exampleAnswer : List ℕ
+exampleAnswer =
+    0x41 ∷ 0x4E ∷ 0x01 ∷ 0x00 ∷ 0x01 ∷ 0x01
+    ∷ 0x44 ∷ 0x45 ∷ 0x01 ∷ 0x00 ∷ 0x00 ∷ 0x00 ∷ 0x01 ∷ 0x06 ∷ 0x00 ∷ 0x00 ∷ 0x00 ∷ 0x01
+    ∷ 0x00 ∷ 0x00 ∷ 0x0A ∷ 0x00 ∷ 0x00 ∷ 0x00 ∷ 0x00 ∷ 0x00 ∷ 0x00 ∷ 0x00 ∷ 0x06 ∷ 0x00 ∷ 0x00 ∷ 0x00 ∷ []
+
+abbrev pub examples : List Example
+examples =
+    -- T1 {1}; 1.10.11; 1.10
+    tree (hoistable [] ∷ []) (candidate (plain 10 ∷ plain 11 ∷ []) ∷ []) (one (plain 10 ∷ []) ∷ [])
+    -- T2 {1}; 1?.10; 1.10
+    ∷ tree (hoistable [] ∷ []) (candidate (optional 10 ∷ []) ∷ []) (one (plain 10 ∷ []) ∷ [])
+    -- T3 none; 1.10; 1
+    ∷ tree [] (candidate (plain 10 ∷ []) ∷ []) (one [] ∷ [])
+    -- T4 none; 1?.10.11; 1?.10
+    ∷ tree [] (candidate (optional 10 ∷ plain 11 ∷ []) ∷ []) (one (optional 10 ∷ []) ∷ [])
+    -- T5 {1?.10}; 1?.10.11; the same
+    ∷ tree (hoistable (knownOptional 10 ∷ []) ∷ []) (candidate (optional 10 ∷ plain 11 ∷ []) ∷ []) (one (optional 10 ∷ plain 11 ∷ []) ∷ [])
+    -- T6 {1?.10}; 1?.10, 1.10; 1
+    ∷ tree (hoistable (knownOptional 10 ∷ []) ∷ []) (candidate (optional 10 ∷ []) ∷ candidate2 (plain2 10 ∷ []) ∷ []) (one [] ∷ [])
+    -- T7 {1}; 1.11, 1.10; 1.11, 1.10
+    ∷ tree (hoistable [] ∷ []) (candidate (plain 11 ∷ []) ∷ candidate2 (plain2 10 ∷ []) ∷ []) (one (plain 11 ∷ []) ∷ one (plain2 10 ∷ []) ∷ [])
+    -- T8 {1.10}; 1.10.11, 1.10; 1.10
+    ∷ tree (hoistable (known 10 ∷ []) ∷ []) (candidate (plain 10 ∷ plain 11 ∷ []) ∷ candidate2 (plain2 10 ∷ []) ∷ []) (one (plain 10 ∷ []) ∷ [])
+    -- R1 {1, 1?.10?.11} reduces to {1, 1.10?.11}
+    ∷ reduction (one [] ∷ one (optional 10 ∷ optional 11 ∷ []) ∷ []) (one [] ∷ one (plain 10 ∷ optional 11 ∷ []) ∷ [])
+    -- R2 {1, 1.10, 1?.10?.11} to {1, 1.10, 1.10.11}
+    ∷ reduction (one [] ∷ one (plain 10 ∷ []) ∷ one (optional 10 ∷ optional 11 ∷ []) ∷ []) (one [] ∷ one (plain 10 ∷ []) ∷ one (plain 10 ∷ plain 11 ∷ []) ∷ [])
+    -- P1: 0, 1 (after 0), 2 (after 0), 3 (after 1, 2), path 5 assumed in 1 and 2: in all four, 2 rounds
+    ∷ propagation (block 0 [] [] ∷ block 1 (0 ∷ []) (five ∷ []) ∷ block 2 (0 ∷ []) (five ∷ []) ∷ block 3 (1 ∷ 2 ∷ []) [] ∷ [])
+    ((five ∷ []) ∷ (five ∷ []) ∷ (five ∷ []) ∷ (five ∷ []) ∷ []) 2
+    -- P2: assumed in 1 only: stays there, 1 round
+    ∷ propagation (block 0 [] [] ∷ block 1 (0 ∷ []) (five ∷ []) ∷ block 2 (0 ∷ []) [] ∷ block 3 (1 ∷ 2 ∷ []) [] ∷ [])
+    ([] ∷ (five ∷ []) ∷ [] ∷ [] ∷ []) 1
+    -- P3, a loop: 0, 1 (after 0, 3), 2 (after 1), 3 (after 1, 2), 4 (after 1), assumed in 2: in 2 and 3
+    ∷ propagation (block 0 [] [] ∷ block 1 (0 ∷ 3 ∷ []) [] ∷ block 2 (1 ∷ []) (five ∷ []) ∷ block 3 (1 ∷ 2 ∷ []) [] ∷ block 4 (1 ∷ []) [] ∷ [])
+    ([] ∷ [] ∷ (five ∷ []) ∷ (five ∷ []) ∷ [] ∷ []) 2
+    -- the job in hex and what `answer` writes
+    ∷ bytes exampleJob exampleAnswer
+    ∷ []
+
+-- the buffer's length is asked before the job is read
+buffer-fits : (out : List ℕ) → 24576 ≤ length out → ltb (length out) 24576 ≡ false
+buffer-fits out h = go (ltb (length out) 24576) refl
+  where
+    go : (b : Bool) → ltb (length out) 24576 ≡ b → b ≡ false
+    go false e = refl
+    go true e = absurd (let short = ltb→lt (length out) 24576 (rw e tt) in omega arith)
+
+bytes-hold : (out : List ℕ) → 24576 ≤ length out → answerOf exampleJob out ≡ writes exampleAnswer
+unfolding answerOf
+bytes-hold out h = rw (buffer-fits out h)
+
+-- The joint theorem.
+pub examples-hold : AllHold examples
+unfolding answerOf reduceMaybeOptionalChains deriveMinimalDependencies propagated
+examples-hold =
+    (refl, (refl, (refl, (refl, (refl, (refl, (refl, (refl, (refl, (refl, ((refl, refl, refl), ((refl, refl, refl), ((refl, refl, refl), (bytes-hold, tt))))))))))))))
+
+-- Beside the list.
+
+-- {1.11, 1?.10}; 1.12; 1: the optional path stands ahead, so the root is Optional, and the later plain path does not alter it.
+pub optional-ahead : Holds (tree (hoistable (known 11 ∷ []) ∷ hoistable (knownOptional 10 ∷ []) ∷ []) (candidate (plain 12 ∷ []) ∷ []) (one [] ∷ []))
+unfolding deriveMinimalDependencies
+optional-ahead = refl
+
+-- {1, 1?.10, 1?.10?.11}: 1.10 is in the set at the moment when 1?.10?.11 is walked again, so 1.10.11 is reached at once and 1.10?.11 is not made.
+pub set-of-the-moment : length (reduceEntered (enterPaths [] [] (one [] ∷ one (optional 10 ∷ []) ∷ one (optional 10 ∷ optional 11 ∷ []) ∷ [])) .registry) ≡ 5
+unfolding reduceMaybeOptionalChains getOrCreateProperty
+set-of-the-moment = refl

@@ -1,0 +1,141 @@
+-- Document 01, "The job": its records, field by field, and refusals 3 to 8. The width of a span, in bytes, is a parameter of the records
+-- that hold one.
+use Prim.Native.Nat.{ℕ, zero, suc, _+_, _*_}
+use mathlib.Core.Bool.{Bool, true, false, _||_, not, cond}
+use mathlib.Core.List.{List, [], _∷_, map}
+use lib.ListN.{length}
+use lib.Dec.{eqb}
+use Rattle.entries.specs.declared.IdentifierId.{IdentifierId}
+use Rattle.entries.specs.declared.BlockId.{BlockId}
+use Rattle.entries.specs.declared.PropertyLiteral.{PropertyLiteral}
+use Rattle.entries.specs.declared.PropertyLiteral.the-variants.{String, Number}
+use Rattle.entries.specs.declared.DependencyPathEntry.{DependencyPathEntry}
+use Rattle.entries.specs.declared.Refusal.the-variants.{ExtraByte, RepeatedId, UnknownBlock}
+use Rattle.entries.specs.Path.{ReactiveScopeDependency}
+use Rattle.model.specs.Lists.{anyOf}
+use Rattle.model.specs.Read.{Read, got, refused, Reader, andThen, mapped, both, readMany, readU8, readU16, readU32, readU64, readMark, readNumber, readWithin, readFlag}
+
+-- "Each record starts with a two-byte ASCII mark."
+abbrev pub markOf : ℕ → ℕ → ℕ
+markOf first second = first + 256 * second
+
+abbrev pub HD : ℕ
+HD = markOf 0x48 0x44
+
+abbrev pub BL : ℕ
+BL = markOf 0x42 0x4C
+
+abbrev pub PA : ℕ
+PA = markOf 0x50 0x41
+
+abbrev pub CA : ℕ
+CA = markOf 0x43 0x41
+
+-- "Kind u8 (0 name, 1 number), value u64."
+abbrev pub propertyOf : Bool → ℕ → PropertyLiteral
+propertyOf false value = String value
+propertyOf true value = Number value
+
+-- "Entries of 14 bytes: optional u8 (0 or 1), kind u8 (0 name, 1 number), value u64, span u32."
+unfoldable pub readEntry : ℕ → Reader DependencyPathEntry
+unfolding readFlag readNumber
+readEntry spanBytes s at =
+    andThen (readFlag s at) (λ optional kindAt.
+    andThen (readFlag s kindAt) (λ kind valueAt.
+    andThen (readU64 s valueAt) (λ value spanAt.
+    andThen (readNumber spanBytes s spanAt) (λ span next.
+    got (record { property = propertyOf kind value; optional = optional; span = span }) next))))
+
+-- "PA: identifier u32, reactive u8 (0 or 1), span u32, entry count u8 (0 to 16), then entries." "CA, with the fields of PA."
+unfoldable pub readPath : ℕ → ℕ → Reader ReactiveScopeDependency
+unfolding readMark readFlag readNumber readWithin readEntry
+readPath spanBytes mark s at =
+    andThen (readMark mark s at) (λ _ identifierAt.
+    andThen (readU32 s identifierAt) (λ identifier reactiveAt.
+    andThen (readFlag s reactiveAt) (λ reactive spanAt.
+    andThen (readNumber spanBytes s spanAt) (λ span countAt.
+    andThen (readWithin 0 16 readU8 s countAt) (λ count entriesAt.
+    mapped (λ entries. record { identifier = record { 0 = identifier }; reactive = reactive; path = entries; span = span })
+    (readMany count (readEntry spanBytes) s entriesAt))))))
+
+pub record Block : Type 0 where
+  pub id : BlockId
+  pub predecessors : List BlockId
+  pub assumed : List ReactiveScopeDependency
+
+abbrev pub readBlockId : Reader BlockId
+readBlockId s at = mapped (λ i. record { 0 = i }) (readU32 s at)
+
+-- "Per block BL: id u32, predecessor count u8 (0 to 64), assumed count u8, predecessor ids u32 each. Its assumed paths follow as PA records."
+unfoldable pub readBlock : ℕ → Reader Block
+unfolding readMark readNumber readWithin readPath
+readBlock spanBytes s at =
+    andThen (readMark BL s at) (λ _ idAt.
+    andThen (readBlockId s idAt) (λ id countAt.
+    andThen (readWithin 0 64 readU8 s countAt) (λ predecessors assumedAt.
+    andThen (readU8 s assumedAt) (λ assumed idsAt.
+    both (λ ids paths. record { id = id; predecessors = ids; assumed = paths })
+    (readMany predecessors readBlockId s idsAt) (readMany assumed (readPath spanBytes PA) s)))))
+
+pub record Header : Type 0 where
+  pub blocks : ℕ
+  pub candidates : ℕ
+  pub scope : BlockId
+
+-- "HD: blocks u16 (1 to 128), candidates u16 (0 to 64), scope block id u32."
+unfoldable pub readHeader : ℕ → Reader Header
+unfolding readMark readNumber readWithin
+readHeader mark s at =
+    andThen (readMark mark s at) (λ _ blocksAt.
+    andThen (readWithin 1 128 readU16 s blocksAt) (λ blocks candidatesAt.
+    andThen (readWithin 0 64 readU16 s candidatesAt) (λ candidates scopeAt.
+    andThen (readBlockId s scopeAt) (λ scope next.
+    got (record { blocks = blocks; candidates = candidates; scope = scope }) next))))
+
+pub record Job : Type 0 where
+  pub scope : BlockId
+  pub blocks : List Block
+  pub candidates : List ReactiveScopeDependency
+
+-- the records in their order, and 6: "A byte follows the last candidate."
+unfoldable pub readRecords : ℕ → ℕ → List ℕ → Read Job
+unfolding readHeader readBlock readPath
+readRecords head spanBytes s =
+    andThen (readHeader head s 0) (λ header blocksAt.
+    andThen (readMany (header .blocks) (readBlock spanBytes) s blocksAt) (λ blocks candidatesAt.
+    andThen (readMany (header .candidates) (readPath spanBytes CA) s candidatesAt) (λ candidates next.
+    cond (eqb next (length s)) (got (record { scope = header .scope; blocks = blocks; candidates = candidates }) next) (refused ExtraByte))))
+
+abbrev pub sameBlock : BlockId → BlockId → Bool
+sameBlock a b = eqb (a .0) (b .0)
+
+abbrev pub containsId : List BlockId → BlockId → Bool
+containsId ids i = anyOf (sameBlock i) ids
+
+-- an id stands twice
+abbrev pub repeats : List BlockId → Bool
+repeats [] = false
+repeats (i ∷ ids) = containsId ids i || repeats ids
+
+abbrev pub idsOf : List Block → List BlockId
+idsOf blocks = map (λ (b : Block). b .id) blocks
+
+-- 7: "A block id, or a predecessor within one block, stands twice."
+unfoldable pub hasRepeat : Job → Bool
+hasRepeat job = repeats (idsOf (job .blocks)) || anyOf (λ (b : Block). repeats (b .predecessors)) (job .blocks)
+
+-- 8: "A predecessor or the scope block is no block of the job."
+unfoldable pub hasUnknown : Job → Bool
+hasUnknown job =
+    let ids = idsOf (job .blocks) in
+    anyOf (λ (b : Block). anyOf (λ i. not (containsId ids i)) (b .predecessors)) (job .blocks) || not (containsId ids (job .scope))
+
+-- a job that has been read, and 7 before 8
+unfoldable pub acceptIds : Job → ℕ → Read Job
+unfolding hasRepeat hasUnknown
+acceptIds job next = cond (hasRepeat job) (refused RepeatedId) (cond (hasUnknown job) (refused UnknownBlock) (got job next))
+
+-- a job whose header has this mark and whose spans have so many bytes
+unfoldable pub readJob : ℕ → ℕ → List ℕ → Read Job
+unfolding readRecords acceptIds
+readJob head spanBytes s = andThen (readRecords head spanBytes s) acceptIds

@@ -1,0 +1,27 @@
+-- definitions
+pub mod Lists
+pub mod Reading
+pub mod Sets
+pub mod Registry
+pub mod Reduction
+pub mod Visit
+pub mod Rounds
+pub mod Propagation
+pub mod Access
+pub mod Forest
+pub mod Tree
+pub mod Read
+pub mod Job
+pub mod Stage
+pub mod Answer
+-- the examples of document 01
+pub mod Examples
+-- laws
+pub mod Tests
+pub mod ListLaws
+pub mod SetLaws
+pub mod RegistryLaws
+pub mod ReductionLaws
+pub mod VisitLaws
+pub mod RoundsLaws
+pub mod PropagationLaws

@@ -1,0 +1,78 @@
+-- Document 01, module 4 (Propagation): `propagate_non_null`, over the registry and the blocks' sets.
+use Prim.Native.Nat.{ℕ, zero}
+use mathlib.Core.Bool.{Bool, true, false, _||_, not}
+use mathlib.Core.List.{List, [], _∷_, map, foldl}
+use lib.ListN.{getD, set}
+use Rattle.model.specs.Lists.{select}
+use Rattle.model.specs.Sets.{NodeSet, union, intersection, sameSet}
+use Rattle.model.specs.Registry.{PropertyPathRegistry}
+use Rattle.model.specs.Reduction.{Reduced, reduceMaybeOptionalChains}
+use Rattle.model.specs.Visit.{TraversalState, Unmarked, isDone}
+use Rattle.model.specs.Rounds.{jobOrder, reverseJobOrder, walk, Rounds, roundsFrom}
+
+-- the registry, each block's set in job order, and whether a set has changed since the round's start
+pub record Work : Type 0 where
+  pub registry : PropertyPathRegistry
+  pub sets : List NodeSet
+  pub changed : Bool
+
+abbrev pub setOf : List NodeSet → ℕ → NodeSet
+setOf sets b = getD sets b []
+
+-- which neighbours of a block join, by the marks at that moment
+abbrev pub JoiningRule : Type 0
+JoiningRule = List TraversalState → List ℕ → List ℕ
+
+-- "Its Done neighbours .. Active neighbours are ignored."
+unfoldable pub doneNeighbours : JoiningRule
+doneNeighbours marks bs = select (λ b. isDone (getD marks b Unmarked)) bs
+
+-- "The intersection of its Done neighbours' sets (none Done: nothing joins)."
+unfoldable pub intersectionOf : List NodeSet → NodeSet
+intersectionOf [] = []
+intersectionOf (s ∷ ss) = foldl intersection s ss
+
+-- "Joins its set with the intersection .., reduces it": the neighbours to be joined are given.
+unfoldable pub joinWith : List ℕ → ℕ → Work → Work
+unfolding intersectionOf reduceMaybeOptionalChains
+joinWith neighbours b w =
+    let r = reduceMaybeOptionalChains (w .registry) (union (setOf (w .sets) b) (intersectionOf (map (setOf (w .sets)) neighbours))) in
+    record {
+      registry = r .registry;
+      sets = set (w .sets) b (r .set);
+      changed = w .changed || not (sameSet (setOf (w .sets) b) (r .set));
+    }
+
+unfoldable pub join : JoiningRule → (ℕ → List ℕ) → ℕ → List TraversalState → Work → Work
+unfolding joinWith
+join rule near b marks w = joinWith (rule marks (near b)) b w
+
+-- how many blocks there are, and the neighbours of each, by place
+pub record Graph : Type 0 where
+  pub size : ℕ
+  pub predecessors : ℕ → List ℕ
+  pub successors : ℕ → List ℕ
+
+unfoldable pub forward : JoiningRule → Graph → Work → Work
+unfolding walk jobOrder join
+forward rule g w = walk (g .size) (g .predecessors) (join rule (g .predecessors)) (jobOrder (g .size)) w
+
+unfoldable pub backward : JoiningRule → Graph → Work → Work
+unfolding walk reverseJobOrder join
+backward rule g w = walk (g .size) (g .successors) (join rule (g .successors)) (reverseJobOrder (g .size)) w
+
+-- "Rounds of a forward and a backward walk."
+abbrev pub unchanged : PropertyPathRegistry → List NodeSet → Work
+unchanged reg sets = record { registry = reg; sets = sets; changed = false }
+
+unfoldable pub round : JoiningRule → Graph → Work → Work
+unfolding forward backward
+round rule g w = backward rule g (forward rule g (unchanged (w .registry) (w .sets)))
+
+abbrev pub hasChanged : Work → Bool
+hasChanged w = w .changed
+
+-- "At most 100 rounds."
+unfoldable pub propagateNonNull : JoiningRule → Graph → PropertyPathRegistry → List NodeSet → Rounds Work
+unfolding roundsFrom round
+propagateNonNull rule g reg sets = roundsFrom hasChanged (round rule g) 100 zero (unchanged reg sets)

@@ -1,0 +1,220 @@
+-- Along a job's propagation the registry stays sound and each set is an ascending set of its nodes, so each reduction ends by a pass that changed
+-- nothing; and no step makes the registry shorter.
+use Prim.Native.Nat.{ℕ, zero, suc, _≤_, _<_}
+use native.Mathlib.Nat.{le-refl, le-trans, not-suc-le-zero}
+use native.Mathlib.Omega.{arith}
+use mathlib.Core.Path.{_≡_, refl, sym, ap, subst, _∙_}
+use mathlib.Core.Bool.{Bool, true, false, _||_, not}
+use mathlib.Core.List.{List, [], _∷_, map, foldl}
+use lib.ListN.{length, getD, set, length-set}
+use Rattle.entries.specs.declared.NodeId.{NodeId}
+use Rattle.entries.specs.Path.{ReactiveScopeDependency}
+use Rattle.model.specs.Sets.{NodeSet, contains, insert, union, intersection, sameSet}
+use Rattle.model.specs.Registry.{PropertyPathRegistry, ownMark, getOrCreateProperty}
+use Rattle.model.specs.Reduction.{Reduced, reduceMaybeOptionalChains}
+use Rattle.model.specs.Visit.{TraversalState}
+use Rattle.model.specs.Rounds.{Rounds, roundsFrom, walk, jobOrder, reverseJobOrder}
+use Rattle.model.specs.Propagation.{Work, setOf, JoiningRule, unchanged, doneNeighbours, intersectionOf, joinWith, join, Graph, forward, backward, round, hasChanged, propagateNonNull}
+use Rattle.model.specs.Job.{Block}
+use Rattle.model.specs.Stage.{Entered, enterPaths, enterBlock, Started, enterBlocks, graphOf, propagated}
+use Rattle.model.specs.ListLaws.{All, all-map, all-select, all-getD, all-set, all-mapped}
+use Rattle.model.specs.SetLaws.{insert-from, select-from, union-from, insert-all, union-all}
+use Rattle.model.specs.RegistryLaws.{Extends, extends-refl, extends-trans, extends-length, Sound, sound-empty, Proper, path-proper, path-extends}
+use Rattle.model.specs.ReductionLaws.{Members, members-extends, Shrunk, reduction-last, reduction-shrunk, reduction-extends, reduction-sound, Repeats, reduction-only}
+use Rattle.model.specs.VisitLaws.{Preorder}
+use Rattle.model.specs.RoundsLaws.{walk-does, rounds-do, walk-same, rounds-same}
+
+-- a sound registry, and sets of its nodes
+pub record ProperWork (w : Work) : Type 0 where
+  pub sound : Sound (w .registry)
+  pub members : All (Members (w .registry)) (w .sets)
+
+-- Joining.
+
+pub members-empty : (reg : PropertyPathRegistry) → Members reg []
+members-empty reg = record { ascending = tt; inside = tt }
+
+pub members-union : (reg : PropertyPathRegistry) (s t : NodeSet) → Members reg s → Members reg t → Members reg (union s t)
+members-union reg s t a b =
+    record { ascending = union-from s t (a .ascending); inside = union-all (λ k. k .0 < length reg) s t (a .inside) (b .inside) }
+
+members-intersections : (reg : PropertyPathRegistry) (s : NodeSet) (ss : List NodeSet) → Members reg s → Members reg (foldl intersection s ss)
+members-intersections reg s [] m = m
+members-intersections reg s (t ∷ ts) m =
+    members-intersections reg (intersection s t) ts
+    (record { ascending = select-from zero (contains t) s (m .ascending); inside = all-select (λ k. k .0 < length reg) (contains t) s (m .inside) })
+
+members-intersection : (reg : PropertyPathRegistry) (ss : List NodeSet) → All (Members reg) ss → Members reg (intersectionOf ss)
+unfolding intersectionOf
+members-intersection reg [] a = members-empty reg
+members-intersection reg (s ∷ ss) a = members-intersections reg s ss (a .0)
+
+members-setOf : (w : Work) → ProperWork w → (b : ℕ) → Members (w .registry) (setOf (w .sets) b)
+members-setOf w p b = all-getD (Members (w .registry)) (w .sets) b [] (p .members) (members-empty (w .registry))
+
+-- what a block reduces: its set, joined
+abbrev pub joinedSet : List ℕ → ℕ → Work → NodeSet
+joinedSet neighbours b w = union (setOf (w .sets) b) (intersectionOf (map (setOf (w .sets)) neighbours))
+
+pub members-joined : (neighbours : List ℕ) (b : ℕ) (w : Work) → ProperWork w → Members (w .registry) (joinedSet neighbours b w)
+members-joined neighbours b w p =
+    members-union (w .registry) (setOf (w .sets) b) _ (members-setOf w p b)
+    (members-intersection (w .registry) (map (setOf (w .sets)) neighbours) (all-mapped (Members (w .registry)) (setOf (w .sets)) neighbours (members-setOf w p)))
+
+-- Each reduction of a join ends: its last pass changed nothing.
+pub join-ends : (neighbours : List ℕ) (b : ℕ) (w : Work) → ProperWork w → reduceMaybeOptionalChains (w .registry) (joinedSet neighbours b w) .changed ≡ false
+join-ends neighbours b w p = reduction-last (w .registry) (joinedSet neighbours b w) (p .sound) (members-joined neighbours b w p)
+
+pub join-extends : (neighbours : List ℕ) (b : ℕ) (w : Work) → Extends (w .registry) (joinWith neighbours b w .registry)
+unfolding joinWith
+join-extends neighbours b w = reduction-extends (w .registry) (joinedSet neighbours b w)
+
+pub join-proper : (neighbours : List ℕ) (b : ℕ) (w : Work) → ProperWork w → ProperWork (joinWith neighbours b w)
+unfolding joinWith
+join-proper neighbours b w p =
+    let s = joinedSet neighbours b w in
+    let r = reduceMaybeOptionalChains (w .registry) s in
+    let out = reduction-shrunk (w .registry) s (p .sound) (members-joined neighbours b w p) in
+    let x = reduction-extends (w .registry) s in
+    record {
+      sound = reduction-sound (w .registry) s (p .sound);
+      members = all-set (Members (r .registry)) (w .sets) b (r .set) (all-map (Members (w .registry)) (Members (r .registry)) (λ t m. members-extends t x m) (w .sets) (p .members)) (out .members);
+    }
+
+-- Rounds.
+
+-- what holds between the work before and after each join, and does not look at `changed`, holds between that before and after all rounds
+module _ (R : Work → Work → Type 0) (order : Preorder R) (joins : (neighbours : List ℕ) (b : ℕ) (w : Work) → R w (joinWith neighbours b w))
+    (starts : (w : Work) → R w (unchanged (w .registry) (w .sets))) where
+  walk-joins : (rule : JoiningRule) (near : ℕ → List ℕ) (n : ℕ) (bs : List ℕ) (w : Work) → R w (walk n near (join rule near) bs w)
+  unfolding join
+  walk-joins rule near n bs w = walk-does R order near (join rule near) (λ b ms u. joins (rule ms (near b)) b u) n bs w
+
+  round-does : (rule : JoiningRule) (g : Graph) (w : Work) → R w (round rule g w)
+  unfolding round forward backward
+  round-does rule g w =
+      let start = unchanged (w .registry) (w .sets) in
+      let mid = forward rule g start in
+      order .after w start _ (starts w)
+      (order .after start mid _ (walk-joins rule (g .predecessors) (g .size) (jobOrder (g .size)) start) (walk-joins rule (g .successors) (g .size) (reverseJobOrder (g .size)) mid))
+
+  pub propagation-does : (rule : JoiningRule) (g : Graph) (reg : PropertyPathRegistry) (sets : List NodeSet) → R (unchanged reg sets) (propagateNonNull rule g reg sets .work)
+  unfolding propagateNonNull
+  propagation-does rule g reg sets = rounds-do hasChanged (round rule g) R order (round-does rule g) 100 zero (unchanged reg sets)
+
+-- Propagation only adds nodes, so a registry that has passed the limit of refusal 9 stays beyond it.
+pub propagation-extends : (rule : JoiningRule) (g : Graph) (reg : PropertyPathRegistry) (sets : List NodeSet) → Extends reg (propagateNonNull rule g reg sets .work .registry)
+propagation-extends =
+    propagation-does (λ u w. Extends (u .registry) (w .registry))
+    (record { none = λ w. extends-refl (w .registry); after = λ u v w a b. extends-trans a b })
+    join-extends (λ w. extends-refl (w .registry))
+
+abbrev KeepsProper : Work → Work → Type 0
+KeepsProper u w = ProperWork u → ProperWork w
+
+keeps-order : Preorder KeepsProper
+keeps-order = record { none = λ w p. p; after = λ u v w a b p. b (a p) }
+
+starts-proper : (w : Work) → KeepsProper w (unchanged (w .registry) (w .sets))
+starts-proper w p = record { sound = p .sound; members = p .members }
+
+pub propagation-proper : (rule : JoiningRule) (g : Graph) (reg : PropertyPathRegistry) (sets : List NodeSet) → ProperWork (unchanged reg sets) → ProperWork (propagateNonNull rule g reg sets .work)
+propagation-proper rule g reg sets p = propagation-does KeepsProper keeps-order join-proper starts-proper rule g reg sets p
+
+-- Propagation with another reduction.
+
+module _ (v : PropertyPathRegistry → NodeSet → Reduced) where
+  abbrev pub joinBy : JoiningRule → (ℕ → List ℕ) → ℕ → List TraversalState → Work → Work
+  joinBy rule near b marks w =
+      let r = v (w .registry) (joinedSet (rule marks (near b)) b w) in
+      record { registry = r .registry; sets = set (w .sets) b (r .set); changed = w .changed || not (sameSet (setOf (w .sets) b) (r .set)) }
+
+  abbrev pub forwardBy : JoiningRule → Graph → Work → Work
+  forwardBy rule g w = walk (g .size) (g .predecessors) (joinBy rule (g .predecessors)) (jobOrder (g .size)) w
+
+  abbrev pub backwardBy : JoiningRule → Graph → Work → Work
+  backwardBy rule g w = walk (g .size) (g .successors) (joinBy rule (g .successors)) (reverseJobOrder (g .size)) w
+
+  abbrev pub roundBy : JoiningRule → Graph → Work → Work
+  roundBy rule g w = backwardBy rule g (forwardBy rule g (unchanged (w .registry) (w .sets)))
+
+  abbrev pub propagateBy : JoiningRule → Graph → PropertyPathRegistry → List NodeSet → Rounds Work
+  propagateBy rule g reg sets = roundsFrom hasChanged (roundBy rule g) 100 zero (unchanged reg sets)
+
+  module _ (repeats : Repeats v) (rule : JoiningRule) where
+    join-same : (near : ℕ → List ℕ) (b : ℕ) (ms : List TraversalState) (w : Work) → ProperWork w → join rule near b ms w ≡ joinBy rule near b ms w
+    unfolding join joinWith
+    join-same near b ms w p =
+        let ns = rule ms (near b) in
+        ap (λ (r : Reduced). record { registry = r .registry; sets = set (w .sets) b (r .set); changed = w .changed || not (sameSet (setOf (w .sets) b) (r .set)) })
+        (reduction-only v repeats (w .registry) (joinedSet ns b w) (p .sound) (members-joined ns b w p))
+
+    walk-proper-same : (near : ℕ → List ℕ) (n : ℕ) (order : List ℕ) (w : Work) → ProperWork w → walk n near (join rule near) order w ≡ walk n near (joinBy rule near) order w
+    unfolding join
+    walk-proper-same near n order w p =
+        walk-same ProperWork near (join rule near) (joinBy rule near) (λ b ms u q. join-proper (rule ms (near b)) b u q) (join-same near) n order w p
+
+    round-same : (g : Graph) (w : Work) → ProperWork w → round rule g w ≡ roundBy rule g w
+    unfolding round forward backward
+    round-same g w p =
+        let start = unchanged (w .registry) (w .sets) in
+        let mid = forward rule g start in
+        walk-proper-same (g .successors) (g .size) (reverseJobOrder (g .size)) mid
+        (walk-joins KeepsProper keeps-order join-proper starts-proper rule (g .predecessors) (g .size) (jobOrder (g .size)) start (starts-proper w p))
+        ∙ ap (backwardBy rule g) (walk-proper-same (g .predecessors) (g .size) (jobOrder (g .size)) start (starts-proper w p))
+
+    -- Any reduction that repeats passes until one changes nothing gives the same propagation: how many passes are allowed is no part of it.
+    pub propagation-only : (g : Graph) (reg : PropertyPathRegistry) (sets : List NodeSet) → ProperWork (unchanged reg sets) → propagateNonNull rule g reg sets ≡ propagateBy rule g reg sets
+    unfolding propagateNonNull
+    propagation-only g reg sets p =
+        rounds-same ProperWork hasChanged (round rule g) (roundBy rule g) (λ w q. round-does KeepsProper keeps-order join-proper starts-proper rule g w q) (round-same g) 100 zero (unchanged reg sets) p
+
+-- The start.
+
+pub record Filled (reg : PropertyPathRegistry) (e : Entered) : Type 0 where
+  pub sound : Sound (e .registry)
+  pub extends : Extends reg (e .registry)
+  pub members : Members (e .registry) (e .set)
+
+pub paths-filled : (reg : PropertyPathRegistry) (s : NodeSet) (ds : List ReactiveScopeDependency) → Sound reg → Members reg s → Filled reg (enterPaths reg s ds)
+unfolding getOrCreateProperty
+paths-filled reg s [] h m = record { sound = h; extends = extends-refl reg; members = m }
+paths-filled reg s (d ∷ ds) h m =
+    let at = getOrCreateProperty reg d in
+    let p = path-proper ownMark reg d h in
+    let x = path-extends ownMark reg d in
+    let old = members-extends s x m in
+    let rest = paths-filled (at .registry) (insert (at .node) s) ds (p .sound) (record {
+      ascending = insert-from zero (at .node) s (omega arith) (old .ascending);
+      inside = insert-all (λ k. k .0 < length (at .registry)) (at .node) s (p .inside) (old .inside);
+    }) in
+    record { sound = rest .sound; extends = extends-trans x (rest .extends); members = rest .members }
+
+pub record Begun (reg : PropertyPathRegistry) (st : Started) : Type 0 where
+  pub sound : Sound (st .registry)
+  pub extends : Extends reg (st .registry)
+  pub members : All (Members (st .registry)) (st .sets)
+
+pub blocks-begun : (reg : PropertyPathRegistry) (bs : List Block) → Sound reg → Begun reg (enterBlocks reg bs)
+unfolding enterBlocks
+blocks-begun reg [] h = record { sound = h; extends = extends-refl reg; members = tt }
+blocks-begun reg (b ∷ bs) h =
+    let e = enterBlock reg b in
+    let first = paths-filled reg [] (b .assumed) h (members-empty reg) in
+    let rest = blocks-begun (e .registry) bs (first .sound) in
+    record { sound = rest .sound; extends = extends-trans (first .extends) (rest .extends); members = (members-extends (e .set) (rest .extends) (first .members), rest .members) }
+
+-- A job's propagation.
+
+pub start-proper : (bs : List Block) → ProperWork (unchanged (enterBlocks [] bs .registry) (enterBlocks [] bs .sets))
+start-proper bs = let begun = blocks-begun [] bs sound-empty in record { sound = begun .sound; members = begun .members }
+
+pub propagated-proper : (bs : List Block) → ProperWork (propagated bs .work)
+unfolding propagated
+propagated-proper bs = propagation-proper doneNeighbours (graphOf bs) (enterBlocks [] bs .registry) (enterBlocks [] bs .sets) (start-proper bs)
+
+-- the same with any reduction that repeats passes until one changes nothing
+pub propagated-only : (v : PropertyPathRegistry → NodeSet → Reduced) → Repeats v → (bs : List Block)
+    → propagated bs ≡ propagateBy v doneNeighbours (graphOf bs) (enterBlocks [] bs .registry) (enterBlocks [] bs .sets)
+unfolding propagated
+propagated-only v r bs = propagation-only v r doneNeighbours (graphOf bs) (enterBlocks [] bs .registry) (enterBlocks [] bs .sets) (start-proper bs)

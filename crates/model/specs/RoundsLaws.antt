@@ -1,0 +1,76 @@
+-- What each join does, a walk does; what each round does, all rounds do. The count of rounds and what `settled` says.
+use Prim.Native.Nat.{ℕ, zero, suc, _+_, _≤_}
+use native.Mathlib.Omega.{arith}
+use mathlib.Core.Path.{_≡_, refl, sym, ap, _∙_}
+use mathlib.Core.Bool.{Bool, true, false}
+use mathlib.Core.List.{List, [], _∷_}
+use lib.ListN.{replicate}
+use Rattle.model.specs.Tests.{decide, never}
+use Rattle.model.specs.Visit.{TraversalState, Unmarked, Visited, visit}
+use Rattle.model.specs.VisitLaws.{Preorder, each-does, visit-does, visits-same}
+use Rattle.model.specs.Rounds.{walk, Rounds, roundsFrom}
+
+pub walk-does : {W : Type 0} (R : W → W → Type 0) → Preorder R → (near : ℕ → List ℕ) (join : ℕ → List TraversalState → W → W) → ((b : ℕ) (ms : List TraversalState) (w : W) → R w (join b ms w))
+    → (n : ℕ) (order : List ℕ) (w : W) → R w (walk n near join order w)
+unfolding walk
+walk-does R pre near join does n order w =
+    each-does R pre (visit near join) (visit-does R pre near join does) order (record { marks = replicate n Unmarked; work = w })
+
+module _ {W : Type 0} (changed : W → Bool) (round : W → W) where
+  -- what a round's flag decides
+  abbrev onward : ℕ → ℕ → W → Bool → Rounds W
+  onward most ran w t = elim t [
+    | true ↦ roundsFrom changed round most (suc ran) (round w)
+    | false ↦ record { work = round w; rounds = suc ran; settled = true }
+  ]
+
+  pub rounds-on : (most ran : ℕ) (w : W) → changed (round w) ≡ true → roundsFrom changed round (suc most) ran w ≡ roundsFrom changed round most (suc ran) (round w)
+  unfolding roundsFrom
+  rounds-on most ran w e = ap (onward most ran w) e
+
+  pub rounds-stop : (most ran : ℕ) (w : W) → changed (round w) ≡ false → roundsFrom changed round (suc most) ran w ≡ record { work = round w; rounds = suc ran; settled = true }
+  unfolding roundsFrom
+  rounds-stop most ran w e = ap (onward most ran w) e
+
+  pub rounds-do : (R : W → W → Type 0) → Preorder R → ((w : W) → R w (round w)) → (most ran : ℕ) (w : W) → R w (roundsFrom changed round most ran w .work)
+  unfolding roundsFrom
+  rounds-do R pre does zero ran w = pre .none w
+  rounds-do R pre does (suc most) ran w =
+      decide (changed (round w)) (λ e. rw (rounds-on most ran w e) (pre .after w (round w) _ (does w) (rounds-do R pre does most (suc ran) (round w))))
+      (λ e. rw (rounds-stop most ran w e) (does w))
+
+  -- at most `most` rounds are counted
+  pub rounds-most : (most ran : ℕ) (w : W) → roundsFrom changed round most ran w .rounds ≤ ran + most
+  unfolding roundsFrom
+  rounds-most zero ran w = omega arith
+  rounds-most (suc most) ran w =
+      decide (changed (round w)) (λ e. rw (rounds-on most ran w e) (let h = rounds-most most (suc ran) (round w) in omega arith))
+      (λ e. rw (rounds-stop most ran w e) (omega arith))
+
+  -- where it says settled, the last round, from some work, changed nothing
+  pub rounds-settled : (most ran : ℕ) (w : W) → roundsFrom changed round most ran w .settled ≡ true → changed (roundsFrom changed round most ran w .work) ≡ false
+  unfolding roundsFrom
+  rounds-settled zero ran w h = never h refl
+  rounds-settled (suc most) ran w h =
+      decide (changed (round w)) (λ e. rw (rounds-on most ran w e) (rounds-settled most (suc ran) (round w) (rw (rounds-on most ran w e) at h)))
+      (λ e. rw (rounds-stop most ran w e) e)
+
+-- Two joins that agree on the work that the first keeps give the same walks, and two such rounds the same rounds.
+
+pub walk-same : {W : Type 0} (P : W → Type 0) (near : ℕ → List ℕ) (f g : ℕ → List TraversalState → W → W)
+    → ((b : ℕ) (ms : List TraversalState) (w : W) → P w → P (f b ms w)) → ((b : ℕ) (ms : List TraversalState) (w : W) → P w → f b ms w ≡ g b ms w)
+    → (n : ℕ) (order : List ℕ) (w : W) → P w → walk n near f order w ≡ walk n near g order w
+unfolding walk
+walk-same P near f g keeps same n order w p = ap (λ x. x .work) (visits-same P near f g keeps same order (record { marks = replicate n Unmarked; work = w }) p)
+
+pub rounds-same : {W : Type 0} (P : W → Type 0) (changed : W → Bool) (f g : W → W) → ((w : W) → P w → P (f w)) → ((w : W) → P w → f w ≡ g w)
+    → (most ran : ℕ) (w : W) → P w → roundsFrom changed f most ran w ≡ roundsFrom changed g most ran w
+unfolding roundsFrom
+rounds-same P changed f g keeps same zero ran w p = refl
+rounds-same P changed f g keeps same (suc most) ran w p =
+    let e = same w p in
+    decide (changed (f w))
+    (λ t.
+    rounds-on changed f most ran w t ∙ rounds-same P changed f g keeps same most (suc ran) (f w) (keeps w p)
+    ∙ ap (roundsFrom changed g most (suc ran)) e ∙ sym (rounds-on changed g most ran w (ap changed (sym e) ∙ t)))
+    (λ t. rounds-stop changed f most ran w t ∙ (λ i. record { work = e i; rounds = suc ran; settled = true }) ∙ sym (rounds-stop changed g most ran w (ap changed (sym e) ∙ t)))
