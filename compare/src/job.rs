@@ -1,0 +1,111 @@
+//! A job as a value, its limits, and its bytes.
+
+/// The limits of the specification.
+pub mod limits {
+    pub const OUT_BYTES: usize = 24_576;
+    pub const JOB_BYTES: usize = 32_768;
+    pub const BLOCKS: usize = 128;
+    pub const CANDIDATES: usize = 64;
+    pub const PREDECESSORS: usize = 64;
+    pub const ENTRIES: usize = 16;
+    pub const NODES: usize = 512;
+    pub const ROUNDS: usize = 100;
+}
+
+#[derive(Debug, Clone, Copy, PartialEq, Eq, Hash)]
+pub enum Property {
+    /// The host's number for the string.
+    Name(u64),
+    /// The stored bits of the float.
+    Number(u64),
+}
+
+#[derive(Debug, Clone, Copy, PartialEq, Eq, Hash)]
+pub struct Entry {
+    pub optional: bool,
+    pub property: Property,
+    pub span: u32,
+}
+
+#[derive(Debug, Clone, PartialEq, Eq, Hash)]
+pub struct Path {
+    pub identifier: u32,
+    pub reactive: bool,
+    pub span: u32,
+    pub entries: Vec<Entry>,
+}
+
+#[derive(Debug, Clone, PartialEq, Eq)]
+pub struct Block {
+    pub id: u32,
+    pub predecessors: Vec<u32>,
+    pub assumed: Vec<Path>,
+}
+
+#[derive(Debug, Clone, PartialEq, Eq)]
+pub struct Job {
+    pub scope: u32,
+    pub blocks: Vec<Block>,
+    pub candidates: Vec<Path>,
+}
+
+impl Property {
+    pub fn kind(self) -> u8 {
+        match self {
+            Property::Name(_) => 0,
+            Property::Number(_) => 1,
+        }
+    }
+
+    pub fn value(self) -> u64 {
+        match self {
+            Property::Name(value) | Property::Number(value) => value,
+        }
+    }
+}
+
+impl Job {
+    /// The bytes of the job. Counts are cut to their fields, and no limit is
+    /// looked at, so that jobs beyond the limits can be written too.
+    pub fn to_bytes(&self) -> Vec<u8> {
+        let mut out = b"HD".to_vec();
+        out.extend((self.blocks.len() as u16).to_le_bytes());
+        out.extend((self.candidates.len() as u16).to_le_bytes());
+        out.extend(self.scope.to_le_bytes());
+        for block in &self.blocks {
+            put_block(&mut out, block);
+        }
+        for candidate in &self.candidates {
+            put_path(&mut out, b"CA", candidate);
+        }
+        out
+    }
+}
+
+fn put_block(out: &mut Vec<u8>, block: &Block) {
+    out.extend(b"BL");
+    out.extend(block.id.to_le_bytes());
+    out.push(block.predecessors.len() as u8);
+    out.push(block.assumed.len() as u8);
+    for predecessor in &block.predecessors {
+        out.extend(predecessor.to_le_bytes());
+    }
+    for path in &block.assumed {
+        put_path(out, b"PA", path);
+    }
+}
+
+/// Writes a path under a mark; PA, CA and DE have the same fields.
+pub fn put_path(out: &mut Vec<u8>, mark: &[u8; 2], path: &Path) {
+    out.extend(mark);
+    out.extend(path.identifier.to_le_bytes());
+    out.push(path.reactive.into());
+    out.extend(path.span.to_le_bytes());
+    out.push(path.entries.len() as u8);
+    for entry in &path.entries {
+        out.push(entry.optional.into());
+        out.push(entry.property.kind());
+        out.extend(entry.property.value().to_le_bytes());
+        out.extend(entry.span.to_le_bytes());
+    }
+}

@@ -1,0 +1,137 @@
+//! What the Rust source says of a job.
+
+use crate::reader::Refusal;
+
+/// Why the Rust source cannot be run, if it cannot.
+pub fn absent() -> Option<&'static str> {
+    Some(env!("REFERENCE_ABSENT")).filter(|why| !why.is_empty())
+}
+
+/// Bytes written, or the number of a refusal.
+pub type Said = Result<Vec<u8>, Refusal>;
+
+/// Runs jobs. The arena is kept from one job to the next.
+pub struct Oracle {
+    #[cfg(reference)]
+    alloc: crate::arena::Allocator,
+}
+
+/// Both results of a job, and the counts that they do not show.
+#[derive(Debug, Clone)]
+pub struct Both {
+    pub answer: Said,
+    pub sheet: Said,
+    pub counts: Option<Counts>,
+}
+
+/// Counts of a job that was run.
+#[derive(Debug, Clone, Copy)]
+pub struct Counts {
+    pub rounds: u8,
+    pub settled: bool,
+    /// Nodes before the first round, and after the last.
+    pub entered: usize,
+    pub nodes: usize,
+}
+
+/// What the programs write: a refusal is RF and its number.
+pub fn program_bytes(said: &Said) -> Vec<u8> {
+    match said {
+        Ok(bytes) => bytes.clone(),
+        Err(number) => vec![b'R', b'F', *number],
+    }
+}
+
+#[cfg(not(reference))]
+impl Oracle {
+    /// Says why the Rust cannot be run.
+    pub fn open() -> Result<Self, &'static str> {
+        Err(absent().unwrap_or("the Rust source was not found"))
+    }
+
+    pub fn answer(&mut self, _: &[u8], _: usize) -> Said {
+        unreachable!("no oracle can be opened without the Rust source")
+    }
+
+    pub fn sheet(&mut self, _: &[u8], _: usize) -> Said {
+        unreachable!("no oracle can be opened without the Rust source")
+    }
+
+    pub fn both(&mut self, _: &[u8], _: usize) -> Both {
+        unreachable!("no oracle can be opened without the Rust source")
+    }
+}
+
+#[cfg(reference)]
+impl Oracle {
+    pub fn open() -> Result<Self, &'static str> {
+        Ok(Self { alloc: Default::default() })
+    }
+
+    pub fn answer(&mut self, bytes: &[u8], out_len: usize) -> Said {
+        let job = read_job(bytes, out_len)?;
+        self.alloc.reset();
+        let propagated = reference::propagate(&job, &self.alloc);
+        refuse_too_many_nodes(&propagated)?;
+        Ok(answer_bytes(&job, &propagated, &self.alloc))
+    }
+
+    pub fn sheet(&mut self, bytes: &[u8], out_len: usize) -> Said {
+        let job = read_job(bytes, out_len)?;
+        self.alloc.reset();
+        let propagated = reference::propagate(&job, &self.alloc);
+        refuse_too_many_nodes(&propagated)?;
+        Ok(sheet_bytes(&job, &propagated))
+    }
+
+    /// Answer and sheet from one reading and one propagation.
+    pub fn both(&mut self, bytes: &[u8], out_len: usize) -> Both {
+        let job = match read_job(bytes, out_len) {
+            Ok(job) => job,
+            Err(number) => return Both { answer: Err(number), sheet: Err(number), counts: None },
+        };
+        self.alloc.reset();
+        let propagated = reference::propagate(&job, &self.alloc);
+        let counts = Some(Counts {
+            rounds: propagated.rounds.run,
+            settled: propagated.rounds.settled,
+            entered: propagated.entered,
+            nodes: propagated.nodes(),
+        });
+        match refuse_too_many_nodes(&propagated) {
+            Ok(()) => Both {
+                answer: Ok(answer_bytes(&job, &propagated, &self.alloc)),
+                sheet: Ok(sheet_bytes(&job, &propagated)),
+                counts,
+            },
+            Err(number) => Both { answer: Err(number), sheet: Err(number), counts },
+        }
+    }
+}
+
+#[cfg(reference)]
+use crate::{
+    arena::Allocator,
+    job::{Job, limits},
+    reader::{TOO_MANY_NODES, read_job},
+    reference::{self, Propagated},
+};
+
+#[cfg(reference)]
+fn refuse_too_many_nodes(propagated: &Propagated) -> Result<(), Refusal> {
+    if propagated.nodes() > limits::NODES { Err(TOO_MANY_NODES) } else { Ok(()) }
+}
+
+#[cfg(reference)]
+fn answer_bytes<'a>(job: &Job, propagated: &Propagated<'a>, alloc: &'a Allocator) -> Vec<u8> {
+    let mut out = Vec::with_capacity(limits::OUT_BYTES);
+    reference::put_answer(&mut out, &reference::derive(job, propagated, alloc), propagated);
+    out
+}
+
+#[cfg(reference)]
+fn sheet_bytes(job: &Job, propagated: &Propagated) -> Vec<u8> {
+    let mut out = Vec::with_capacity(limits::OUT_BYTES);
+    reference::put_sheet(&mut out, job, propagated);
+    out
+}

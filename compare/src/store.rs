@@ -1,0 +1,184 @@
+//! Chooses the jobs of the stored list.
+
+use crate::cover::{Features, features, order_features};
+use crate::generate::{Generated, generate};
+use crate::list::Record;
+use crate::oracle::{Both, Oracle, program_bytes};
+use crate::progress::Progress;
+use std::collections::HashMap;
+
+/// The stored list was made with these.
+pub const SEED: u64 = 20_261_115;
+const TRIED: usize = 60_000;
+/// Pairs of features are looked for among small records only.
+const PAIR_BYTES: usize = 700;
+const MOST_PAIR_JOBS: usize = 100;
+
+/// How many jobs should have a feature.
+fn quota(feature: &str) -> usize {
+    let one = [" met at ", "; ", "job-size", "job of 3"];
+    let many = ["would differ", " position, first ", "a pass goes on", "equal keys"];
+    let two = [
+        "an unstable sort",
+        "rounds 9",
+        "rounds 10",
+        "class many-blocks",
+        "class nodes-",
+        "nodes-",
+        "rounds from ",
+        "nodes 5",
+        "candidates 6",
+        "blocks 6",
+        "blocks 12",
+        "predecessors 6",
+    ];
+    if one.iter().any(|part| feature.contains(part)) {
+        1
+    } else if two.iter().any(|part| feature.starts_with(part)) {
+        2
+    } else if many.iter().any(|part| feature.contains(part)) {
+        6
+    } else {
+        3
+    }
+}
+
+pub struct Chosen {
+    pub record: Record,
+    class: &'static str,
+    both: Both,
+    covers: Features,
+}
+
+/// The record of a generated job.
+pub fn record(generated: &Generated, both: &Both) -> Record {
+    Record {
+        out_len: generated.out_len,
+        job: generated.job.clone(),
+        answer: program_bytes(&both.answer),
+        sheet: program_bytes(&both.sheet),
+    }
+}
+
+/// Tries jobs in order of size and keeps one that has a feature, or a pair of
+/// features, of which too few are kept.
+pub fn choose(oracle: &mut Oracle) -> Vec<Chosen> {
+    let mut tried = try_jobs(oracle);
+    tried.sort_by_key(|chosen| chosen.record.size());
+    let mut chosen: Vec<Chosen> = Vec::new();
+    let mut singles = Wanted::default();
+    let mut rest = Vec::new();
+    for job in tried {
+        if singles.wants(&job.covers) {
+            singles.count(&job.covers);
+            chosen.push(job);
+        } else {
+            rest.push(job);
+        }
+    }
+    // Later jobs may make an earlier one needless.
+    chosen.retain(|job| !singles.give_back(&job.covers));
+    chosen.extend(choose_pairs(rest, &chosen));
+    chosen.sort_by_key(|job| job.class);
+    chosen
+}
+
+fn try_jobs(oracle: &mut Oracle) -> Vec<Chosen> {
+    let mut progress = Progress::new("jobs tried", TRIED);
+    let mut tried = Vec::new();
+    for number in 0..TRIED {
+        progress.show(number);
+        let generated = generate(SEED, number as u64, None);
+        let both = oracle.both(&generated.job, generated.out_len);
+        let mut covers = features(generated.class, &generated.job, generated.out_len, &both);
+        order_features(&generated.job, generated.out_len, &both.sheet, oracle, &mut covers);
+        tried.push(Chosen { record: record(&generated, &both), class: generated.class, both, covers });
+    }
+    tried
+}
+
+fn choose_pairs(rest: Vec<Chosen>, singles: &[Chosen]) -> Vec<Chosen> {
+    let mut wanted = Wanted::default();
+    singles.iter().for_each(|job| wanted.count(&pairs(&job.covers)));
+    let small = rest.into_iter().filter(|job| job.record.size() <= PAIR_BYTES);
+    let mut new: Vec<(usize, Chosen)> =
+        small.map(|job| (wanted.missing(&pairs(&job.covers)), job)).filter(|(gain, _)| *gain > 0).collect();
+    // The most new pairs first; what was gained meanwhile is looked at again.
+    new.sort_by_key(|(gain, _)| std::cmp::Reverse(*gain));
+    let mut kept = Vec::new();
+    for (_, job) in new {
+        let pairs = pairs(&job.covers);
+        if kept.len() < MOST_PAIR_JOBS && wanted.missing(&pairs) > 2 {
+            wanted.count(&pairs);
+            kept.push(job);
+        }
+    }
+    kept
+}
+
+fn pairs(covers: &Features) -> Features {
+    let mut pairs = Features::new();
+    for a in covers {
+        for b in covers.range::<String, _>((std::ops::Bound::Excluded(a), std::ops::Bound::Unbounded)) {
+            pairs.insert(format!("{a}; {b}"));
+        }
+    }
+    pairs
+}
+
+/// How many jobs have each feature so far.
+#[derive(Default)]
+struct Wanted {
+    have: HashMap<String, usize>,
+}
+
+impl Wanted {
+    fn missing(&self, features: &Features) -> usize {
+        features
+            .iter()
+            .filter(|feature| self.have.get(*feature).is_none_or(|&have| have < quota(feature)))
+            .count()
+    }
+
+    fn wants(&self, features: &Features) -> bool {
+        self.missing(features) > 0
+    }
+
+    /// Takes a job's features away again if enough other jobs have each of them.
+    fn give_back(&mut self, features: &Features) -> bool {
+        let needless = features.iter().all(|feature| self.have[feature] > quota(feature));
+        if needless {
+            features.iter().for_each(|feature| *self.have.get_mut(feature).expect("counted") -= 1);
+        }
+        needless
+    }
+
+    fn count(&mut self, features: &Features) {
+        for feature in features {
+            *self.have.entry(feature.clone()).or_default() += 1;
+        }
+    }
+}
+
+/// The index's line of a chosen job.
+pub fn index_line(number: usize, chosen: &Chosen) -> String {
+    let outcome = match (&chosen.both.answer, &chosen.both.counts) {
+        (Ok(answer), Some(counts)) => format!(
+            "rounds {} settled {} nodes {} returned {}",
+            counts.rounds,
+            u8::from(counts.settled),
+            counts.nodes,
+            u16::from_le_bytes([answer[2], answer[3]])
+        ),
+        (Err(number), _) => format!("refusal {number}"),
+        (Ok(_), None) => unreachable!("an answer comes from a run"),
+    };
+    let told = ["class ", "refusal ", "rounds ", "settled ", "returned ", "nodes ", "block id 0"];
+    let covers: Vec<&str> = chosen
+        .covers
+        .iter()
+        .map(String::as_str)
+        .filter(|feature| !told.iter().any(|word| feature.starts_with(word)))
+        .collect();
+    format!("{number}\t{}\t{outcome}\t{}\n", chosen.class, covers.join("; "))
+}

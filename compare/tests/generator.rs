@@ -1,0 +1,100 @@
+//! The generator: the same jobs again, and what each class promises.
+
+use compare::generate::{class_names, generate};
+use compare::job::limits;
+#[cfg(reference)]
+use compare::oracle::Oracle;
+use compare::reader::read_job;
+
+#[test]
+fn a_seed_and_a_number_give_the_same_job() {
+    for number in 0..200 {
+        let (a, b) = (generate(5, number, None), generate(5, number, None));
+        assert_eq!((a.class, a.out_len, &a.job), (b.class, b.out_len, &b.job));
+    }
+    assert!((0..20).any(|number| generate(5, number, None).job != generate(6, number, None).job));
+}
+
+#[test]
+fn jobs_without_faults_are_accepted_by_the_reader() {
+    let sound =
+        ["no-loops", "loops", "reduction", "tree", "numbers", "ladder", "nodes-entered", "nodes-reduced"];
+    for class in sound {
+        for number in 0..300 {
+            let generated = generate(1, number, Some(class));
+            let refused = read_job(&generated.job, generated.out_len).err();
+            assert!(refused.is_none() || refused == Some(2), "{class} {number}: {refused:?}");
+        }
+    }
+}
+
+#[test]
+fn every_refusal_of_the_reader_comes_up() {
+    let mut met = [0; 9];
+    for number in 0..3000 {
+        let generated = generate(2, number, None);
+        if let Err(refusal) = read_job(&generated.job, generated.out_len) {
+            met[usize::from(refusal)] += 1;
+        }
+    }
+    assert!(met[1..].iter().all(|&count| count > 2), "{met:?}");
+}
+
+#[test]
+fn jobs_of_the_largest_size_are_accepted_too() {
+    let jobs = || (0..40).map(|number| generate(3, number, Some("job-size")).job);
+    let full = jobs().filter(|job| job.len() == limits::JOB_BYTES);
+    assert!(full.clone().count() > 0);
+    assert!(full.clone().all(|job| read_job(&job, limits::OUT_BYTES).is_ok()));
+    assert!(jobs().any(|job| job.len() == limits::JOB_BYTES + 1));
+}
+
+#[test]
+fn all_classes_have_names_of_their_own() {
+    let mut names: Vec<&str> = class_names().collect();
+    names.sort();
+    names.dedup();
+    assert_eq!(names.len(), class_names().count());
+}
+
+#[cfg(reference)]
+#[test]
+fn node_counts_are_reached_as_promised() {
+    let mut oracle = Oracle::open().unwrap();
+    for class in ["nodes-entered", "nodes-reduced"] {
+        let mut met = std::collections::BTreeSet::new();
+        for number in 0..60 {
+            let generated = generate(4, number, Some(class));
+            let counts = oracle.both(&generated.job, generated.out_len).counts.unwrap();
+            assert_eq!(class == "nodes-reduced", counts.entered < counts.nodes);
+            met.insert(counts.nodes);
+        }
+        assert!(met.iter().copied().eq(511..=514), "{class}: {met:?}");
+    }
+}
+
+#[cfg(reference)]
+#[test]
+fn ladders_reach_many_rounds_and_go_beyond_the_last() {
+    let mut oracle = Oracle::open().unwrap();
+    let mut met = std::collections::BTreeSet::new();
+    for number in 0..300 {
+        let generated = generate(6, number, Some("ladder"));
+        let counts = oracle.both(&generated.job, generated.out_len).counts.unwrap();
+        met.insert((counts.rounds, counts.settled));
+    }
+    assert!(met.len() > 30, "{met:?}");
+    assert!(met.contains(&(100, false)), "{met:?}");
+}
+
+#[cfg(reference)]
+#[test]
+fn answer_and_sheet_agree_with_both() {
+    let mut oracle = Oracle::open().unwrap();
+    for number in 0..500 {
+        let generated = generate(7, number, None);
+        let both = oracle.both(&generated.job, generated.out_len);
+        assert_eq!(oracle.answer(&generated.job, generated.out_len), both.answer);
+        assert_eq!(oracle.sheet(&generated.job, generated.out_len), both.sheet);
+    }
+}
