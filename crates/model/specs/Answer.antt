@@ -19,7 +19,7 @@ use Rattle.model.specs.Lists.{concatMap}
 use Rattle.model.specs.Sets.{NodeSet, contains}
 use Rattle.model.specs.Registry.{nodeLimit, rootMark, Origin, root, childOf, PropertyPathNode}
 use Rattle.model.specs.Rounds.{Rounds}
-use Rattle.model.specs.Propagation.{Work}
+use Rattle.model.specs.Propagation.{Work, JoiningRule, doneNeighbours}
 use Rattle.model.specs.Read.{Read, got, refused, Reader, andThen, mapped, readMany, readU8, readU16, readNumber, readMark, readFlag}
 use Rattle.model.specs.Job.{Block, Job, markOf, HD, readPath, readJob}
 use Rattle.model.specs.Stage.{propagated, returnedPaths}
@@ -167,26 +167,32 @@ withinLengths leastOut mostJob job out rest =
 abbrev pub withinNodes : Rounds Work → List ℕ → Verdict
 withinNodes p bytes = cond (ltb nodeLimit (length (p .work .registry))) (turnsBack ManyNodes) (writes bytes)
 
-abbrev pub onJob : (Job → Rounds Work → List ℕ) → Read Job → Verdict
-onJob bytes (got job next) = let p = propagated (job .blocks) in withinNodes p (bytes job p)
-onJob bytes (refused r) = turnsBack r
+abbrev pub onJob : JoiningRule → (Job → Rounds Work → List ℕ) → Read Job → Verdict
+onJob rule bytes (got job next) = let p = propagated rule (job .blocks) in withinNodes p (bytes job p)
+onJob rule bytes (refused r) = turnsBack r
+
+abbrev pub leastBuffer : ℕ
+leastBuffer = 24576
+
+abbrev pub longestJob : ℕ
+longestJob = 32768
 
 -- "Span u32", in the job and in what is written.
 abbrev pub spanWidth : ℕ
 spanWidth = 4
 
 -- 1 and 2, then 3 to 8, and 9
-unfoldable pub verdict : (ℕ → Job → Rounds Work → List ℕ) → List ℕ → List ℕ → Verdict
+unfoldable pub verdict : JoiningRule → (ℕ → Job → Rounds Work → List ℕ) → List ℕ → List ℕ → Verdict
 unfolding readJob propagated
-verdict bytes job out = withinLengths 24576 32768 job out (onJob (bytes spanWidth) (readJob HD spanWidth job))
+verdict rule bytes job out = withinLengths leastBuffer longestJob job out (onJob rule (bytes spanWidth) (readJob HD spanWidth job))
 
 unfoldable pub answerOf : List ℕ → List ℕ → Verdict
-unfolding verdict answerBytes
-answerOf job out = verdict answerBytes job out
+unfolding verdict answerBytes doneNeighbours
+answerOf job out = verdict doneNeighbours answerBytes job out
 
 unfoldable pub sheetOf : List ℕ → List ℕ → Verdict
-unfolding verdict sheetBytes
-sheetOf job out = verdict sheetBytes job out
+unfolding verdict sheetBytes doneNeighbours
+sheetOf job out = verdict doneNeighbours sheetBytes job out
 
 -- "Both report the bytes written"; "the length or minus the refusal number".
 abbrev pub numberReturned : Verdict → ℤ
@@ -204,7 +210,7 @@ programOutput (writes bytes) = bytes
 programOutput (turnsBack r) = 0x52 ∷ 0x46 ∷ refusalNumber r ∷ []
 
 unfoldable pub answerProgram : List ℕ → List ℕ
-answerProgram input = programOutput (answerOf input (replicate 24576 0))
+answerProgram input = programOutput (answerOf input (replicate leastBuffer 0))
 
 unfoldable pub sheetProgram : List ℕ → List ℕ
-sheetProgram input = programOutput (sheetOf input (replicate 24576 0))
+sheetProgram input = programOutput (sheetOf input (replicate leastBuffer 0))

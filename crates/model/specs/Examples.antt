@@ -16,7 +16,8 @@ use Rattle.model.specs.Reduction.{Reduced, reduceMaybeOptionalChains}
 use Rattle.model.specs.Tree.{deriveMinimalDependencies}
 use Rattle.model.specs.Job.{Block}
 use Rattle.model.specs.Stage.{Entered, enterPaths, propagated}
-use Rattle.model.specs.Answer.{Verdict, writes, answerOf}
+use Rattle.model.specs.Propagation.{doneNeighbours}
+use Rattle.model.specs.Answer.{leastBuffer, Verdict, writes, answerOf}
 
 -- What an example says.
 
@@ -40,9 +41,9 @@ abbrev pub Holds : Example → Type 0
 Holds (tree hs cs ds) = deriveMinimalDependencies hs cs ≡ ds
 Holds (reduction before after) = reducedPaths (reduceEntered (enterPaths [] [] before)) ≡ after
 Holds (propagation blocks sets rounds) =
-    let p = propagated blocks in
+    let p = propagated doneNeighbours blocks in
     (map (map (fullPathOf (p .work .registry))) (p .work .sets) ≡ sets) × (p .rounds ≡ rounds) × (p .settled ≡ true)
-Holds (bytes job answer) = (out : List ℕ) → 24576 ≤ length out → answerOf job out ≡ writes answer
+Holds (bytes job answer) = (out : List ℕ) → leastBuffer ≤ length out → answerOf job out ≡ writes answer
 
 abbrev pub AllHold : List Example → Type 0
 AllHold [] = Unit {0}
@@ -164,7 +165,7 @@ bytes-hold out h = rw (buffer-fits out h)
 
 -- The joint theorem.
 pub examples-hold : AllHold examples
-unfolding answerOf reduceMaybeOptionalChains deriveMinimalDependencies propagated
+unfolding answerOf reduceMaybeOptionalChains deriveMinimalDependencies propagated doneNeighbours
 examples-hold =
     (refl, (refl, (refl, (refl, (refl, (refl, (refl, (refl, (refl, (refl, ((refl, refl, refl), ((refl, refl, refl), ((refl, refl, refl), (bytes-hold, tt))))))))))))))
 

@@ -209,12 +209,12 @@ blocks-begun reg (b ∷ bs) h =
 pub start-proper : (bs : List Block) → ProperWork (unchanged (enterBlocks [] bs .registry) (enterBlocks [] bs .sets))
 start-proper bs = let begun = blocks-begun [] bs sound-empty in record { sound = begun .sound; members = begun .members }
 
-pub propagated-proper : (bs : List Block) → ProperWork (propagated bs .work)
+pub propagated-proper : (rule : JoiningRule) (bs : List Block) → ProperWork (propagated rule bs .work)
 unfolding propagated
-propagated-proper bs = propagation-proper doneNeighbours (graphOf bs) (enterBlocks [] bs .registry) (enterBlocks [] bs .sets) (start-proper bs)
+propagated-proper rule bs = propagation-proper rule (graphOf bs) (enterBlocks [] bs .registry) (enterBlocks [] bs .sets) (start-proper bs)
 
 -- the same with any reduction that repeats passes until one changes nothing
-pub propagated-only : (v : PropertyPathRegistry → NodeSet → Reduced) → Repeats v → (bs : List Block)
-    → propagated bs ≡ propagateBy v doneNeighbours (graphOf bs) (enterBlocks [] bs .registry) (enterBlocks [] bs .sets)
+pub propagated-only : (v : PropertyPathRegistry → NodeSet → Reduced) → Repeats v → (rule : JoiningRule) (bs : List Block)
+    → propagated rule bs ≡ propagateBy v rule (graphOf bs) (enterBlocks [] bs .registry) (enterBlocks [] bs .sets)
 unfolding propagated
-propagated-only v r bs = propagation-only v r doneNeighbours (graphOf bs) (enterBlocks [] bs .registry) (enterBlocks [] bs .sets) (start-proper bs)
+propagated-only v r rule bs = propagation-only v r rule (graphOf bs) (enterBlocks [] bs .registry) (enterBlocks [] bs .sets) (start-proper bs)

@@ -47,7 +47,7 @@ abbrev pub Throws : {X : Type 0} → Outcome X → Type 0
 Throws throws = Unit {0}
 Throws (readsTo v) = ⊥
 
--- the path reads to a value neither null nor undefined
+-- the reading gives a value neither null nor undefined
 abbrev pub NonNullish : {X : Type 0} → Outcome X → Type 0
 NonNullish throws = ⊥
 NonNullish (readsTo null) = ⊥

@@ -10,7 +10,7 @@ use Rattle.model.specs.Lists.{select}
 use Rattle.model.specs.Sets.{NodeSet, insert}
 use Rattle.model.specs.Registry.{PropertyPathRegistry, getOrCreateProperty, fullPathOf}
 use Rattle.model.specs.Rounds.{Rounds, jobOrder}
-use Rattle.model.specs.Propagation.{Work, Graph, setOf, doneNeighbours, propagateNonNull}
+use Rattle.model.specs.Propagation.{Work, Graph, JoiningRule, setOf, propagateNonNull}
 use Rattle.model.specs.Tree.{deriveMinimalDependencies}
 use Rattle.model.specs.Job.{Block, Job, sameBlock, containsId}
 
@@ -81,9 +81,10 @@ enterBlocks reg (b ∷ bs) =
 
 -- The whole.
 
-unfoldable pub propagated : List Block → Rounds Work
-unfolding enterBlocks graphOf propagateNonNull doneNeighbours
-propagated bs = let start = enterBlocks [] bs in propagateNonNull doneNeighbours (graphOf bs) (start .registry) (start .sets)
+-- the blocks propagated, under a joining rule
+unfoldable pub propagated : JoiningRule → List Block → Rounds Work
+unfolding enterBlocks graphOf propagateNonNull
+propagated rule bs = let start = enterBlocks [] bs in propagateNonNull rule (graphOf bs) (start .registry) (start .sets)
 
 -- the paths of the scope block's set, ascending
 unfoldable pub hoistablePaths : Job → Work → List ReactiveScopeDependency

@@ -1,0 +1,58 @@
+-- Document 01, "Reading a path": control sequences, loops, and the runs of control that demand 3 speaks of. Blocks are the job's records.
+use mathlib.Core.Path.{_≡_}
+use mathlib.Core.List.{List, [], _∷_, _++_}
+use Rattle.model.specs.Job.{Block, Job}
+use Rattle.model.specs.Reading.{Store, read, NonNullish}
+use Rattle.model.specs.ListLaws.{All}
+use Rattle.safety.specs.Lists.{Some, Member}
+
+-- the first block is a predecessor of the second
+abbrev pub Precedes : Block → Block → Type 0
+Precedes a b = Member (a .id) (b .predecessors)
+
+-- each is a predecessor of the next
+abbrev pub Linked : List Block → Type 0
+Linked [] = Unit {0}
+Linked (a ∷ []) = Unit {0}
+Linked (a ∷ (b ∷ s)) = Precedes a b × Linked (b ∷ s)
+
+abbrev pub NonEmpty : List Block → Type 0
+NonEmpty [] = ⊥
+NonEmpty (a ∷ s) = Unit {0}
+
+-- "A control sequence is a finite list of blocks, at least one, each a predecessor of the next": of the blocks `bs`.
+pub record ControlSequence (bs s : List Block) : Type 0 where
+  pub blocks : All (λ b. Member b bs) s
+  pub some : NonEmpty s
+  pub linked : Linked s
+
+-- "A job is without loops when no control sequence comes back to a block it has left; a block that is its own predecessor is a loop."
+abbrev pub WithoutLoops : List Block → Type 0
+WithoutLoops bs = (b : Block) (before between after : List Block) → ControlSequence bs (before ++ (b ∷ (between ++ (b ∷ after)))) → ⊥
+
+abbrev pub NoPredecessor : Block → Type 0
+NoPredecessor b = b .predecessors ≡ []
+
+-- "A block's successors are the blocks that name it as a predecessor": there is none among `bs`.
+abbrev pub NoSuccessor : List Block → Block → Type 0
+NoSuccessor bs b = All (λ c. Precedes b c → ⊥) bs
+
+abbrev pub FirstHas : (Block → Type 0) → List Block → Type 0
+FirstHas P [] = ⊥
+FirstHas P (a ∷ s) = P a
+
+abbrev pub LastHas : (Block → Type 0) → List Block → Type 0
+LastHas P [] = ⊥
+LastHas P (a ∷ []) = P a
+LastHas P (a ∷ (b ∷ s)) = LastHas P (b ∷ s)
+
+-- Demand 3: a run of control from a block with no predecessor, by way of the scope block, to a block with no successor.
+pub record Run (j : Job) (s : List Block) : Type 0 where
+  pub sequence : ControlSequence (j .blocks) s
+  pub starts : FirstHas NoPredecessor s
+  pub ends : LastHas (NoSuccessor (j .blocks)) s
+  pub scope : Some (λ b. b .id ≡ j .scope) s
+
+-- Demand 3: each assumed path of each block on it reads to a value neither null nor undefined.
+abbrev pub AssumedHold : {X : Type 0} → Store X → List Block → Type 0
+AssumedHold S s = All (λ b. All (λ d. NonNullish (read S d)) (b .assumed)) s

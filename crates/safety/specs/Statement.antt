@@ -1,0 +1,44 @@
+-- Demand 3, as one claim about a whole job: its statement. The proof is `demand-3` in `Demand3`.
+use Prim.Native.Nat.{ℕ, _<_}
+use mathlib.Core.Path.{_≡_}
+use mathlib.Core.Bool.{true}
+use mathlib.Core.List.{List}
+use lib.ListN.{length}
+use Rattle.entries.specs.Path.{ReactiveScopeDependency, prefixOf}
+use Rattle.model.specs.Lists.{anyOf, countOf}
+use Rattle.model.specs.ListLaws.{All}
+use Rattle.model.specs.Reading.{Store, read, Throws}
+use Rattle.model.specs.Read.{got}
+use Rattle.model.specs.Job.{Block, Job, HD, readJob}
+use Rattle.model.specs.Answer.{writes, spanWidth, answerOf, Answered, readAnswer}
+use Rattle.safety.specs.Runs.{WithoutLoops, Run, AssumedHold}
+
+-- Exactness: for each candidate exactly one place in the list of returned paths holds a path with its identifier and a prefix of its property names; and
+-- each place of the list holds such a path for some candidate.
+pub record Exact (candidates returned : List ReactiveScopeDependency) : Type 0 where
+  pub one : All (λ c. countOf (λ d. prefixOf d c) returned ≡ 1) candidates
+  pub some : All (λ d. anyOf (prefixOf d) candidates ≡ true) returned
+
+-- Safety: along any run of the job, in any unchanging store, if each assumed path of each block on it reads to a value neither null nor undefined, no
+-- returned path throws.
+abbrev pub Safety : Job → List ReactiveScopeDependency → Type 1
+Safety j returned = (X : Type 0) (S : Store X) (s : List Block) → Run j s → AssumedHold S s → All (λ d. Throws (read S d) → ⊥) returned
+
+-- Safety for a job without loops, and exactness with or without loops.
+pub record Demand3 (j : Job) (returned : List ReactiveScopeDependency) : Type 1 where
+  pub safety : WithoutLoops (j .blocks) → Safety j returned
+  pub exactness : Exact (j .candidates) returned
+
+-- Of the bytes of a job and of its answer: the one is read as a job, the other, by the reader of a job's own paths, as what it returns, and demand 3 holds of
+-- the two.
+pub record AnswerMeetsDemand3 (job answer : List ℕ) : Type 1 where
+  pub j : Job
+  pub end : ℕ
+  pub readsJob : readJob HD spanWidth job ≡ got j end
+  pub answered : Answered
+  pub readsAnswer : readAnswer spanWidth answer 0 ≡ got answered (length answer)
+  pub holds : Demand3 j (answered .paths)
+
+-- The claim: of the bytes of any job that `answer` does not refuse, with any out buffer.
+abbrev pub EveryAnswerMeetsDemand3 : Type 1
+EveryAnswerMeetsDemand3 = (job out answer : List ℕ) → All (λ b. b < 256) job → answerOf job out ≡ writes answer → AnswerMeetsDemand3 job answer
