@@ -1,4 +1,6 @@
 // The types that all crates share. A number is kept in a struct of its own where the Rust keeps it apart from other numbers.
+ghost use mathlib.Core.Path.{_≡_};
+ghost use Rattle.entries.specs.Path.{sameProperty, sameEntry};
 
 // A variable of the compiled function (`IdentifierId` of the Rust).
 pub struct IdentifierId(pub u32);
@@ -15,12 +17,45 @@ pub enum PropertyLiteral {
     Number(u64),
 }
 
-// One step of a path: `.property`, or `?.property` where `optional`. The span is the host's number for a place in its source; 0 is none. A job's
-// spans have 32 bits; 64 leave room for wider ones.
+impl PropertyLiteral {
+    // The same kind and the same 64 bits.
+    pub fn same(self, other: PropertyLiteral) -> bool
+        ensures { λ r. ⌜ r ≡ sameProperty self other ⌝ }
+    {
+        match self {
+            PropertyLiteral::String(a) => match other {
+                PropertyLiteral::String(b) => a == b,
+                PropertyLiteral::Number(_) => false,
+            },
+            PropertyLiteral::Number(a) => match other {
+                PropertyLiteral::String(_) => false,
+                PropertyLiteral::Number(b) => a == b,
+            },
+        }
+    }
+}
+
+// One step of a path: `.property`, or `?.property` where `optional`. The span is the host's number for a place in its source; 0 is none.
+// A job's spans have 32 bits; 64 leave room for wider ones.
 pub struct DependencyPathEntry {
     pub property: PropertyLiteral,
     pub optional: bool,
     pub span: u64,
+}
+
+impl DependencyPathEntry {
+    // The same property and the same optional mark; the span does not count.
+    pub fn same(self, other: DependencyPathEntry) -> bool
+        ensures { λ r. ⌜ r ≡ sameEntry self other ⌝ }
+    {
+        let a = self.property;
+        let b = other.property;
+        if a.same(b) {
+            self.optional == other.optional
+        } else {
+            false
+        }
+    }
 }
 
 // How a position of the dependency tree is reached, and whether a dependency ends there.

@@ -31,6 +31,9 @@ never {b = false} t f = absurd (false≢true t)
 pub eqb-same : (n : ℕ) → eqb n n ≡ true
 eqb-same n = passes-test (eqb-refl n)
 
+pub eqb-equal : (a b : ℕ) → a ≡ b → eqb a b ≡ true
+eqb-equal a b e = rw e (eqb-same b)
+
 pub eqb-true : (a b : ℕ) → eqb a b ≡ true → a ≡ b
 eqb-true a b e = eqb→eq a b (test-passes e)
 

@@ -1,0 +1,3 @@
+pub mod Pack
+pub mod Stored
+pub mod View

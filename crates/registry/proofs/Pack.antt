@@ -1,0 +1,68 @@
+-- A node that is packed into three words and unpacked again is the node: each field stands in bits of its own.
+use Prim.Native.Nat.{ℕ, _+_, _*_, _/_, _%_, _<_}
+use native.Mathlib.Omega.{arith}
+use mathlib.Core.Bool.{Bool, true, false}
+use mathlib.Core.Path.{_≡_, refl, subst}
+use lib.Dec.{eqb}
+use Rattle.entries.specs.declared.IdentifierId.{IdentifierId}
+use Rattle.entries.specs.declared.NodeId.{NodeId}
+use Rattle.entries.specs.declared.PropertyLiteral.{PropertyLiteral}
+use Rattle.entries.specs.declared.PropertyLiteral.the-variants.{String, Number}
+use Rattle.entries.specs.declared.DependencyPathEntry.{DependencyPathEntry}
+use Rattle.model.specs.Tests.{eqb-apart}
+use Rattle.model.specs.Registry.{rootMark}
+use Rattle.model.specs.Job.{propertyOf}
+use Rattle.model.specs.Answer.{flag, valueOf}
+use Rattle.registry.specs.declared.Node.{Node}
+use Rattle.registry.specs.declared.Node.the-variants.{Root, Child}
+use Rattle.registry.specs.Nodes.{isNumber}
+use Rattle.registry.specs.Words.{Packs, unpack}
+
+flag-back : (b : Bool) → eqb (flag b) 1 ≡ b
+flag-back true = refl
+flag-back false = refl
+
+property-back : (p : PropertyLiteral) → propertyOf (isNumber p) (valueOf p) ≡ p
+property-back (String v) = refl
+property-back (Number v) = refl
+
+-- The fields of a word: 32 bits, 16 bits, and flags.
+module _ (i p o k r : ℕ) (i< : i < 4294967296) (p< : p < 65536) (o< : o < 2) (k< : k < 2) (r< : r < 2) where
+  at-identifier : (i + p * 4294967296 + (o + k * 2 + r * 4) * 281474976710656) % 4294967296 ≡ i
+  at-identifier = omega arith
+
+  at-parent : (i + p * 4294967296 + (o + k * 2 + r * 4) * 281474976710656) / 4294967296 % 65536 ≡ p
+  at-parent = omega arith
+
+  at-optional : (i + p * 4294967296 + (o + k * 2 + r * 4) * 281474976710656) / 281474976710656 % 2 ≡ o
+  at-optional = omega arith
+
+  at-number : (i + p * 4294967296 + (o + k * 2 + r * 4) * 281474976710656) / 562949953421312 % 2 ≡ k
+  at-number = omega arith
+
+  at-reactive : (i + p * 4294967296 + (o + k * 2 + r * 4) * 281474976710656) / 1125899906842624 % 2 ≡ r
+  at-reactive = omega arith
+
+-- `r`, `o` and `k` are the flags' numbers, as the code has them
+pub packed-root : (i : IdentifierId) (reactive : Bool) (span r : ℕ) → i .0 < 4294967296 → r ≡ flag reactive → r < 2
+    → unpack (i .0 + 65535 * 4294967296 + r * 4 * 281474976710656) 0 span ≡ Root i reactive span
+unfolding unpack
+packed-root i reactive span r i< e r< =
+    let p< : 65535 < 65536 = omega arith in
+    let z< : 0 < 2 = omega arith in
+    let same : i .0 + 65535 * 4294967296 + r * 4 * 281474976710656 ≡ i .0 + 65535 * 4294967296 + (0 + 0 * 2 + r * 4) * 281474976710656 = omega arith in
+    rw (same, at-parent (i .0) 65535 0 0 r i< p< z< z< r<, at-identifier (i .0) 65535 0 0 r i< p< z< z< r<, at-reactive (i .0) 65535 0 0 r i< p< z< z< r<, e, flag-back)
+
+pub packed-child : (p : NodeId) (e : DependencyPathEntry) (o k : ℕ) → p .0 < rootMark → o ≡ flag (e .optional) → o < 2 → k ≡ flag (isNumber (e .property)) → k < 2
+    → unpack (p .0 * 4294967296 + (o + k * 2) * 281474976710656) (valueOf (e .property)) (e .span) ≡ Child p e
+unfolding unpack
+packed-child p e o k p< eo o< ek k< =
+    let i< : 0 < 4294967296 = omega arith in
+    let q< : p .0 < 65536 = omega arith in
+    let z< : 0 < 2 = omega arith in
+    let same : p .0 * 4294967296 + (o + k * 2) * 281474976710656 ≡ 0 + p .0 * 4294967296 + (o + k * 2 + 0 * 4) * 281474976710656 = omega arith in
+    let no-root : eqb (p .0) rootMark ≡ false = eqb-apart (p .0) rootMark (λ same. omega arith) in
+    rw (same, at-parent 0 (p .0) o k 0 i< q< o< k< z<, no-root, at-parent 0 (p .0) o k 0 i< q< o< k< z<, at-optional 0 (p .0) o k 0 i< q< o< k< z<, at-number 0 (p .0) o k 0 i< q< o< k< z<, eo, ek, flag-back, flag-back, property-back)
+
+pub packs-child : {n : Node} {p : NodeId} {e : DependencyPathEntry} → Packs n → n ≡ Child p e → p .0 < rootMark
+packs-child h e = subst Packs e h

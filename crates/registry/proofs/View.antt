@@ -1,0 +1,90 @@
+-- The model's registry of a list of nodes: its length, what is found in it, and one node more.
+use Prim.Native.Nat.{ℕ, zero, suc, _+_, _≤_, _<_}
+use native.Mathlib.Omega.{arith}
+use mathlib.Core.Path.{_≡_, refl, sym, ap, _∙_, subst}
+use mathlib.Core.Logic.{_⊎_, inl, inr}
+use mathlib.Core.Bool.{Bool, true, false, cond}
+use mathlib.Core.List.{List, [], _∷_, _++_, append-assoc, append-nil}
+use lib.ListN.{length, length-append}
+use Rattle.entries.specs.declared.NodeId.{NodeId}
+use Rattle.model.specs.Tests.{decide}
+use Rattle.model.specs.Registry.{nodeLimit, PropertyPathNode, PropertyPathRegistry, find, ensure, Reached, findOrMake}
+use Rattle.model.specs.RegistryLaws.{found-or-made, WasFound, WasMade}
+use Rattle.registry.specs.declared.Node.{Node}
+use Rattle.registry.specs.declared.Node.the-variants.{Root, Child}
+use Rattle.registry.specs.Nodes.{sameKey, findNode, nodeOver, nodesOver, registryFrom, testFor, madeFor}
+use Rattle.registry.specs.Words.{countIn, nodesOf, registryOf}
+use Rattle.registry.proofs.Stored.{nodesOf-length}
+
+over-length : (before : PropertyPathRegistry) (ns : List Node) → length (nodesOver before ns) ≡ length ns
+over-length before [] = refl
+over-length before (n ∷ ns) = ap suc (over-length (before ++ (nodeOver before n ∷ [])) ns)
+
+pub registry-length : (ws : List ℕ) → length (registryOf ws) ≡ countIn ws
+unfolding registryOf registryFrom
+registry-length ws = over-length [] (nodesOf ws) ∙ nodesOf-length ws
+
+-- the model's test of a node asks for the same key
+test-key : (before : PropertyPathRegistry) (m n : Node) → testFor n (nodeOver before m) ≡ sameKey m n
+test-key before (Root i r s) (Root j q t) = refl
+test-key before (Root i r s) (Child q f) = refl
+test-key before (Child p e) (Root j q t) = refl
+test-key before (Child p e) (Child q f) = refl
+
+find-over : (before : PropertyPathRegistry) (ns : List Node) (n : Node) → find (testFor n) (nodesOver before ns) ≡ findNode ns n
+find-over before [] n = refl
+find-over before (m ∷ ms) n = rw (test-key before m n, find-over (before ++ (nodeOver before m ∷ [])) ms n)
+
+pub find-view : (ws : List ℕ) (n : Node) → find (testFor n) (registryOf ws) ≡ findNode (nodesOf ws) n
+unfolding registryOf registryFrom
+find-view ws n = find-over [] (nodesOf ws) n
+
+over-snoc : (before : PropertyPathRegistry) (ns : List Node) (n : Node) → nodesOver before (ns ++ (n ∷ [])) ≡ nodesOver before ns ++ (nodeOver (before ++ nodesOver before ns) n ∷ [])
+over-snoc before [] n = ap (λ (b : PropertyPathRegistry). nodeOver b n ∷ []) (sym (append-nil before))
+over-snoc before (m ∷ ms) n =
+    let here = nodeOver before m in
+    ap (λ (r : PropertyPathRegistry). here ∷ r)
+    (over-snoc (before ++ (here ∷ [])) ms n ∙ ap (λ (b : PropertyPathRegistry). nodesOver (before ++ (here ∷ [])) ms ++ (nodeOver b n ∷ [])) (append-assoc before (here ∷ []) (nodesOver (before ++ (here ∷ [])) ms)))
+
+-- one node more in the words is one more in the model's registry
+pub registry-snoc : (ws vs : List ℕ) (n : Node) → nodesOf vs ≡ nodesOf ws ++ (n ∷ []) → registryOf vs ≡ registryOf ws ++ (nodeOver (registryOf ws) n ∷ [])
+unfolding registryOf registryFrom
+registry-snoc ws vs n e = ap (nodesOver []) e ∙ over-snoc [] (nodesOf ws) n
+
+-- What the model finds or makes.
+
+module _ (ws : List ℕ) (n : Node) where
+  pub made-found : findNode (nodesOf ws) n < countIn ws → madeFor (registryOf ws) n ≡ record { registry = registryOf ws; node = record { 0 = findNode (nodesOf ws) n } }
+  made-found l = go (found-or-made (testFor n) (nodeOver (registryOf ws) n) (registryOf ws))
+    where
+      go : WasFound (testFor n) (nodeOver (registryOf ws) n) (registryOf ws) ⊎ WasMade (testFor n) (nodeOver (registryOf ws) n) (registryOf ws)
+          → madeFor (registryOf ws) n ≡ record { registry = registryOf ws; node = record { 0 = findNode (nodesOf ws) n } }
+      go (inl f) = λ i. record { registry = f .same i; node = record { 0 = find-view ws n i } }
+      go (inr m) = absurd (let a = m .last in let b = find-view ws n in let c = registry-length ws in omega arith)
+
+  pub made-new : countIn ws ≤ findNode (nodesOf ws) n → madeFor (registryOf ws) n ≡ record { registry = registryOf ws ++ (nodeOver (registryOf ws) n ∷ []); node = record { 0 = countIn ws } }
+  made-new l = go (found-or-made (testFor n) (nodeOver (registryOf ws) n) (registryOf ws))
+    where
+      go : WasFound (testFor n) (nodeOver (registryOf ws) n) (registryOf ws) ⊎ WasMade (testFor n) (nodeOver (registryOf ws) n) (registryOf ws)
+          → madeFor (registryOf ws) n ≡ record { registry = registryOf ws ++ (nodeOver (registryOf ws) n ∷ []); node = record { 0 = countIn ws } }
+      go (inl f) = absurd (let a = f .inside in let b = find-view ws n in let c = registry-length ws in omega arith)
+      go (inr m) = λ i. record { registry = m .appended i; node = record { 0 = (m .last ∙ registry-length ws) i } }
+
+  -- no room for it: the model's registry would pass the limit
+  pub made-full : countIn ws ≤ findNode (nodesOf ws) n → nodeLimit ≤ countIn ws → nodeLimit < length (madeFor (registryOf ws) n .registry)
+  made-full l f =
+      let a = ap (λ (r : Reached). length (r .registry)) (made-new l) in
+      let b = length-append (registryOf ws) (nodeOver (registryOf ws) n ∷ []) in
+      let c = registry-length ws in
+      omega arith
+
+-- The same, as the code knows it: by the number k that was found and the count e.
+module _ (ws : List ℕ) (n : Node) (k e : ℕ) (found : k ≡ findNode (nodesOf ws) n) (counted : e ≡ countIn ws) where
+  pub arrived-found : k < e → madeFor (registryOf ws) n ≡ record { registry = registryOf ws; node = record { 0 = k } }
+  arrived-found l = rw found (made-found ws n (omega arith))
+
+  pub arrived-new : (vs : List ℕ) → e ≤ k → nodesOf vs ≡ nodesOf ws ++ (n ∷ []) → madeFor (registryOf ws) n ≡ record { registry = registryOf vs; node = record { 0 = e } }
+  arrived-new vs l h = rw (counted, registry-snoc ws vs n h) (made-new ws n (omega arith))
+
+  pub arrived-full : e ≤ k → nodeLimit ≤ e → nodeLimit < length (madeFor (registryOf ws) n .registry)
+  arrived-full l f = made-full ws n (omega arith) (omega arith)

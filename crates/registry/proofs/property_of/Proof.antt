@@ -1,0 +1,12 @@
+-- The two branches are the two clauses of `propertyOf`.
+use Rattle.registry.proofs.property_of.Statement.{statement}
+use Rattle.registry.proofs.property_of.Tie as tie
+
+returns : tie.Need-returns
+returns c = simp (c .if1 .taken)
+
+returns-2 : tie.Need-returns-2
+returns-2 c = simp (c .if1 .left)
+
+pub property-of-spec : {M : Type 1} → statement M
+property-of-spec = tie.close (tie.spec returns returns-2)

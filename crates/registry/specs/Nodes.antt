@@ -1,0 +1,50 @@
+-- Nodes as the words keep them, and the model's registry that a list of them stands for.
+use Prim.Native.Nat.{ℕ, zero, suc, _<_}
+use mathlib.Core.Bool.{Bool, true, false, _&&_, cond}
+use mathlib.Core.List.{List, [], _∷_, _++_}
+use lib.ListN.{length}
+use lib.Dec.{eqb, ltb}
+use Rattle.entries.specs.declared.PropertyLiteral.{PropertyLiteral}
+use Rattle.entries.specs.declared.PropertyLiteral.the-variants.{String, Number}
+use Rattle.entries.specs.Path.{sameEntry}
+use Rattle.model.specs.Registry.{PropertyPathNode, PropertyPathRegistry, isRootFor, isChildBy, Reached, findOrMake, rootNode, childNode, fullPathOf}
+use Rattle.registry.specs.declared.Node.{Node}
+use Rattle.registry.specs.declared.Node.the-variants.{Root, Child}
+
+abbrev pub isNumber : PropertyLiteral → Bool
+isNumber (String v) = false
+isNumber (Number v) = true
+
+-- a root for the same identifier, or a child of the same parent by an equal entry
+abbrev pub sameKey : Node → Node → Bool
+sameKey (Root i r s) (Root j q t) = eqb (i .0) (j .0)
+sameKey (Root i r s) (Child q f) = false
+sameKey (Child p e) (Root j q t) = false
+sameKey (Child p e) (Child q f) = eqb (p .0) (q .0) && sameEntry e f
+
+-- the number of the first node with the key of n, or how many there are
+abbrev pub findNode : List Node → Node → ℕ
+findNode [] n = zero
+findNode (m ∷ ms) n = cond (sameKey m n) zero (suc (findNode ms n))
+
+-- a node of the model, over the nodes before it: a child's path is its parent's and its entry
+abbrev pub nodeOver : PropertyPathRegistry → Node → PropertyPathNode
+nodeOver before (Root i r s) = rootNode i r s
+nodeOver before (Child p e) = childNode p (fullPathOf before p) e
+
+abbrev pub nodesOver : PropertyPathRegistry → List Node → PropertyPathRegistry
+nodesOver before [] = []
+nodesOver before (n ∷ ns) = let m = nodeOver before n in m ∷ nodesOver (before ++ (m ∷ [])) ns
+
+-- the model's registry of a list of nodes
+unfoldable pub registryFrom : List Node → PropertyPathRegistry
+registryFrom ns = nodesOver [] ns
+
+-- the test by which the model looks for a node
+abbrev pub testFor : Node → PropertyPathNode → Bool
+testFor (Root i r s) = isRootFor i
+testFor (Child p e) = isChildBy p e
+
+-- the model's finding or making of a node
+abbrev pub madeFor : PropertyPathRegistry → Node → Reached
+madeFor reg n = findOrMake (testFor n) (nodeOver reg n) reg

@@ -1,0 +1,67 @@
+-- The nodes that a list of words holds: three words a node, and how many there are in word 1536.
+use Prim.Native.Nat.{ℕ, zero, suc, _+_, _*_, _/_, _%_, _≤_, _<_}
+use mathlib.Core.Path.{_≡_}
+use mathlib.Core.Bool.{Bool, true, false, cond}
+use mathlib.Core.List.{List, [], _∷_, _++_}
+use lib.ListN.{length, getD}
+use lib.Dec.{eqb}
+use Rattle.entries.specs.declared.NodeId.{NodeId}
+use Rattle.model.specs.Registry.{nodeLimit, rootMark, PropertyPathRegistry, Reached}
+use Rattle.model.specs.Job.{propertyOf}
+use Rattle.model.specs.Answer.{valueOf}
+use Rattle.registry.specs.declared.Node.{Node}
+use Rattle.registry.specs.declared.Entered.{Entered}
+use Rattle.registry.specs.declared.Entered.the-variants.{At, Full}
+use Rattle.registry.specs.declared.Node.the-variants.{Root, Child}
+use Rattle.registry.specs.Nodes.{registryFrom}
+
+-- a parent's number fits its bits, and is no root's mark
+abbrev pub Packs : Node → Type 0
+Packs (Root i r s) = Unit {0}
+Packs (Child p e) = p .0 < rootMark
+
+abbrev pub valueIn : Node → ℕ
+valueIn (Root i r s) = 0
+valueIn (Child p e) = valueOf (e .property)
+
+abbrev pub spanIn : Node → ℕ
+spanIn (Root i r s) = s
+spanIn (Child p e) = e .span
+
+-- the first word has identifier (32 bits, of a root), parent (16 bits), optional and number (of a child), reactive (of a root)
+abbrev pub unpackBy : Bool → ℕ → ℕ → ℕ → Node
+unpackBy true head value span = Root (record { 0 = head % 4294967296 }) (eqb (head / 1125899906842624 % 2) 1) span
+unpackBy false head value span =
+    Child (record { 0 = head / 4294967296 % 65536 })
+    (record { property = propertyOf (eqb (head / 562949953421312 % 2) 1) value; optional = eqb (head / 281474976710656 % 2) 1; span = span })
+
+unfoldable pub unpack : ℕ → ℕ → ℕ → Node
+unpack head value span = unpackBy (eqb (head / 4294967296 % 65536) rootMark) head value span
+
+abbrev pub nodeAt : List ℕ → ℕ → Node
+nodeAt ws k = unpack (getD ws (k * 3) 0) (getD ws (k * 3 + 1) 0) (getD ws (k * 3 + 2) 0)
+
+abbrev pub countIn : List ℕ → ℕ
+countIn ws = getD ws 1536 0
+
+-- n nodes from number k on
+abbrev pub nodesFrom : List ℕ → ℕ → ℕ → List Node
+nodesFrom ws k zero = []
+nodesFrom ws k (suc n) = nodeAt ws k ∷ nodesFrom ws (suc k) n
+
+unfoldable pub nodesOf : List ℕ → List Node
+nodesOf ws = nodesFrom ws 0 (countIn ws)
+
+-- the model's registry that the words hold
+unfoldable pub registryOf : List ℕ → PropertyPathRegistry
+registryOf ws = registryFrom (nodesOf ws)
+
+-- room for the most nodes, and no more than these
+pub record Held (ws : List ℕ) : Type 0 where
+  pub long : length ws ≡ 1537
+  pub room : countIn ws ≤ nodeLimit
+
+-- What is reached: the words hold the registry that was to be reached, and the node is its number; or that registry has no room.
+abbrev pub Arrives : Reached → Entered → List ℕ → Type 0
+Arrives want (At k) ws = Held ws × (want ≡ record { registry = registryOf ws; node = k })
+Arrives want Full ws = nodeLimit < length (want .registry)

@@ -1,0 +1,250 @@
+// The registry of property paths: nodes numbered from 0 as made, in words that the caller lends. Three words a node, and the number of nodes behind them.
+ghost use mathlib.Core.Path.{_≡_};
+ghost use Prim.Native.Nat.{_<_, _≤_};
+ghost use Rattle.model.specs.Registry.{getOrCreateIdentifier, getOrCreatePropertyEntry};
+ghost use Rattle.model.specs.Job.{propertyOf};
+ghost use Rattle.model.specs.Answer.{flag, valueOf};
+ghost use mathlib.Core.List.{_++_, _∷_, []};
+ghost use Rattle.registry.specs.declared.Node.the-variants.{Root, Child};
+ghost use Rattle.registry.specs.Nodes.{isNumber, sameKey, findNode, madeFor};
+ghost use Rattle.registry.specs.Words.{valueIn, spanIn, Packs, unpack, nodeAt, countIn, nodesOf, registryOf, Held, Arrives};
+use entries::DependencyPathEntry;
+use entries::IdentifierId;
+use entries::NodeId;
+use entries::PropertyLiteral;
+
+// A node as it hangs: a root with its identifier, reactive mark and span, or the child of a node by an entry.
+pub enum Node {
+    Root(IdentifierId, bool, u64),
+    Child(NodeId, DependencyPathEntry),
+}
+
+impl Node {
+    // The most nodes that the words hold.
+    pub const LIMIT: usize = 512;
+
+    // What stands for the parent of a root.
+    pub const ROOT: u64 = 65535;
+
+    pub fn root(identifier: IdentifierId, reactive: bool, span: u64) -> Node
+        ensures { λ r. ⌜ r ≡ Root identifier reactive span ⌝ }
+    {
+        Node::Root(identifier, reactive, span)
+    }
+
+    pub fn child(parent: NodeId, entry: DependencyPathEntry) -> Node
+        ensures { λ r. ⌜ r ≡ Child parent entry ⌝ }
+    {
+        Node::Child(parent, entry)
+    }
+
+    // A root for the same identifier, or a child of the same parent by an equal entry.
+    pub fn same(self, other: Node) -> bool
+        ensures { λ r. ⌜ r ≡ sameKey self other ⌝ }
+    {
+        match self {
+            Node::Root(a, _, _) => match other {
+                Node::Root(b, _, _) => a.0 == b.0,
+                Node::Child(_, _) => false,
+            },
+            Node::Child(p, e) => match other {
+                Node::Root(_, _, _) => false,
+                Node::Child(q, f) => { if p.0 == q.0 { e.same(f) } else { false } }
+            },
+        }
+    }
+}
+
+// A property's kind and value, and back.
+
+fn property_of(number: bool, value: u64) -> PropertyLiteral
+    ensures { λ r. ⌜ r ≡ propertyOf number value ⌝ }
+{
+    if number {
+        PropertyLiteral::Number(value)
+    } else {
+        PropertyLiteral::String(value)
+    }
+}
+
+fn is_number(property: PropertyLiteral) -> bool
+    ensures { λ r. ⌜ r ≡ isNumber property ⌝ }
+{
+    match property {
+        PropertyLiteral::String(_) => false,
+        PropertyLiteral::Number(_) => true,
+    }
+}
+
+fn value_of(property: PropertyLiteral) -> u64
+    ensures { λ r. ⌜ r ≡ valueOf property ⌝ }
+{
+    match property {
+        PropertyLiteral::String(v) => v,
+        PropertyLiteral::Number(v) => v,
+    }
+}
+
+fn bit(b: bool) -> u64
+    ensures { λ r. ⌜ (r ≡ flag b) × (r < 2) ⌝ }
+{
+    if b { 1 } else { 0 }
+}
+
+// A node as three words, and back.
+
+impl Node {
+    pub fn head(self) -> u64
+        requires { ⌜ Packs self ⌝ }
+        ensures { λ r. ⌜ unpack r (valueIn self) (spanIn self) ≡ self ⌝ }
+    {
+        match self {
+            Node::Root(identifier, reactive, _) => {
+                let mark = bit(reactive);
+                identifier.0 as u64 + Node::ROOT * 4294967296 + mark * 4 * 281474976710656
+            }
+            Node::Child(parent, entry) => {
+                let property = entry.property;
+                let number = bit(is_number(property));
+                let optional = bit(entry.optional);
+                parent.0 as u64 * 4294967296 + (optional + number * 2) * 281474976710656
+            }
+        }
+    }
+
+    pub fn value(self) -> u64
+        ensures { λ r. ⌜ r ≡ valueIn self ⌝ }
+    {
+        match self {
+            Node::Root(_, _, _) => 0,
+            Node::Child(_, entry) => {
+                let property = entry.property;
+                value_of(property)
+            }
+        }
+    }
+
+    pub fn span(self) -> u64
+        ensures { λ r. ⌜ r ≡ spanIn self ⌝ }
+    {
+        match self {
+            Node::Root(_, _, span) => span,
+            Node::Child(_, entry) => entry.span,
+        }
+    }
+
+    pub fn unpack(head: u64, value: u64, span: u64) -> Node
+        ensures { λ r. ⌜ r ≡ unpack head value span ⌝ }
+    {
+        let parent = head / 4294967296 % 65536;
+        if parent == Node::ROOT {
+            let identifier = IdentifierId((head % 4294967296) as u32);
+            let reactive = head / 1125899906842624 % 2 == 1;
+            Node::Root(identifier, reactive, span)
+        } else {
+            let property = property_of(head / 562949953421312 % 2 == 1, value);
+            let optional = head / 281474976710656 % 2 == 1;
+            Node::Child(
+                NodeId(parent as usize),
+                DependencyPathEntry {
+                    property,
+                    optional,
+                    span,
+                },
+            )
+        }
+    }
+}
+
+// The words.
+
+pub fn count(ws: &[u64; 1537]) -> usize
+    ensures { λ r. ⌜ r ≡ countIn (now (ws .entry)) ⌝ }
+{
+    ws[1536] as usize
+}
+
+pub fn load(ws: &[u64; 1537], k: usize) -> Node
+    requires { ⌜ k < 512 ⌝ }
+    ensures { λ r. ⌜ r ≡ nodeAt (now (ws .entry)) k ⌝ }
+{
+    let at = k * 3;
+    Node::unpack(ws[at], ws[at + 1], ws[at + 2])
+}
+
+// One node more.
+fn push(ws: &mut [u64; 1537], n: Node)
+    requires { ⌜ Held (now ws) × (countIn (now ws) < 512) × Packs n ⌝ }
+    ensures { λ _. ⌜ Held (now (ws .exit)) × (nodesOf (now (ws .exit)) ≡ nodesOf (now (ws .entry)) ++ (n ∷ [])) ⌝ }
+{
+    let k = ws[1536] as usize;
+    let at = k * 3;
+    ws[at] = n.head();
+    ws[at + 1] = n.value();
+    ws[at + 2] = n.span();
+    ws[1536] = (k + 1) as u64;
+}
+
+// The number of the first node with the key of n, or how many there are.
+pub fn find(ws: &[u64; 1537], n: Node) -> usize
+    requires { ⌜ Held (now ws) ⌝ }
+    ensures { λ r. ⌜ r ≡ findNode (nodesOf (now (ws .entry))) n ⌝ }
+{
+    let end = count(ws);
+    let mut i: usize = 0;
+    while i < end {
+        let m = load(ws, i);
+        if m.same(n) {
+            return i;
+        }
+        i += 1;
+    }
+    end
+}
+
+// The node reached, or that the words have no room for it.
+pub enum Entered {
+    At(NodeId),
+    Full,
+}
+
+// The node with the key of n, made where there is none.
+fn find_or_make(ws: &mut [u64; 1537], n: Node) -> Entered
+    requires { ⌜ Held (now ws) × Packs n ⌝ }
+    ensures { λ r. ⌜ Arrives (madeFor (registryOf (now (ws .entry))) n) r (now (ws .exit)) ⌝ }
+{
+    let k = find(ws, n);
+    let end = count(ws);
+    if k < end {
+        return Entered::At(NodeId(k));
+    }
+    if end < Node::LIMIT {
+        push(ws, n);
+        Entered::At(NodeId(end))
+    } else {
+        Entered::Full
+    }
+}
+
+pub fn get_or_create_identifier(
+    ws: &mut [u64; 1537],
+    identifier: IdentifierId,
+    reactive: bool,
+    span: u64,
+) -> Entered
+    requires { ⌜ Held (now ws) ⌝ }
+    ensures { λ r. ⌜ Arrives (getOrCreateIdentifier (registryOf (now (ws .entry))) identifier reactive span) r (now (ws .exit)) ⌝ }
+{
+    find_or_make(ws, Node::root(identifier, reactive, span))
+}
+
+pub fn get_or_create_property_entry(
+    ws: &mut [u64; 1537],
+    parent: NodeId,
+    entry: DependencyPathEntry,
+) -> Entered
+    requires { ⌜ Held (now ws) × (parent .0 < countIn (now ws)) ⌝ }
+    ensures { λ r. ⌜ Arrives (getOrCreatePropertyEntry (registryOf (now (ws .entry))) parent entry) r (now (ws .exit)) ⌝ }
+{
+    find_or_make(ws, Node::child(parent, entry))
+}

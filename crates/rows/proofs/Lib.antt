@@ -1,0 +1,5 @@
+pub mod Selections
+pub mod Words
+pub mod Members
+pub mod Ahead
+pub mod Rows

@@ -1,0 +1,165 @@
+// Sets of registry nodes as 512 bits, by value, and 128 rows of them in words that the caller lends. The contracts speak of the ascending
+// lists of the definitions, and of no word.
+use entries::NodeId;
+ghost use mathlib.Core.Path.{_≡_};
+ghost use mathlib.Core.List.{[]};
+ghost use Prim.Native.Nat.{_<_};
+ghost use Rattle.model.specs.Sets.{contains, insert, remove, union, intersection, sameSet};
+ghost use Rattle.rows.specs.Members.{membersOf, membersFrom, firstOf};
+ghost use Rattle.rows.specs.Rows.{Lent, RowSet, rowOf};
+
+// Node k is bit k % 64 of word k / 64.
+pub struct NodeBits {
+    pub words: [u64; 8],
+}
+
+// The next member of a set, where there is one.
+pub enum Next {
+    At(NodeId),
+    Nothing,
+}
+
+impl NodeBits {
+    pub fn empty() -> NodeBits
+        ensures { λ r. ⌜ membersOf (r .words) ≡ [] ⌝ }
+    {
+        NodeBits { words: [0; 8] }
+    }
+
+    pub fn contains(self, k: NodeId) -> bool
+        requires { ⌜ k .0 < 512 ⌝ }
+        ensures { λ r. ⌜ r ≡ contains (membersOf (self .words)) k ⌝ }
+    {
+        let at = k.0 / 64;
+        let w = self.words[at];
+        (w >> (k.0 % 64)) % 2 == 1
+    }
+
+    pub fn insert(self, k: NodeId) -> NodeBits
+        requires { ⌜ k .0 < 512 ⌝ }
+        ensures { λ r. ⌜ membersOf (r .words) ≡ insert k (membersOf (self .words)) ⌝ }
+    {
+        let at = k.0 / 64;
+        let w = self.words[at];
+        let mut s = self;
+        s.words[at] = w | (1 << (k.0 % 64));
+        s
+    }
+
+    pub fn remove(self, k: NodeId) -> NodeBits
+        requires { ⌜ k .0 < 512 ⌝ }
+        ensures { λ r. ⌜ membersOf (r .words) ≡ remove k (membersOf (self .words)) ⌝ }
+    {
+        let at = k.0 / 64;
+        let w = self.words[at];
+        let bit = 1 << (k.0 % 64);
+        let mut s = self;
+        s.words[at] = (w | bit) ^ bit;
+        s
+    }
+
+    pub fn union(self, other: NodeBits) -> NodeBits
+        ensures { λ r. ⌜ membersOf (r .words) ≡ union (membersOf (self .words)) (membersOf (other .words)) ⌝ }
+    {
+        let a = self.words;
+        let b = other.words;
+        NodeBits {
+            words: [
+                a[0] | b[0],
+                a[1] | b[1],
+                a[2] | b[2],
+                a[3] | b[3],
+                a[4] | b[4],
+                a[5] | b[5],
+                a[6] | b[6],
+                a[7] | b[7],
+            ],
+        }
+    }
+
+    pub fn intersection(self, other: NodeBits) -> NodeBits
+        ensures { λ r. ⌜ membersOf (r .words) ≡ intersection (membersOf (self .words)) (membersOf (other .words)) ⌝ }
+    {
+        let a = self.words;
+        let b = other.words;
+        NodeBits {
+            words: [
+                a[0] & b[0],
+                a[1] & b[1],
+                a[2] & b[2],
+                a[3] & b[3],
+                a[4] & b[4],
+                a[5] & b[5],
+                a[6] & b[6],
+                a[7] & b[7],
+            ],
+        }
+    }
+
+    pub fn same_set(self, other: NodeBits) -> bool
+        ensures { λ r. ⌜ r ≡ sameSet (membersOf (self .words)) (membersOf (other .words)) ⌝ }
+    {
+        let a = self.words;
+        let b = other.words;
+        let mut i: usize = 0;
+        while i < 8 {
+            if a[i] != b[i] {
+                return false;
+            }
+            i += 1;
+        }
+        true
+    }
+
+    pub fn is_empty(self) -> bool
+        ensures { λ r. ⌜ r ≡ sameSet (membersOf (self .words)) [] ⌝ }
+    {
+        self.same_set(NodeBits::empty())
+    }
+
+    // The first member from a place on, which may be 512 or more. A word with no bit left is passed in one test.
+    pub fn next(self, from: usize) -> Next
+        ensures { λ r. ⌜ r ≡ firstOf (membersFrom (self .words) from) ⌝ }
+    {
+        let mut k = from;
+        while k < 512 {
+            let at = k / 64;
+            let w = self.words[at];
+            let left = w >> (k % 64);
+            if left != 0 {
+                let passed = u64::trailing_zeros(left) as usize;
+                return Next::At(NodeId(k + passed));
+            }
+            k = (at + 1) * 64;
+        }
+        Next::Nothing
+    }
+}
+
+// Row b is the eight words from b * 8 on.
+pub fn row(ws: &[u64; 1024], b: usize) -> NodeBits
+    requires { ⌜ b < 128 ⌝ }
+    ensures { λ r. ⌜ membersOf (r .words) ≡ rowOf (now (ws .entry)) b ⌝ }
+{
+    let start = b * 8;
+    let mut words = [0u64; 8];
+    let mut i: usize = 0;
+    while i < 8 {
+        words[i] = ws[start + i];
+        i += 1;
+    }
+    NodeBits { words: words }
+}
+
+pub fn set_row(ws: &mut [u64; 1024], b: usize, s: NodeBits)
+    requires { ⌜ (b < 128) × Lent (now ws) ⌝ }
+    ensures { λ _. ⌜ RowSet (now (ws .entry)) (now (ws .exit)) b (membersOf (s .words)) ⌝ }
+{
+    let at = b * 8;
+    let words = s.words;
+    let mut i: usize = 0;
+    while i < 8 {
+        ws[at + i] = words[i];
+        i += 1;
+    }
+}
