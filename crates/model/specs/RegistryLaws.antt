@@ -330,3 +330,62 @@ leads-back reg h (suc below) k lt le r s =
     go (childOf p e) d st parent =
         rw (st .child .path, st .child .identifier) (walk-append ownMark _ (fullPathOf reg p .path) (e ∷ []) ∙ ap (λ at. walkFrom ownMark at (e ∷ [])) (parent p (st .after))
         ∙ found (isChildBy p e) (childNode p (fullPathOf reg p) e) reg k le (st .only))
+
+-- A node's path walked again from its root, under any marks.
+
+-- the child of what was reached, by an entry under its mark there
+abbrev pub stepFrom : (NodeId → DependencyPathEntry → Bool) → Reached → DependencyPathEntry → Reached
+stepFrom mark at e = getOrCreatePropertyEntry (at .registry) (at .node) (remarked e (mark (at .node) e))
+
+-- a node's root is there, so that asking for it makes nothing, whatever reactive and span are given
+root-there : (reg : PropertyPathRegistry) → Sound reg → (k : NodeId) → k .0 < length reg → (r : Bool) (s : ℕ) → getOrCreateIdentifier reg (fullPathOf reg k .identifier) r s .registry ≡ reg
+root-there reg h k le r s = go (found-or-made (isRootFor i) (rootNode i r s) reg)
+  where
+    i : IdentifierId
+    i = fullPathOf reg k .identifier
+
+    -- the node's own path, walked from that root, ends in the registry as it is
+    back : Extends (getOrCreateIdentifier reg i r s .registry) reg
+    back = subst (Extends (getOrCreateIdentifier reg i r s .registry)) (ap (λ (x : Reached). x .registry) (leads-back reg h (suc (k .0)) k (le-refl _) le r s))
+        (walk-extends ownMark (getOrCreateIdentifier reg i r s) (fullPathOf reg k .path))
+
+    go : WasFound (isRootFor i) (rootNode i r s) reg ⊎ WasMade (isRootFor i) (rootNode i r s) reg → getOrCreateIdentifier reg i r s .registry ≡ reg
+    go (inl f) = f .same
+    go (inr m) = absurd (let shorter = extends-length back in let longer = ap length (m .appended) ∙ length-append reg (rootNode i r s ∷ []) in omega arith)
+
+root-any : (reg : PropertyPathRegistry) → Sound reg → (k : NodeId) → k .0 < length reg → (r r′ : Bool) (s s′ : ℕ)
+    → getOrCreateIdentifier reg (fullPathOf reg k .identifier) r s ≡ getOrCreateIdentifier reg (fullPathOf reg k .identifier) r′ s′
+root-any reg h k le r r′ s s′ =
+    let same = root-there reg h k le r s ∙ sym (root-there reg h k le r′ s′) in
+    λ i. record { registry = same i; node = record { 0 = find (isRootFor (fullPathOf reg k .identifier)) reg } }
+
+module _ (mark : NodeId → DependencyPathEntry → Bool) (reg : PropertyPathRegistry) (h : Sound reg) (k : NodeId) (le : k .0 < length reg) where
+  pub again-root : nodeAt reg (k .0) .origin ≡ root → walkPath mark reg (fullPathOf reg k) ≡ record { registry = reg; node = k }
+  unfolding walkFrom
+  again-root o =
+      let st : StandsAsRoot reg (k .0) (fullPathOf reg k) = subst (λ x. Stands reg (k .0) x (fullPathOf reg k)) o (h (k .0) le) in
+      rw (st .path) (found (isRootFor (fullPathOf reg k .identifier)) (rootNode (fullPathOf reg k .identifier) (fullPathOf reg k .reactive) (fullPathOf reg k .span)) reg k le (st .only))
+
+  pub again-child : (p : NodeId) (e : DependencyPathEntry) → nodeAt reg (k .0) .origin ≡ childOf p e → walkPath mark reg (fullPathOf reg k) ≡ stepFrom mark (walkPath mark reg (fullPathOf reg p)) e
+  unfolding walkFrom
+  again-child p e o =
+      let d = fullPathOf reg k in
+      let dp = fullPathOf reg p in
+      let st : StandsAsChild reg (k .0) p e d = subst (λ x. Stands reg (k .0) x d) o (h (k .0) le) in
+      let inside : p .0 < length reg = le-trans (st .after) (let l = le in omega arith) in
+      ap (λ es. walkFrom mark (getOrCreateIdentifier reg (d .identifier) (d .reactive) (d .span)) es) (st .child .path)
+      ∙ walk-append mark (getOrCreateIdentifier reg (d .identifier) (d .reactive) (d .span)) (dp .path) (e ∷ [])
+      ∙ ap (λ at. walkFrom mark (walkFrom mark at (dp .path)) (e ∷ []))
+      (ap (λ i. getOrCreateIdentifier reg i (d .reactive) (d .span)) (st .child .identifier) ∙ root-any reg h p inside (d .reactive) (dp .reactive) (d .span) (dp .span))
+
+  -- a child's parent stands before it
+  pub child-after : (p : NodeId) (e : DependencyPathEntry) → nodeAt reg (k .0) .origin ≡ childOf p e → p .0 < k .0
+  child-after p e o = let st : StandsAsChild reg (k .0) p e (fullPathOf reg k) = subst (λ x. Stands reg (k .0) x (fullPathOf reg k)) o (h (k .0) le) in st .after
+
+  -- where the parent comes back to itself and the entry keeps its mark there, the node does too
+  pub again-same : (p : NodeId) (e : DependencyPathEntry) → nodeAt reg (k .0) .origin ≡ childOf p e → walkPath mark reg (fullPathOf reg p) ≡ record { registry = reg; node = p }
+      → mark p e ≡ e .optional → walkPath mark reg (fullPathOf reg k) ≡ record { registry = reg; node = k }
+  again-same p e o parent own =
+      let st : StandsAsChild reg (k .0) p e (fullPathOf reg k) = subst (λ x. Stands reg (k .0) x (fullPathOf reg k)) o (h (k .0) le) in
+      again-child p e o ∙ ap (λ at. stepFrom mark at e) parent ∙ ap (λ b. getOrCreatePropertyEntry reg p (remarked e b)) own
+      ∙ found (isChildBy p e) (childNode p (fullPathOf reg p) e) reg k le (st .only)

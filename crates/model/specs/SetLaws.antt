@@ -3,7 +3,7 @@ use Prim.Native.Nat.{ℕ, zero, suc, _+_, _≤_, _<_}
 use native.Mathlib.Nat.{le-refl, le-trans}
 use native.Mathlib.Omega.{arith}
 use mathlib.Core.Path.{_≡_, refl, sym, ap, subst, _∙_}
-use mathlib.Core.Bool.{Bool, true, false, _||_, not, cond}
+use mathlib.Core.Bool.{Bool, true, false, _||_, not, cond, or-self-left}
 use mathlib.Core.List.{List, [], _∷_, foldl}
 use lib.Dec.{eqb, ltb}
 use Rattle.entries.specs.declared.NodeId.{NodeId}
@@ -79,6 +79,20 @@ contains-insert k j (x ∷ xs) h =
     by-cond (λ r. contains r j ≡ true) (ltb (k .0) (x .0)) (λ e. or-second (sameNode k j) _ h)
     (λ e. or-cases (sameNode x j) (contains xs j) h (λ t. rw t refl)
     (λ t. or-second (sameNode x j) _ (by-cond (λ r. contains r j ≡ true) (sameNode x k) (λ u. t) (λ u. contains-insert k j xs t))))
+
+-- inserting adds the node and nothing else
+pub contains-inserted : (k j : NodeId) (s : NodeSet) → contains (insert k s) j ≡ (sameNode k j || contains s j)
+contains-inserted k j [] = refl
+contains-inserted k j (x ∷ xs) =
+    by-cond (λ r. contains r j ≡ (sameNode k j || (sameNode x j || contains xs j))) (ltb (k .0) (x .0)) (λ e. refl)
+    (λ e. by-cond (λ r. sameNode x j || contains r j ≡ (sameNode k j || (sameNode x j || contains xs j))) (sameNode x k)
+    (λ t. ap (λ y. sameNode y j || contains xs j) (same-node x k t) ∙ sym (ap (λ y. sameNode k j || (sameNode y j || contains xs j)) (same-node x k t) ∙ or-self-left (sameNode k j) (contains xs j)))
+    (λ t. ap (λ y. sameNode x j || y) (contains-inserted k j xs) ∙ or-swap (sameNode x j) (sameNode k j) (contains xs j)))
+  where
+    or-swap : (a b c : Bool) → a || (b || c) ≡ (b || (a || c))
+    or-swap true true c = refl
+    or-swap true false c = refl
+    or-swap false b c = refl
 
 pub contains-select : (test : NodeId → Bool) (j : NodeId) (s : NodeSet) → test j ≡ true → contains s j ≡ true → contains (select test s) j ≡ true
 contains-select test j [] t h = never h refl

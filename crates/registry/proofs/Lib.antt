@@ -1,3 +1,4 @@
 pub mod Pack
 pub mod Stored
 pub mod View
+pub mod Noted

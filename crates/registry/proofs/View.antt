@@ -12,8 +12,8 @@ use Rattle.model.specs.Registry.{nodeLimit, PropertyPathNode, PropertyPathRegis
 use Rattle.model.specs.RegistryLaws.{found-or-made, WasFound, WasMade}
 use Rattle.registry.specs.declared.Node.{Node}
 use Rattle.registry.specs.declared.Node.the-variants.{Root, Child}
-use Rattle.registry.specs.Nodes.{sameKey, findNode, nodeOver, nodesOver, registryFrom, testFor, madeFor}
-use Rattle.registry.specs.Words.{countIn, nodesOf, registryOf}
+use Rattle.registry.specs.Nodes.{sameKey, findNode, nodeOver, nodesOver, registryFrom, testFor, madeFor, Inside}
+use Rattle.registry.specs.Words.{Packs, countIn, nodesOf, registryOf}
 use Rattle.registry.proofs.Stored.{nodesOf-length}
 
 over-length : (before : PropertyPathRegistry) (ns : List Node) → length (nodesOver before ns) ≡ length ns
@@ -88,3 +88,12 @@ module _ (ws : List ℕ) (n : Node) (k e : ℕ) (found : k ≡ findNode (nodesOf
 
   pub arrived-full : e ≤ k → nodeLimit ≤ e → nodeLimit < length (madeFor (registryOf ws) n .registry)
   arrived-full l f = made-full ws n (omega arith) (omega arith)
+
+-- a parent among the nodes fits its bits
+pub inside-packs : (n : Node) (m : ℕ) → m ≤ 512 → Inside n m → Packs n
+inside-packs (Root i r s) m l h = tt
+inside-packs (Child p e) m l h = omega arith
+
+pub inside-limit : (n : Node) (m : ℕ) → m ≤ 512 → Inside n m → Inside n 512
+inside-limit (Root i r s) m l h = tt
+inside-limit (Child p e) m l h = omega arith

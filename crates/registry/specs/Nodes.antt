@@ -1,12 +1,14 @@
 -- Nodes as the words keep them, and the model's registry that a list of them stands for.
 use Prim.Native.Nat.{ℕ, zero, suc, _<_}
-use mathlib.Core.Bool.{Bool, true, false, _&&_, cond}
+use mathlib.Core.Bool.{Bool, true, false, _&&_, _||_, cond}
 use mathlib.Core.List.{List, [], _∷_, _++_}
 use lib.ListN.{length}
 use lib.Dec.{eqb, ltb}
 use Rattle.entries.specs.declared.PropertyLiteral.{PropertyLiteral}
 use Rattle.entries.specs.declared.PropertyLiteral.the-variants.{String, Number}
+use Rattle.entries.specs.declared.NodeId.{NodeId}
 use Rattle.entries.specs.Path.{sameEntry}
+use Rattle.model.specs.Sets.{NodeSet, contains, insert}
 use Rattle.model.specs.Registry.{PropertyPathNode, PropertyPathRegistry, isRootFor, isChildBy, Reached, findOrMake, rootNode, childNode, fullPathOf}
 use Rattle.registry.specs.declared.Node.{Node}
 use Rattle.registry.specs.declared.Node.the-variants.{Root, Child}
@@ -48,3 +50,16 @@ testFor (Child p e) = isChildBy p e
 -- the model's finding or making of a node
 abbrev pub madeFor : PropertyPathRegistry → Node → Reached
 madeFor reg n = findOrMake (testFor n) (nodeOver reg n) reg
+
+-- a parent is one of n nodes
+abbrev pub Inside : Node → ℕ → Type 0
+Inside (Root i r s) n = Unit {0}
+Inside (Child p e) n = p .0 < n
+
+-- a node has an optional entry, where `optional` are the nodes before it that have one
+abbrev pub optionalOver : NodeSet → Node → Bool
+optionalOver optional (Root i r s) = false
+optionalOver optional (Child p e) = e .optional || contains optional p
+
+abbrev pub notedWith : NodeSet → Node → NodeId → NodeSet
+notedWith optional n k = cond (optionalOver optional n) (insert k optional) optional

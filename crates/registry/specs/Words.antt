@@ -7,7 +7,10 @@ use lib.ListN.{length, getD}
 use lib.Dec.{eqb}
 use Rattle.entries.specs.declared.NodeId.{NodeId}
 use Rattle.model.specs.Registry.{nodeLimit, rootMark, PropertyPathRegistry, Reached}
+use Rattle.model.specs.Sets.{contains}
+use Rattle.model.specs.Reduction.{hasOptional}
 use Rattle.model.specs.Job.{propertyOf}
+use Rattle.rows.specs.Members.{membersOf}
 use Rattle.model.specs.Answer.{valueOf}
 use Rattle.registry.specs.declared.Node.{Node}
 use Rattle.registry.specs.declared.Entered.{Entered}
@@ -57,11 +60,16 @@ unfoldable pub registryOf : List ℕ → PropertyPathRegistry
 registryOf ws = registryFrom (nodesOf ws)
 
 -- room for the most nodes, and no more than these
-pub record Held (ws : List ℕ) : Type 0 where
+pub record Sized (ws : List ℕ) : Type 0 where
   pub long : length ws ≡ 1537
   pub room : countIn ws ≤ nodeLimit
 
+-- The words hold a registry, and the eight words `os` the set of its nodes with an optional entry.
+pub record Held (ws os : List ℕ) : Type 0 where
+  pub sized : Sized ws
+  pub noted : (k : NodeId) → contains (membersOf os) k ≡ hasOptional (registryOf ws) k
+
 -- What is reached: the words hold the registry that was to be reached, and the node is its number; or that registry has no room.
-abbrev pub Arrives : Reached → Entered → List ℕ → Type 0
-Arrives want (At k) ws = Held ws × (want ≡ record { registry = registryOf ws; node = k })
-Arrives want Full ws = nodeLimit < length (want .registry)
+abbrev pub Arrives : Reached → Entered → List ℕ → List ℕ → Type 0
+Arrives want (At k) ws os = Held ws os × (want ≡ record { registry = registryOf ws; node = k })
+Arrives want Full ws os = nodeLimit < length (want .registry)

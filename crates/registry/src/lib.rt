@@ -1,4 +1,5 @@
-// The registry of property paths: nodes numbered from 0 as made, in words that the caller lends. Three words a node, and the number of nodes behind them.
+// The registry of property paths: nodes numbered from 0 as made, in words that the caller lends: three words a node, and the number of nodes behind them.
+// Eight more words are the set of the nodes with an optional entry, so that a reduction finds them at once.
 ghost use mathlib.Core.Path.{_≡_};
 ghost use Prim.Native.Nat.{_<_, _≤_};
 ghost use Rattle.model.specs.Registry.{getOrCreateIdentifier, getOrCreatePropertyEntry};
@@ -6,12 +7,14 @@ ghost use Rattle.model.specs.Job.{propertyOf};
 ghost use Rattle.model.specs.Answer.{flag, valueOf};
 ghost use mathlib.Core.List.{_++_, _∷_, []};
 ghost use Rattle.registry.specs.declared.Node.the-variants.{Root, Child};
-ghost use Rattle.registry.specs.Nodes.{isNumber, sameKey, findNode, madeFor};
-ghost use Rattle.registry.specs.Words.{valueIn, spanIn, Packs, unpack, nodeAt, countIn, nodesOf, registryOf, Held, Arrives};
+ghost use Rattle.rows.specs.Members.{membersOf};
+ghost use Rattle.registry.specs.Nodes.{isNumber, sameKey, findNode, madeFor, Inside, optionalOver, notedWith};
+ghost use Rattle.registry.specs.Words.{valueIn, spanIn, Packs, unpack, nodeAt, countIn, nodesOf, registryOf, Sized, Held, Arrives};
 use entries::DependencyPathEntry;
 use entries::IdentifierId;
 use entries::NodeId;
 use entries::PropertyLiteral;
+use rows::NodeBits;
 
 // A node as it hangs: a root with its identifier, reactive mark and span, or the child of a node by an entry.
 pub enum Node {
@@ -174,8 +177,8 @@ pub fn load(ws: &[u64; 1537], k: usize) -> Node
 
 // One node more.
 fn push(ws: &mut [u64; 1537], n: Node)
-    requires { ⌜ Held (now ws) × (countIn (now ws) < 512) × Packs n ⌝ }
-    ensures { λ _. ⌜ Held (now (ws .exit)) × (nodesOf (now (ws .exit)) ≡ nodesOf (now (ws .entry)) ++ (n ∷ [])) ⌝ }
+    requires { ⌜ Sized (now ws) × (countIn (now ws) < 512) × Packs n ⌝ }
+    ensures { λ _. ⌜ Sized (now (ws .exit)) × (nodesOf (now (ws .exit)) ≡ nodesOf (now (ws .entry)) ++ (n ∷ [])) ⌝ }
 {
     let k = ws[1536] as usize;
     let at = k * 3;
@@ -187,7 +190,7 @@ fn push(ws: &mut [u64; 1537], n: Node)
 
 // The number of the first node with the key of n, or how many there are.
 pub fn find(ws: &[u64; 1537], n: Node) -> usize
-    requires { ⌜ Held (now ws) ⌝ }
+    requires { ⌜ Sized (now ws) ⌝ }
     ensures { λ r. ⌜ r ≡ findNode (nodesOf (now (ws .entry))) n ⌝ }
 {
     let end = count(ws);
@@ -208,10 +211,40 @@ pub enum Entered {
     Full,
 }
 
+// Whether a node has an optional entry: its own, or one of its parent's path.
+fn is_optional(n: Node, optional: NodeBits) -> bool
+    requires { ⌜ Inside n 512 ⌝ }
+    ensures { λ r. ⌜ r ≡ optionalOver (membersOf (optional .words)) n ⌝ }
+{
+    match n {
+        Node::Root(_, _, _) => false,
+        Node::Child(p, e) => {
+            if e.optional {
+                true
+            } else {
+                optional.contains(p)
+            }
+        }
+    }
+}
+
+// Node k, which is n, joins the set where it has an optional entry.
+fn note(optional: &mut [u64; 8], n: Node, k: NodeId)
+    requires { ⌜ Inside n 512 × (k .0 < 512) ⌝ }
+    ensures { λ _. ⌜ membersOf (now (optional .exit)) ≡ notedWith (membersOf (now (optional .entry))) n k ⌝ }
+{
+    let row = NodeBits { words: *optional };
+    if is_optional(n, row) {
+        let more = row.insert(k);
+        let words = more.words;
+        *optional = words;
+    }
+}
+
 // The node with the key of n, made where there is none.
-fn find_or_make(ws: &mut [u64; 1537], n: Node) -> Entered
-    requires { ⌜ Held (now ws) × Packs n ⌝ }
-    ensures { λ r. ⌜ Arrives (madeFor (registryOf (now (ws .entry))) n) r (now (ws .exit)) ⌝ }
+fn find_or_make(ws: &mut [u64; 1537], optional: &mut [u64; 8], n: Node) -> Entered
+    requires { ⌜ Held (now ws) (now optional) × Inside n (countIn (now ws)) ⌝ }
+    ensures { λ r. ⌜ Arrives (madeFor (registryOf (now (ws .entry))) n) r (now (ws .exit)) (now (optional .exit)) ⌝ }
 {
     let k = find(ws, n);
     let end = count(ws);
@@ -220,7 +253,9 @@ fn find_or_make(ws: &mut [u64; 1537], n: Node) -> Entered
     }
     if end < Node::LIMIT {
         push(ws, n);
-        Entered::At(NodeId(end))
+        let made = NodeId(end);
+        note(optional, n, made);
+        Entered::At(made)
     } else {
         Entered::Full
     }
@@ -228,23 +263,25 @@ fn find_or_make(ws: &mut [u64; 1537], n: Node) -> Entered
 
 pub fn get_or_create_identifier(
     ws: &mut [u64; 1537],
+    optional: &mut [u64; 8],
     identifier: IdentifierId,
     reactive: bool,
     span: u64,
 ) -> Entered
-    requires { ⌜ Held (now ws) ⌝ }
-    ensures { λ r. ⌜ Arrives (getOrCreateIdentifier (registryOf (now (ws .entry))) identifier reactive span) r (now (ws .exit)) ⌝ }
+    requires { ⌜ Held (now ws) (now optional) ⌝ }
+    ensures { λ r. ⌜ Arrives (getOrCreateIdentifier (registryOf (now (ws .entry))) identifier reactive span) r (now (ws .exit)) (now (optional .exit)) ⌝ }
 {
-    find_or_make(ws, Node::root(identifier, reactive, span))
+    find_or_make(ws, optional, Node::root(identifier, reactive, span))
 }
 
 pub fn get_or_create_property_entry(
     ws: &mut [u64; 1537],
+    optional: &mut [u64; 8],
     parent: NodeId,
     entry: DependencyPathEntry,
 ) -> Entered
-    requires { ⌜ Held (now ws) × (parent .0 < countIn (now ws)) ⌝ }
-    ensures { λ r. ⌜ Arrives (getOrCreatePropertyEntry (registryOf (now (ws .entry))) parent entry) r (now (ws .exit)) ⌝ }
+    requires { ⌜ Held (now ws) (now optional) × (parent .0 < countIn (now ws)) ⌝ }
+    ensures { λ r. ⌜ Arrives (getOrCreatePropertyEntry (registryOf (now (ws .entry))) parent entry) r (now (ws .exit)) (now (optional .exit)) ⌝ }
 {
-    find_or_make(ws, Node::child(parent, entry))
+    find_or_make(ws, optional, Node::child(parent, entry))
 }

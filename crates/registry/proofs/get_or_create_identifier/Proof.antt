@@ -7,7 +7,7 @@ root-requires : tie.Need-root-requires
 root-requires c κs = search needs
 
 find-or-make-requires : tie.Need-find-or-make-requires
-find-or-make-requires c κs = (c .before .before .pre, rw (c .root .ensures) tt)
+find-or-make-requires c κs = (c .before .before .before .pre, rw (c .root .ensures) tt)
 
 returns : tie.Need-returns
 returns c = rw (c .before .root .ensures) at (c .find-or-make .ensures)

@@ -1,5 +1,4 @@
--- The child that is looked for is the model's child node over the registry; its parent, a node of it, fits the parent's bits.
-use native.Mathlib.Omega.{arith}
+-- The child that is looked for is the model's child node over the registry.
 use borrow.Author.Needs.{needs}
 use Rattle.registry.proofs.get_or_create_property_entry.Statement.{statement}
 use Rattle.registry.proofs.get_or_create_property_entry.Tie as tie
@@ -8,10 +7,7 @@ child-requires : tie.Need-child-requires
 child-requires c κs = search needs
 
 find-or-make-requires : tie.Need-find-or-make-requires
-find-or-make-requires c κs =
-    let inside = c .before .before .pre .1 in
-    let room = c .before .before .pre .0 .room in
-    (c .before .before .pre .0, rw (c .child .ensures) (omega arith))
+find-or-make-requires c κs = (c .before .before .before .pre .0, rw (c .child .ensures) (c .before .before .before .pre .1))
 
 returns : tie.Need-returns
 returns c = rw (c .before .child .ensures) at (c .find-or-make .ensures)
