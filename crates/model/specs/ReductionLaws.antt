@@ -261,7 +261,7 @@ nodes-shrunk r b (k ∷ ks) h m f c =
     (all-both (λ j. k .0 < j .0) (λ j. contains (r .set) j ≡ true) ks (from-above (suc (k .0)) ks (f .1)) (c .1)) in
     shrunk-trans one (nodes-shrunk (reduceNode r k) (suc (k .0)) ks (node-sound r k h) (one .members) (f .1) still)
 
-pass-shrunk : (reg : PropertyPathRegistry) (s : NodeSet) → Sound reg → Members reg s → Shrunk (unchanged reg s) (pass reg s)
+pub pass-shrunk : (reg : PropertyPathRegistry) (s : NodeSet) → Sound reg → Members reg s → Shrunk (unchanged reg s) (pass reg s)
 unfolding pass
 pass-shrunk reg s h m =
     nodes-shrunk (unchanged reg s) zero (select (hasOptional reg) s) h m (select-from zero (hasOptional reg) s (m .ascending))
@@ -298,7 +298,7 @@ passes-sound (suc most) reg s h =
     (λ e. rw (passes-stop most reg s e) (pass-sound reg s h))
 
 -- the marks that are left after a pass that changed something
-pass-less : (reg : PropertyPathRegistry) (s : NodeSet) → Sound reg → Members reg s → pass reg s .changed ≡ true → optionalMarksOf (pass reg s .registry) (pass reg s .set) < optionalMarksOf reg s
+pub pass-less : (reg : PropertyPathRegistry) (s : NodeSet) → Sound reg → Members reg s → pass reg s .changed ≡ true → optionalMarksOf (pass reg s .registry) (pass reg s .set) < optionalMarksOf reg s
 pass-less reg s h m e = let paid = pass-shrunk reg s h m .paid in let one = ap mark-value e in omega arith
 
 -- any function that repeats passes until one changes nothing

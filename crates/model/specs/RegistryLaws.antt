@@ -307,7 +307,7 @@ walk-append mark at [] ys = refl
 walk-append mark at (x ∷ xs) ys = walk-append mark _ xs ys
 
 -- what is found is reached, and nothing is made
-found : (test : PropertyPathNode → Bool) (new : PropertyPathNode) (reg : PropertyPathRegistry) (k : NodeId) → k .0 < length reg → find test reg ≡ k .0
+pub found : (test : PropertyPathNode → Bool) (new : PropertyPathNode) (reg : PropertyPathRegistry) (k : NodeId) → k .0 < length reg → find test reg ≡ k .0
     → findOrMake test new reg ≡ record { registry = reg; node = k }
 found test new reg k h e = go (found-or-made test new reg)
   where
@@ -378,14 +378,10 @@ module _ (mark : NodeId → DependencyPathEntry → Bool) (reg : PropertyPathReg
       ∙ ap (λ at. walkFrom mark (walkFrom mark at (dp .path)) (e ∷ []))
       (ap (λ i. getOrCreateIdentifier reg i (d .reactive) (d .span)) (st .child .identifier) ∙ root-any reg h p inside (d .reactive) (dp .reactive) (d .span) (dp .span))
 
-  -- a child's parent stands before it
+  -- a child is found by its parent and entry
+  pub child-found : (p : NodeId) (e : DependencyPathEntry) → nodeAt reg (k .0) .origin ≡ childOf p e → find (isChildBy p e) reg ≡ k .0
+  child-found p e o = let st : StandsAsChild reg (k .0) p e (fullPathOf reg k) = subst (λ x. Stands reg (k .0) x (fullPathOf reg k)) o (h (k .0) le) in st .only
+
+  -- and its parent stands before it
   pub child-after : (p : NodeId) (e : DependencyPathEntry) → nodeAt reg (k .0) .origin ≡ childOf p e → p .0 < k .0
   child-after p e o = let st : StandsAsChild reg (k .0) p e (fullPathOf reg k) = subst (λ x. Stands reg (k .0) x (fullPathOf reg k)) o (h (k .0) le) in st .after
-
-  -- where the parent comes back to itself and the entry keeps its mark there, the node does too
-  pub again-same : (p : NodeId) (e : DependencyPathEntry) → nodeAt reg (k .0) .origin ≡ childOf p e → walkPath mark reg (fullPathOf reg p) ≡ record { registry = reg; node = p }
-      → mark p e ≡ e .optional → walkPath mark reg (fullPathOf reg k) ≡ record { registry = reg; node = k }
-  again-same p e o parent own =
-      let st : StandsAsChild reg (k .0) p e (fullPathOf reg k) = subst (λ x. Stands reg (k .0) x (fullPathOf reg k)) o (h (k .0) le) in
-      again-child p e o ∙ ap (λ at. stepFrom mark at e) parent ∙ ap (λ b. getOrCreatePropertyEntry reg p (remarked e b)) own
-      ∙ found (isChildBy p e) (childNode p (fullPathOf reg p) e) reg k le (st .only)

@@ -2,7 +2,7 @@
 use Prim.Native.Nat.{ℕ, zero, suc, _+_, _*_, _-_, _≤_, _<_}
 use native.Mathlib.Omega.{arith}
 use native.Mathlib.Numerals.{add-one}
-use native.Mathlib.Nat.{add-zero, zero-add}
+use native.Mathlib.Nat.{add-zero, zero-add, not-suc-le-zero}
 use mathlib.Core.Path.{_≡_, refl, _∙_, ap, sym}
 use mathlib.Core.Logic.{_≢_}
 use mathlib.Core.Bool.{true, false, cond}
@@ -20,6 +20,15 @@ nodes-length ws k (suc n) = ap suc (nodes-length ws (suc k) n)
 pub nodesOf-length : (ws : List ℕ) → length (nodesOf ws) ≡ countIn ws
 unfolding nodesOf
 nodesOf-length ws = nodes-length ws 0 (countIn ws)
+
+nodes-at : (ws : List ℕ) (k n i : ℕ) (d : Node) → i < n → getD (nodesFrom ws k n) i d ≡ nodeAt ws (k + i)
+nodes-at ws k zero i d l = absurd (not-suc-le-zero l)
+nodes-at ws k (suc n) zero d l = rw (add-zero k)
+nodes-at ws k (suc n) (suc i) d l = let e : k + suc i ≡ suc k + i = omega arith in rw e (nodes-at ws (suc k) n i d (omega arith))
+
+pub nodesOf-at : (ws : List ℕ) (k : ℕ) → k < countIn ws → getD (nodesOf ws) k (nodeAt ws k) ≡ nodeAt ws k
+unfolding nodesOf
+nodesOf-at ws k l = nodes-at ws 0 (countIn ws) k (nodeAt ws k) l ∙ ap (nodeAt ws) (zero-add k)
 
 nodes-same : (ws vs : List ℕ) (k n : ℕ) → ((j : ℕ) → j < k + n → nodeAt ws j ≡ nodeAt vs j) → nodesFrom ws k n ≡ nodesFrom vs k n
 nodes-same ws vs k zero h = refl

@@ -1,20 +1,22 @@
 -- The model's registry of a list of nodes: its length, what is found in it, and one node more.
 use Prim.Native.Nat.{ℕ, zero, suc, _+_, _≤_, _<_}
 use native.Mathlib.Omega.{arith}
+use native.Mathlib.Nat.{not-suc-le-zero}
 use mathlib.Core.Path.{_≡_, refl, sym, ap, _∙_, subst}
 use mathlib.Core.Logic.{_⊎_, inl, inr}
 use mathlib.Core.Bool.{Bool, true, false, cond}
 use mathlib.Core.List.{List, [], _∷_, _++_, append-assoc, append-nil}
-use lib.ListN.{length, length-append}
+use lib.ListN.{length, getD, length-append}
 use Rattle.entries.specs.declared.NodeId.{NodeId}
 use Rattle.model.specs.Tests.{decide}
 use Rattle.model.specs.Registry.{nodeLimit, PropertyPathNode, PropertyPathRegistry, find, ensure, Reached, findOrMake}
 use Rattle.model.specs.RegistryLaws.{found-or-made, WasFound, WasMade}
+use Rattle.model.specs.RegistryLaws as Placed
 use Rattle.registry.specs.declared.Node.{Node}
 use Rattle.registry.specs.declared.Node.the-variants.{Root, Child}
-use Rattle.registry.specs.Nodes.{sameKey, findNode, nodeOver, nodesOver, registryFrom, testFor, madeFor, Inside}
-use Rattle.registry.specs.Words.{Packs, countIn, nodesOf, registryOf}
-use Rattle.registry.proofs.Stored.{nodesOf-length}
+use Rattle.registry.specs.Nodes.{sameKey, findNode, originOf, nodeOver, nodesOver, registryFrom, testFor, madeFor, Inside}
+use Rattle.registry.specs.Words.{Packs, nodeAt, countIn, nodesOf, registryOf}
+use Rattle.registry.proofs.Stored.{nodesOf-length, nodesOf-at}
 
 over-length : (before : PropertyPathRegistry) (ns : List Node) → length (nodesOver before ns) ≡ length ns
 over-length before [] = refl
@@ -50,6 +52,21 @@ over-snoc before (m ∷ ms) n =
 pub registry-snoc : (ws vs : List ℕ) (n : Node) → nodesOf vs ≡ nodesOf ws ++ (n ∷ []) → registryOf vs ≡ registryOf ws ++ (nodeOver (registryOf ws) n ∷ [])
 unfolding registryOf registryFrom
 registry-snoc ws vs n e = ap (nodesOver []) e ∙ over-snoc [] (nodesOf ws) n
+
+-- A node of the model's registry hangs where the node in the words does.
+
+origin-over : (before : PropertyPathRegistry) (ns : List Node) (k : ℕ) (d : Node) → k < length ns → Placed.nodeAt (nodesOver before ns) k .origin ≡ originOf (getD ns k d)
+origin-over before [] k d l = absurd (not-suc-le-zero l)
+origin-over before (n ∷ ns) zero d l = go n
+  where
+    go : (m : Node) → nodeOver before m .origin ≡ originOf m
+    go (Root i r s) = refl
+    go (Child p e) = refl
+origin-over before (n ∷ ns) (suc k) d l = origin-over (before ++ (nodeOver before n ∷ [])) ns k d (omega arith)
+
+pub origin-at : (ws : List ℕ) (k : ℕ) → k < countIn ws → Placed.nodeAt (registryOf ws) k .origin ≡ originOf (nodeAt ws k)
+unfolding registryOf registryFrom
+origin-at ws k l = let size = nodesOf-length ws in origin-over [] (nodesOf ws) k (nodeAt ws k) (omega arith) ∙ ap originOf (nodesOf-at ws k l)
 
 -- What the model finds or makes.
 

@@ -9,7 +9,7 @@ use Rattle.entries.specs.declared.PropertyLiteral.the-variants.{String, Number}
 use Rattle.entries.specs.declared.NodeId.{NodeId}
 use Rattle.entries.specs.Path.{sameEntry}
 use Rattle.model.specs.Sets.{NodeSet, contains, insert}
-use Rattle.model.specs.Registry.{PropertyPathNode, PropertyPathRegistry, isRootFor, isChildBy, Reached, findOrMake, rootNode, childNode, fullPathOf}
+use Rattle.model.specs.Registry.{PropertyPathNode, PropertyPathRegistry, isRootFor, isChildBy, Origin, root, childOf, Reached, findOrMake, rootNode, childNode, fullPathOf}
 use Rattle.registry.specs.declared.Node.{Node}
 use Rattle.registry.specs.declared.Node.the-variants.{Root, Child}
 
@@ -23,6 +23,11 @@ sameKey (Root i r s) (Root j q t) = eqb (i .0) (j .0)
 sameKey (Root i r s) (Child q f) = false
 sameKey (Child p e) (Root j q t) = false
 sameKey (Child p e) (Child q f) = eqb (p .0) (q .0) && sameEntry e f
+
+-- where a node hangs
+abbrev pub originOf : Node → Origin
+originOf (Root i r s) = root
+originOf (Child p e) = childOf p e
 
 -- the number of the first node with the key of n, or how many there are
 abbrev pub findNode : List Node → Node → ℕ

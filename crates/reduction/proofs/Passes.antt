@@ -1,0 +1,146 @@
+-- One node of a pass, and the nodes that are left of it.
+use Prim.Native.Nat.{ℕ, _+_, _≤_, _<_}
+use native.Mathlib.Omega.{arith}
+use mathlib.Core.Path.{_≡_, refl, sym, ap, subst, _∙_}
+use mathlib.Core.Bool.{Bool, true, false, _||_, not, cond, or-false, or-true}
+use mathlib.Core.List.{List, [], _∷_}
+use lib.ListN.{length}
+use Rattle.entries.specs.declared.NodeId.{NodeId}
+use Rattle.rows.specs.declared.NodeBits.{NodeBits}
+use Rattle.rows.specs.declared.Next.the-variants.{At}
+use Rattle.rows.specs.Members.{membersOf, membersFrom, firstOf}
+use Rattle.rows.proofs.Ahead.{Ahead, next-at}
+use Rattle.rows.proofs.Selections.{select-same}
+use Rattle.registry.specs.Words.{countIn, registryOf, Held}
+use Rattle.registry.proofs.View.{registry-length}
+use Rattle.model.specs.Lists.{select}
+use Rattle.model.specs.ListLaws.{All, all-map, all-select}
+use Rattle.model.specs.Tests.{eqb-same, eqb-apart}
+use Rattle.model.specs.Sets.{NodeSet, sameNode, contains, insert, remove, intersection}
+use Rattle.model.specs.Registry.{nodeLimit, PropertyPathRegistry, Reached, fullPathOf, walkPath}
+use Rattle.model.specs.RegistryLaws.{Sound, Proper, Extends, extends-length, path-proper}
+use Rattle.model.specs.Reduction.{Reduced, reducedMark, reduceNode, reduceNodes, hasOptional, pass}
+use Rattle.model.specs.ReductionLaws.{Members, node-extends, nodes-extend, node-sound}
+use Rattle.reduction.specs.declared.ReducedSet.{ReducedSet}
+use Rattle.reduction.specs.Reduces.{reducedOf, ReducesBy, Reduces}
+
+-- One node.
+
+module _ (ws : List ℕ) (r : ReducedSet) (k : NodeId) where
+  abbrev reg : PropertyPathRegistry
+  reg = registryOf ws
+
+  abbrev s : NodeSet
+  s = membersOf (r .set .words)
+
+  abbrev at : Reached
+  at = walkPath (reducedMark s) reg (fullPathOf reg k)
+
+  abbrev wanted : Reduced
+  wanted = reduceNode (reducedOf reg r) k
+
+  abbrev from : Reached → Reduced
+  from a = record { registry = a .registry; set = cond (sameNode (a .node) k) s (insert (a .node) (remove k s)); changed = r .changed || not (sameNode (a .node) k) }
+
+  is-from : wanted ≡ from at
+  unfolding reduceNode
+  is-from = refl
+
+  pub node-full : nodeLimit < length (at .registry) → nodeLimit < length (wanted .registry)
+  node-full full = let same = ap (λ (x : Reduced). length (x .registry)) is-from in omega arith
+
+  module _ (vs : List ℕ) (q : NodeId) (walked : at ≡ record { registry = registryOf vs; node = q }) where
+    pub node-inside : Sound reg → countIn vs ≤ 512 → q .0 < 512
+    node-inside h room = let size = registry-length vs in let l = subst Proper walked (path-proper (reducedMark s) reg (fullPathOf reg k) h) .inside in omega arith
+
+    pub node-same : q .0 ≡ k .0 → wanted ≡ record { registry = registryOf vs; set = s; changed = r .changed }
+    node-same e =
+        let here : sameNode q k ≡ true = ap (λ i. lib.Dec.eqb i (k .0)) e ∙ eqb-same (k .0) in
+        is-from ∙ ap from walked ∙ rw (here, or-false (r .changed))
+
+    pub node-moved : ¬ (q .0 ≡ k .0) → (t : NodeSet) → t ≡ insert q (remove k s) → wanted ≡ record { registry = registryOf vs; set = t; changed = true }
+    node-moved other t e =
+        let there : sameNode q k ≡ false = eqb-apart (q .0) (k .0) other in
+        is-from ∙ ap from walked ∙ rw (there, or-true (r .changed), e)
+
+-- An answer by its case.
+
+pub reduces-to : (want : Reduced) (r : ReducedSet) (ws os : List ℕ) → r .full ≡ false → Reduces want r ws os → Held ws os × (want ≡ reducedOf (registryOf ws) r)
+reduces-to want r ws os e a = subst (λ b. ReducesBy b want r ws os) e a
+
+pub reduces-full : (want : Reduced) (r : ReducedSet) (ws os : List ℕ) → r .full ≡ true → Reduces want r ws os → nodeLimit < length (want .registry)
+reduces-full want r ws os e a = subst (λ b. ReducesBy b want r ws os) e a
+
+-- The nodes that are left of a pass.
+
+pub record Along (end : Reduced) (snapshot ws os : List ℕ) (r : ReducedSet) (from : ℕ) : Type 0 where
+  pub held : Held ws os
+  pub sound : Sound (registryOf ws)
+  pub room : r .full ≡ false
+  pub inside : All (λ k. k .0 < countIn ws) (membersFrom snapshot from)
+  pub left : reduceNodes (reducedOf (registryOf ws) r) (membersFrom snapshot from) ≡ end
+
+all-noted : (ws os : List ℕ) → Held ws os → (t : NodeSet) → All (λ k. contains (membersOf os) k ≡ hasOptional (registryOf ws) k) t
+all-noted ws os h [] = tt
+all-noted ws os h (k ∷ t) = (h .noted k, all-noted ws os h t)
+
+module _ (ws os snapshot : List ℕ) (set : NodeBits) (held : Held ws os) (sound : Sound (registryOf ws)) (members : Members (registryOf ws) (membersOf (set .words)))
+    (taken : membersOf snapshot ≡ intersection (membersOf (set .words)) (membersOf os)) where
+  marked : membersOf snapshot ≡ select (hasOptional (registryOf ws)) (membersOf (set .words))
+  marked = taken ∙ select-same (contains (membersOf os)) (hasOptional (registryOf ws)) (membersOf (set .words)) (all-noted ws os held (membersOf (set .words)))
+
+  pub along-start : Along (pass (registryOf ws) (membersOf (set .words))) snapshot ws os (record { set = set; changed = false; full = false }) 0
+  unfolding pass
+  along-start = record {
+    held = held;
+    sound = sound;
+    room = refl;
+    inside = rw marked (all-select (λ k. k .0 < countIn ws) (hasOptional (registryOf ws)) (membersOf (set .words)) (subst (λ n. All (λ k. k .0 < n) (membersOf (set .words))) (registry-length ws) (members .inside)));
+    left = ap (reduceNodes (record { registry = registryOf ws; set = membersOf (set .words); changed = false })) marked;
+  }
+
+module _ {end : Reduced} {snapshot ws os : List ℕ} {r : ReducedSet} {from : ℕ} (a : Along end snapshot ws os r from) where
+  pub along-end : membersFrom snapshot from ≡ [] → Reduces end r ws os
+  unfolding reduceNodes
+  along-end none = subst (λ b. ReducesBy b end r ws os) (sym (a .room)) (a .held, sym (a .left) ∙ ap (reduceNodes (reducedOf (registryOf ws) r)) none)
+
+  module _ (k : NodeId) (next : firstOf (membersFrom snapshot from) ≡ At k) where
+    ahead : Ahead snapshot from k
+    ahead = next-at snapshot from k next
+
+    abbrev one : Reduced
+    one = reduceNode (reducedOf (registryOf ws) r) k
+
+    onward : reduceNodes one (membersFrom snapshot (k .0 + 1)) ≡ end
+    unfolding reduceNodes
+    onward = sym (ap (reduceNodes (reducedOf (registryOf ws) r)) (ahead .rest)) ∙ a .left
+
+    all : (k .0 < countIn ws) × All (λ j. j .0 < countIn ws) (membersFrom snapshot (k .0 + 1))
+    all = subst (All (λ j. j .0 < countIn ws)) (ahead .rest) (a .inside)
+
+    pub along-inside : k .0 < countIn ws
+    along-inside = all .0
+
+    pub along-ahead : (from ≤ k .0) × (k .0 < 512)
+    along-ahead = (ahead .from, ahead .below)
+
+    pub along-full : (q : ReducedSet) (vs ps : List ℕ) → q .full ≡ true → Reduces one q vs ps → Reduces end q vs ps
+    along-full q vs ps e full =
+        let past = reduces-full one q vs ps e full in
+        let longer = extends-length (nodes-extend one (membersFrom snapshot (k .0 + 1))) in
+        let same = ap (λ (x : Reduced). length (x .registry)) onward in
+        subst (λ b. ReducesBy b end q vs ps) (sym e) (omega arith)
+
+    pub along-more : (q : ReducedSet) (vs ps : List ℕ) → q .full ≡ false → Reduces one q vs ps → Along end snapshot vs ps q (k .0 + 1)
+    along-more q vs ps e went =
+        let to = reduces-to one q vs ps e went in
+        let longer = extends-length (subst (λ (x : Reduced). Extends (registryOf ws) (x .registry)) (to .1) (node-extends (reducedOf (registryOf ws) r) k)) in
+        let before = registry-length ws in
+        let after = registry-length vs in
+        record {
+          held = to .0;
+          sound = subst (λ (x : Reduced). Sound (x .registry)) (to .1) (node-sound (reducedOf (registryOf ws) r) k (a .sound));
+          room = e;
+          inside = all-map (λ j. j .0 < countIn ws) (λ j. j .0 < countIn vs) (λ j l. omega arith) (membersFrom snapshot (k .0 + 1)) (all .1);
+          left = ap (λ (x : Reduced). reduceNodes x (membersFrom snapshot (k .0 + 1))) (sym (to .1)) ∙ onward;
+        }

@@ -1,0 +1,104 @@
+-- The passes that are left of a reduction.
+use Prim.Native.Nat.{ℕ, suc, _≤_, _<_}
+use native.Mathlib.Omega.{arith}
+use mathlib.Core.Path.{_≡_, refl, sym, ap, subst, _∙_}
+use mathlib.Core.Bool.{Bool, true, false}
+use mathlib.Core.List.{List}
+use lib.ListN.{length}
+use Rattle.rows.specs.declared.NodeBits.{NodeBits}
+use Rattle.rows.specs.Members.{membersOf}
+use Rattle.registry.specs.Words.{registryOf, Held}
+use Rattle.model.specs.Tests.{decide}
+use Rattle.model.specs.Sets.{NodeSet}
+use Rattle.model.specs.Registry.{PropertyPathRegistry}
+use Rattle.model.specs.RegistryLaws.{Sound, extends-length}
+use Rattle.model.specs.Reduction.{Reduced, pass, optionalMarksOf, reduceMaybeOptionalChains}
+use Rattle.model.specs.ReductionLaws.{Members, pass-sound, pass-shrunk, pass-less, reduction-extends, reduction-repeats}
+use Rattle.reduction.specs.declared.ReducedSet.{ReducedSet}
+use Rattle.reduction.specs.Reduces.{reducedOf, ReducesBy, Reduces}
+use Rattle.reduction.proofs.Passes.{reduces-to, reduces-full}
+
+-- what comes after a pass
+abbrev onwards : PropertyPathRegistry → ReducedSet → Bool → Reduced
+onwards reg r true = reduceMaybeOptionalChains reg (membersOf (r .set .words))
+onwards reg r false = reducedOf reg r
+
+abbrev marksLeft : PropertyPathRegistry → ReducedSet → Bool → ℕ
+marksLeft reg r true = suc (optionalMarksOf reg (membersOf (r .set .words)))
+marksLeft reg r false = 0
+
+-- the optional marks of the set while its passes go on
+abbrev pub passesLeft : List ℕ → ReducedSet → ℕ
+passesLeft ws r = marksLeft (registryOf ws) r (r .changed)
+
+pub record Repeating (end : Reduced) (ws os : List ℕ) (r : ReducedSet) : Type 0 where
+  pub held : Held ws os
+  pub sound : Sound (registryOf ws)
+  pub members : Members (registryOf ws) (membersOf (r .set .words))
+  pub room : r .full ≡ false
+  pub left : onwards (registryOf ws) r (r .changed) ≡ end
+
+pub repeating-start : (ws os : List ℕ) (set : NodeBits) → Held ws os → Sound (registryOf ws) → Members (registryOf ws) (membersOf (set .words))
+    → Repeating (reduceMaybeOptionalChains (registryOf ws) (membersOf (set .words))) ws os (record { set = set; changed = true; full = false })
+repeating-start ws os set held sound members = record { held = held; sound = sound; members = members; room = refl; left = refl }
+
+module _ {end : Reduced} {ws os : List ℕ} {r : ReducedSet} (a : Repeating end ws os r) where
+  pub repeating-end : r .changed ≡ false → Reduces end r ws os
+  repeating-end e = subst (λ b. ReducesBy b end r ws os) (sym (a .room)) (a .held, sym (a .left) ∙ ap (onwards (registryOf ws) r) e)
+
+  module _ (changed : r .changed ≡ true) where
+    abbrev reg : PropertyPathRegistry
+    reg = registryOf ws
+
+    abbrev s : NodeSet
+    s = membersOf (r .set .words)
+
+    whole : reduceMaybeOptionalChains reg s ≡ end
+    whole = sym (ap (onwards reg r) changed) ∙ a .left
+
+    -- a pass makes no node that the reduction does not make
+    within : length (pass reg s .registry) ≤ length (end .registry)
+    within =
+        let on = reduction-repeats reg s (a .sound) (a .members) in
+        decide (pass reg s .changed)
+        (λ e.
+        let longer = extends-length (reduction-extends (pass reg s .registry) (pass reg s .set)) in
+        let same = ap (λ (x : Reduced). length (x .registry)) (sym (on .0 e) ∙ whole) in
+        omega arith)
+        (λ e. let same = ap (λ (x : Reduced). length (x .registry)) (sym (on .1 e) ∙ whole) in omega arith)
+
+    pub repeating-full : (q : ReducedSet) (vs ps : List ℕ) → q .full ≡ true → Reduces (pass reg s) q vs ps → Reduces end q vs ps
+    repeating-full q vs ps e full =
+        let past = reduces-full (pass reg s) q vs ps e full in
+        let most = within in
+        subst (λ b. ReducesBy b end q vs ps) (sym e) (omega arith)
+
+    module _ (q : ReducedSet) (vs ps : List ℕ) (e : q .full ≡ false) (went : Reduces (pass reg s) q vs ps) where
+      to : Held vs ps × (pass reg s ≡ reducedOf (registryOf vs) q)
+      to = reduces-to (pass reg s) q vs ps e went
+
+      pub repeating-more : Repeating end vs ps q
+      repeating-more =
+          let on = reduction-repeats reg s (a .sound) (a .members) in
+          let flag = ap (λ (x : Reduced). x .changed) (to .1) in
+          record {
+            held = to .0;
+            sound = subst (λ (x : Reduced). Sound (x .registry)) (to .1) (pass-sound reg s (a .sound));
+            members = subst (λ (x : Reduced). Members (x .registry) (x .set)) (to .1) (pass-shrunk reg s (a .sound) (a .members) .members);
+            room = e;
+            left = decide (q .changed)
+                (λ t. ap (onwards (registryOf vs) q) t ∙ ap (λ (x : Reduced). reduceMaybeOptionalChains (x .registry) (x .set)) (sym (to .1)) ∙ sym (on .0 (flag ∙ t)) ∙ whole)
+                (λ t. ap (onwards (registryOf vs) q) t ∙ sym (to .1) ∙ sym (on .1 (flag ∙ t)) ∙ whole);
+          }
+
+      pub repeating-less : passesLeft vs q < passesLeft ws r
+      repeating-less =
+          let flag = ap (λ (x : Reduced). x .changed) (to .1) in
+          let now = ap (marksLeft reg r) changed in
+          decide (q .changed)
+          (λ t.
+          let less = pass-less reg s (a .sound) (a .members) (flag ∙ t) in
+          let same = ap (λ (x : Reduced). optionalMarksOf (x .registry) (x .set)) (to .1) in
+          let then = ap (marksLeft (registryOf vs) q) t in
+          omega arith)
+          (λ t. let then = ap (marksLeft (registryOf vs) q) t in omega arith)

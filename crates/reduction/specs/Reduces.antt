@@ -1,0 +1,30 @@
+-- What a reduction in the words leaves.
+use Prim.Native.Nat.{ℕ, _<_}
+use mathlib.Core.Path.{_≡_}
+use mathlib.Core.Bool.{Bool, true, false}
+use mathlib.Core.List.{List}
+use lib.ListN.{length}
+use Rattle.entries.specs.declared.NodeId.{NodeId}
+use Rattle.entries.specs.declared.DependencyPathEntry.{DependencyPathEntry}
+use Rattle.rows.specs.Members.{membersOf}
+use Rattle.registry.specs.Words.{registryOf, Held}
+use Rattle.model.specs.Registry.{nodeLimit, PropertyPathRegistry, find, isChildBy}
+use Rattle.model.specs.Reduction.{Reduced}
+use Rattle.reduction.specs.declared.ReducedSet.{ReducedSet}
+
+-- node k is the child of p by the entry e
+pub record ChildAt (reg : PropertyPathRegistry) (p : NodeId) (e : DependencyPathEntry) (k : NodeId) : Type 0 where
+  pub inside : k .0 < length reg
+  pub first : find (isChildBy p e) reg ≡ k .0
+
+-- the model's value of a registry and a set as the code holds it
+abbrev pub reducedOf : PropertyPathRegistry → ReducedSet → Reduced
+reducedOf reg r = record { registry = reg; set = membersOf (r .set .words); changed = r .changed }
+
+-- The words hold what was to be reached, or that has no room.
+abbrev pub ReducesBy : Bool → Reduced → ReducedSet → List ℕ → List ℕ → Type 0
+ReducesBy true want r ws os = nodeLimit < length (want .registry)
+ReducesBy false want r ws os = Held ws os × (want ≡ reducedOf (registryOf ws) r)
+
+abbrev pub Reduces : Reduced → ReducedSet → List ℕ → List ℕ → Type 0
+Reduces want r ws os = ReducesBy (r .full) want r ws os

@@ -1,0 +1,174 @@
+// `reduce_maybe_optional_chains`: passes over a set's nodes with an optional entry until one changes nothing.
+ghost use mathlib.Core.Path.{_≡_};
+ghost use Prim.Native.Nat.{_<_};
+ghost use Rattle.entries.specs.declared.NodeId.{NodeId};
+ghost use Rattle.rows.specs.Members.{membersOf};
+ghost use Rattle.registry.specs.Words.{countIn, registryOf, Held, Arrives};
+ghost use Rattle.model.specs.Registry.{fullPathOf, walkPath};
+ghost use Rattle.model.specs.RegistryLaws.{Sound, stepFrom};
+ghost use Rattle.model.specs.Reduction.{reducedMark, reduceNode, pass, reduceMaybeOptionalChains};
+ghost use Rattle.model.specs.ReductionLaws.{Members};
+ghost use Rattle.reduction.specs.Reduces.{ChildAt, reducedOf, Reduces};
+use entries::DependencyPathEntry;
+use entries::NodeId;
+use registry::Entered;
+use registry::Node;
+use registry::get_or_create_property_entry;
+use registry::load;
+use rows::Next;
+use rows::NodeBits;
+
+// A set as it stands, whether its pass has changed it so far, and whether the registry had no room on the way.
+pub struct ReducedSet {
+    pub set: NodeBits,
+    pub changed: bool,
+    pub full: bool,
+}
+
+// An optional entry becomes plain where the node reached so far is in the set.
+fn reduced_mark(set: NodeBits, k: NodeId, e: DependencyPathEntry) -> bool
+    requires { ⌜ k .0 < 512 ⌝ }
+    ensures { λ r. ⌜ r ≡ reducedMark (membersOf (set .words)) k e ⌝ }
+{
+    if e.optional { !set.contains(k) } else { false }
+}
+
+// From q on by the entry e, under its mark there. Node k is the child of p by e: where q is p and the mark stays, there is nothing to look for.
+fn step(
+    ws: &mut [u64; 1537],
+    optional: &mut [u64; 8],
+    set: NodeBits,
+    k: NodeId,
+    p: NodeId,
+    e: DependencyPathEntry,
+    q: NodeId,
+) -> Entered
+    requires { ⌜ Held (now ws) (now optional) × (q .0 < countIn (now ws)) × ChildAt (registryOf (now ws)) p e k ⌝ }
+    ensures { λ r. ⌜ Arrives (stepFrom (reducedMark (membersOf (set .words))) (record { registry = registryOf (now (ws .entry)); node = q }) e) r (now (ws .exit)) (now (optional .exit)) ⌝ }
+{
+    let property = e.property;
+    let marked = e.optional;
+    let span = e.span;
+    let kept = reduced_mark(set, q, e);
+    if q.0 == p.0 {
+        if kept == marked {
+            return Entered::At(k);
+        }
+    }
+    get_or_create_property_entry(
+        ws,
+        optional,
+        q,
+        DependencyPathEntry {
+            property,
+            optional: kept,
+            span,
+        },
+    )
+}
+
+// The path of node k, walked again from its root under the marks that the set leaves.
+pub fn walk_again(
+    ws: &mut [u64; 1537],
+    optional: &mut [u64; 8],
+    set: NodeBits,
+    k: NodeId,
+) -> Entered
+    requires { ⌜ Held (now ws) (now optional) × Sound (registryOf (now ws)) × (k .0 < countIn (now ws)) ⌝ }
+    ensures { λ r. ⌜ Arrives (walkPath (reducedMark (membersOf (set .words))) (registryOf (now (ws .entry))) (fullPathOf (registryOf (now (ws .entry))) k)) r (now (ws .exit)) (now (optional .exit)) ⌝ }
+{
+    let n = load(ws, k.0);
+    match n {
+        Node::Root(_, _, _) => Entered::At(k),
+        Node::Child(p, e) => {
+            let Entered::At(q) = walk_again(ws, optional, set, p) else {
+                return Entered::Full;
+            };
+            step(ws, optional, set, k, p, e, q)
+        }
+    }
+}
+
+// One node of a pass: where its path leads elsewhere now, the node that it leads to takes its place at once.
+fn reduce_node(
+    ws: &mut [u64; 1537],
+    optional: &mut [u64; 8],
+    r: ReducedSet,
+    k: NodeId,
+) -> ReducedSet
+    requires { ⌜ Held (now ws) (now optional) × Sound (registryOf (now ws)) × (k .0 < countIn (now ws)) ⌝ }
+    ensures { λ s. ⌜ Reduces (reduceNode (reducedOf (registryOf (now (ws .entry))) r) k) s (now (ws .exit)) (now (optional .exit)) ⌝ }
+{
+    let set = r.set;
+    let changed = r.changed;
+    let Entered::At(q) = walk_again(ws, optional, set, k) else {
+        return ReducedSet {
+            set,
+            changed,
+            full: true,
+        };
+    };
+    if q.0 == k.0 {
+        ReducedSet {
+            set,
+            changed,
+            full: false,
+        }
+    } else {
+        let without = set.remove(k);
+        ReducedSet {
+            set: without.insert(q),
+            changed: true,
+            full: false,
+        }
+    }
+}
+
+// The set's nodes with an optional entry, ascending, as they are at the start.
+fn pass(ws: &mut [u64; 1537], optional: &mut [u64; 8], set: NodeBits) -> ReducedSet
+    requires { ⌜ Held (now ws) (now optional) × Sound (registryOf (now ws)) × Members (registryOf (now ws)) (membersOf (set .words)) ⌝ }
+    ensures { λ r. ⌜ Reduces (pass (registryOf (now (ws .entry))) (membersOf (set .words))) r (now (ws .exit)) (now (optional .exit)) ⌝ }
+{
+    let marked = NodeBits { words: *optional };
+    let snapshot = set.intersection(marked);
+    let mut r = ReducedSet {
+        set,
+        changed: false,
+        full: false,
+    };
+    let mut from: usize = 0;
+    while from < 512 {
+        let Next::At(k) = snapshot.next(from) else {
+            return r;
+        };
+        r = reduce_node(ws, optional, r, k);
+        if r.full {
+            return r;
+        }
+        from = k.0 + 1;
+    }
+    r
+}
+
+// Passes until one changes nothing.
+pub fn reduce_maybe_optional_chains(
+    ws: &mut [u64; 1537],
+    optional: &mut [u64; 8],
+    set: NodeBits,
+) -> ReducedSet
+    requires { ⌜ Held (now ws) (now optional) × Sound (registryOf (now ws)) × Members (registryOf (now ws)) (membersOf (set .words)) ⌝ }
+    ensures { λ r. ⌜ Reduces (reduceMaybeOptionalChains (registryOf (now (ws .entry))) (membersOf (set .words))) r (now (ws .exit)) (now (optional .exit)) ⌝ }
+{
+    let mut r = ReducedSet {
+        set,
+        changed: true,
+        full: false,
+    };
+    while r.changed {
+        r = pass(ws, optional, r.set);
+        if r.full {
+            return r;
+        }
+    }
+    r
+}
