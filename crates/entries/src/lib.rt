@@ -1,6 +1,7 @@
 // The types that all crates share. A number is kept in a struct of its own where the Rust keeps it apart from other numbers.
 ghost use mathlib.Core.Path.{_≡_};
 ghost use Rattle.entries.specs.Path.{sameProperty, sameEntry};
+ghost use Rattle.entries.specs.Refusals.{refusalNumber};
 
 // A variable of the compiled function (`IdentifierId` of the Rust).
 pub struct IdentifierId(pub u32);
@@ -83,4 +84,23 @@ pub enum Refusal {
     RepeatedId,
     UnknownBlock,
     ManyNodes,
+}
+
+impl Refusal {
+    // Document 01's number.
+    pub fn number(self) -> u8
+        ensures { λ r. ⌜ r ≡ refusalNumber self ⌝ }
+    {
+        match self {
+            Refusal::ShortBuffer => 1,
+            Refusal::LongJob => 2,
+            Refusal::MissingByte => 3,
+            Refusal::WrongMark => 4,
+            Refusal::OutOfRange => 5,
+            Refusal::ExtraByte => 6,
+            Refusal::RepeatedId => 7,
+            Refusal::UnknownBlock => 8,
+            Refusal::ManyNodes => 9,
+        }
+    }
 }

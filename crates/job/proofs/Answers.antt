@@ -1,0 +1,68 @@
+-- From the answer for the records to the answer for the job: what was stored, and refusals 7 and 8.
+-- Assumes nothing.
+use Prim.Native.Nat.{ℕ, _≤_}
+use mathlib.Core.Path.{_≡_, refl, sym, ap, _∙_}
+use mathlib.Core.List.{List}
+use native.Mathlib.Omega.{arith}
+use lib.ListN.{length}
+use lib.Seq.{sets, length-sets}
+use Rattle.entries.specs.declared.Refusal.{Refusal}
+use Rattle.model.specs.Read.{Read, andThen}
+use Rattle.model.specs.Job.{HD, Header, Block, Job, readBlock, readRecords, acceptIds, readJob}
+use Rattle.job.specs.Ids.{checkedBy}
+use Rattle.job.specs.Kept.{blockNotes, blockPlaces, blockNumbers, answerOf}
+use Rattle.job.specs.declared.JobHead.{JobHead}
+use Rattle.job.specs.declared.ReadJob.the-variants.{Value, Refused}
+use Rattle.job.proofs.Bounds.{held, blocks-most}
+use Rattle.job.proofs.Many.{many-length, notes-length}
+use Rattle.job.proofs.Stored.{Stored, stored}
+use Rattle.job.proofs.Records.{Parts, parts, answer-value, answer-refused}
+use Rattle.job.proofs.Noted.{checked-is}
+
+pub job-fields : (s : List ℕ) → readJob HD 4 s ≡ andThen (readRecords HD 4 s) acceptIds
+unfolding readJob
+job-fields s = refl
+
+-- a job whose records are refused is refused for that
+pub job-refused : (s : List ℕ) {r : Refusal} → Refused r ≡ answerOf s (readRecords HD 4 s) → Refused r ≡ answerOf s (readJob HD 4 s)
+job-refused s e = rw (job-fields, answer-refused s (readRecords HD 4 s) e)
+
+-- the records were read: the job j has the parts p
+module _ (s : List ℕ) (j : Job) (p : Parts s j) where
+  pub block-count : length (j .blocks) ≡ p .header .blocks
+  block-count = many-length (readBlock 4) s (p .header .blocks) (p .blocksAt) (p .blocks-read)
+
+  few : p .header .blocks ≤ 128
+  few = held (λ (h : Header). h .blocks ≤ 128) (p .header-read) (blocks-most HD s 0)
+
+  pub note-count : (f : ℕ → Block → ℕ) → length (blockNotes f s) ≡ p .header .blocks
+  unfolding blockNotes
+  note-count f = rw (p .header-read) (notes-length (readBlock 4) s f (p .header .blocks) (p .blocksAt) (p .blocks-read))
+
+  pub notes-stored : (f : ℕ → Block → ℕ) (l r : List ℕ) → length l ≡ 128 → r ≡ sets l 0 (blockNotes f s) → Stored (blockNotes f s) r (length (j .blocks))
+  notes-stored f l r wide =
+      stored l (blockNotes f s) r (length (j .blocks)) (omega (arith, note-count f, few, wide)) (block-count ∙ sym (note-count f))
+
+module _ (s : List ℕ) {h : JobHead} (e : Value h ≡ answerOf s (readRecords HD 4 s)) where
+  pub blocks-few : h .blocks ≤ 128
+  blocks-few =
+      let v = answer-value s (readRecords HD 4 s) e in
+      let p = parts s (v .2) .0 in
+      omega (arith, ap (λ (h : JobHead). h .blocks) (v .3), block-count s (v .0) p, few s (v .0) p)
+
+  -- an array of 128 has room for a note of each block
+  pub blocks-stored : (f : ℕ → Block → ℕ) (l r : List ℕ) → length l ≡ 128 → r ≡ sets l 0 (blockNotes f s) → Stored (blockNotes f s) r (h .blocks)
+  blocks-stored f l r wide kept =
+      let v = answer-value s (readRecords HD 4 s) e in
+      rw (v .3) (notes-stored s (v .0) (parts s (v .2) .0) f l r wide kept)
+
+  -- the same where the length of the array is known after the notes were stored
+  pub blocks-stored-in : (f : ℕ → Block → ℕ) (l r : List ℕ) → length r ≡ 128 → r ≡ sets l 0 (blockNotes f s) → Stored (blockNotes f s) r (h .blocks)
+  blocks-stored-in f l r wide kept = blocks-stored f l r (sym (ap length kept ∙ length-sets l 0 (blockNotes f s)) ∙ wide) kept
+
+  pub job-checked : checkedBy s (blockNumbers s) (blockPlaces s) h ≡ answerOf s (readJob HD 4 s)
+  job-checked =
+      let v = answer-value s (readRecords HD 4 s) e in
+      ap (λ (h : JobHead). checkedBy s (blockNumbers s) (blockPlaces s) h) (v .3)
+      ∙ checked-is s (v .0) (parts s (v .2) .0) (v .1)
+      ∙ sym (ap (λ (x : Read Job). answerOf s x) (job-fields s ∙ ap (λ (x : Read Job). andThen x acceptIds) (v .2)))

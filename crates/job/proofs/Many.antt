@@ -1,0 +1,62 @@
+-- Records one after the other: what holds of none, and of one more in front, holds of all that were read.
+-- Assumes nothing.
+use Prim.Native.Nat.{ℕ, zero, suc, _-_, _<_}
+use mathlib.Core.Path.{_≡_, refl, ap}
+use mathlib.Core.List.{List, [], _∷_}
+use native.Mathlib.Omega.{arith}
+use lib.ListN.{length, getD, drop}
+use Rattle.model.specs.Read.{Read, got, refused, Reader, mapped, both, readMany}
+use Rattle.job.specs.Passing.{notes}
+use Rattle.job.proofs.Bounds.{Holds, held}
+use Rattle.job.proofs.Passing.{both-got}
+
+pub holds-mapped : {A B : Type 0} (P : A → Type 0) (Q : B → Type 0) (f : A → B) → ((a : A) → P a → Q (f a))
+    → (x : Read A) → Holds P x → Holds Q (mapped f x)
+holds-mapped P Q f h (got a n) p = h a p
+holds-mapped P Q f h (refused r) p = tt
+
+module _ {A : Type 0} (read : Reader A) (s : List ℕ) where
+  module _ (Q : ℕ → ℕ → List A → Type 0) (none : (at : ℕ) → Q 0 at [])
+      (more : (n at next : ℕ) (a : A) (rest : List A) → read s at ≡ got a next → Q n next rest → Q (suc n) at (a ∷ rest)) where
+    one-more : (n at : ℕ) → ((at : ℕ) → Holds (Q n at) (readMany n read s at)) → (x : Read A) → read s at ≡ x
+        → Holds (Q (suc n) at) (both (λ first rest. first ∷ rest) x (readMany n read s))
+    one-more n at ih (got a next) e =
+        holds-mapped (Q n next) (Q (suc n) at) (λ rest. a ∷ rest) (λ rest q. more n at next a rest e q) (readMany n read s next) (ih next)
+    one-more n at ih (refused r) e = tt
+
+    pub many-holds : (n at : ℕ) → Holds (Q n at) (readMany n read s at)
+    many-holds zero at = none at
+    many-holds (suc n) at = one-more n at (many-holds n) (read s at) refl
+
+    pub many-all : (n at : ℕ) {all : List A} {end : ℕ} → readMany n read s at ≡ got all end → Q n at all
+    many-all n at e = held (Q n at) e (many-holds n at)
+
+  -- the first record, and the others from the place after it
+  pub many-first : (n at : ℕ) {all : List A} {end : ℕ} → 0 < n → readMany n read s at ≡ got all end
+      → (a : A) × (next : ℕ) × (rest : List A) × (read s at ≡ got a next) × (readMany (n - 1) read s next ≡ got rest end) × (a ∷ rest ≡ all)
+  many-first zero at h e = absurd (omega arith)
+  many-first (suc n) at h e =
+      let z : suc n - 1 ≡ n = omega arith in
+      rw z (both-got (λ first rest. first ∷ rest) (read s at) (readMany n read s) e)
+
+  pub many-length : (n at : ℕ) {all : List A} {end : ℕ} → readMany n read s at ≡ got all end → length all ≡ n
+  many-length = many-all (λ n at all. length all ≡ n) (λ at. refl) (λ n at next a rest e q. ap suc q)
+
+  -- each record that was read is noted
+  pub notes-length : {B : Type 0} (f : ℕ → A → B) (n at : ℕ) {all : List A} {end : ℕ} → readMany n read s at ≡ got all end
+      → length (notes f n read s at) ≡ n
+  notes-length f = many-all (λ n at all. length (notes f n read s at) ≡ n) (λ at. refl) (λ n at next a rest e q. rw e (ap suc q))
+
+  -- the k-th record is read again at the k-th place noted
+  abbrev pub Again : List ℕ → List A → ℕ → Type 0
+  Again places all k = (a : A) × (next : ℕ) × (read s (getD places k 0) ≡ got a next) × (drop k all ≡ a ∷ drop (suc k) all)
+
+  pub read-again : (n at : ℕ) {all : List A} {end : ℕ} → readMany n read s at ≡ got all end
+      → (k : ℕ) → k < n → Again (notes (λ at _. at) n read s at) all k
+  read-again = many-all (λ n at all. (k : ℕ) → k < n → Again (notes (λ at _. at) n read s at) all k) (λ at k h. absurd (omega arith)) more
+    where
+      more : (n at next : ℕ) (a : A) (rest : List A) → read s at ≡ got a next
+          → ((k : ℕ) → k < n → Again (notes (λ at _. at) n read s next) rest k)
+          → (k : ℕ) → k < suc n → Again (notes (λ at _. at) (suc n) read s at) (a ∷ rest) k
+      more n at next a rest e q zero h = rw e (a, next, e, refl)
+      more n at next a rest e q (suc k) h = rw e (q k (omega arith))

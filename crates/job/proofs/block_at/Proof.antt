@@ -1,0 +1,133 @@
+-- `job::block_at` meets its contract: head, predecessors and paths one after the other; the id is known before the rest.
+-- Assumes nothing.
+use borrow.Author.Needs.{needs}
+use mathlib.Core.Path.{_≡_, refl}
+use mathlib.Core.List.{List}
+use Prim.Native.Nat.{ℕ}
+use Rattle.entries.specs.declared.BlockId.{BlockId}
+use Rattle.entries.specs.Path.{ReactiveScopeDependency}
+use Rattle.model.specs.Read.{Read, andThen, mapped, both}
+use Rattle.model.specs.Job.{Block}
+use Rattle.fields.specs.Answer.{gotPlace}
+use Rattle.fields.proofs.Reading.{seen}
+use Rattle.job.specs.Passing.{passed}
+use Rattle.job.specs.Answer.{gotBlockHead}
+use Rattle.job.specs.declared.BlockHead.{BlockHead}
+use Rattle.job.proofs.Heads.{blockOf, block-by-head}
+use Rattle.job.proofs.Passing.{viewed-both}
+use Rattle.job.proofs.block_at.Statement.{statement}
+use Rattle.job.proofs.block_at.Tie as tie
+
+-- the id does not wait for what follows it
+id-is : (head : BlockHead) (x : Read (List BlockId)) (rest : ℕ → Read (List ReactiveScopeDependency))
+    → mapped (λ (b : Block). b .id) (both (blockOf head) x rest) ≡ andThen (passed x) (λ _ next. mapped (λ _. head .id) (passed (rest next)))
+id-is head = viewed-both (λ (b : Block). b .id) (blockOf head) (head .id) (λ ids paths. refl)
+
+block-head-at-requires : tie.Need-block-head-at-requires
+block-head-at-requires c κs = search needs
+
+enum-known-head-field : tie.Need-enum-known-head-field
+enum-known-head-field c = search needs
+
+enum-told : tie.Need-enum-told
+enum-told c = search needs
+
+refusal-requires : tie.Need-refusal-requires
+refusal-requires c κs = search needs
+
+returns : tie.Need-returns
+returns c =
+    let told = c .before .enum-told .given .1 in
+    rw (block-by-head, seen gotBlockHead (c .before .before .before .block-head-at .ensures) told, c .refusal .ensures, told)
+
+ids-from-requires : tie.Need-ids-from-requires
+ids-from-requires c κs = search needs
+
+enum-known-ids : tie.Need-enum-known-ids
+enum-known-ids c = search needs
+
+enum-told-2 : tie.Need-enum-told-2
+enum-told-2 c = search needs
+
+refusal-requires-2 : tie.Need-refusal-requires-2
+refusal-requires-2 c κs = search needs
+
+returns-2 : tie.Need-returns-2
+returns-2 c =
+    let call = c .before .before .before in
+    let head-field = call .before .before in
+    let told = c .before .enum-told2 .given .1 in
+    rw (
+      block-by-head,
+      seen gotBlockHead (head-field .before .before .block-head-at .ensures) (head-field .head-field .given .1),
+      id-is,
+      seen gotPlace (call .ids-from .ensures) told,
+      c .refusal2 .ensures,
+      told,
+    )
+
+cast-paths-from : tie.Need-cast-paths-from
+cast-paths-from c = search needs
+
+paths-from-requires : tie.Need-paths-from-requires
+paths-from-requires c κs = search needs
+
+enum-known-paths : tie.Need-enum-known-paths
+enum-known-paths c = search needs
+
+enum-told-3 : tie.Need-enum-told-3
+enum-told-3 c = search needs
+
+refusal-requires-3 : tie.Need-refusal-requires-3
+refusal-requires-3 c κs = search needs
+
+returns-3 : tie.Need-returns-3
+returns-3 c =
+    let call = c .before .before .before in
+    let ids = call .before .before .before in
+    let head-field = ids .before .before .before .before in
+    let told = c .before .enum-told3 .given .1 in
+    rw (
+      block-by-head,
+      seen gotBlockHead (head-field .before .before .block-head-at .ensures) (head-field .head-field .given .1),
+      id-is,
+      seen gotPlace (ids .before .before .ids-from .ensures) (ids .ids .given .1),
+      seen gotPlace (call .paths-from .ensures) told,
+      c .refusal3 .ensures,
+      told,
+    )
+
+returns-4 : tie.Need-returns-4
+returns-4 c =
+    let paths = c .before .before in
+    let ids = paths .before .before .before .before .before in
+    let head-field = ids .before .before .before .before in
+    rw (
+      block-by-head,
+      seen gotBlockHead (head-field .before .before .block-head-at .ensures) (head-field .head-field .given .1),
+      id-is,
+      seen gotPlace (ids .before .before .ids-from .ensures) (ids .ids .given .1),
+      seen gotPlace (paths .before .before .paths-from .ensures) (paths .paths .given .1),
+    )
+
+pub block-at-spec : {M : Type 1} → statement M
+block-at-spec =
+    tie.close
+    (tie.spec
+    block-head-at-requires
+    enum-known-head-field
+    enum-told
+    refusal-requires
+    returns
+    ids-from-requires
+    enum-known-ids
+    enum-told-2
+    refusal-requires-2
+    returns-2
+    cast-paths-from
+    paths-from-requires
+    enum-known-paths
+    enum-told-3
+    refusal-requires-3
+    returns-3
+    returns-4)

@@ -1,0 +1,50 @@
+-- `job::ids::predecessors_at` meets its contract: the head says how many ids follow it, and they are at most 64.
+-- Assumes nothing.
+use borrow.Author.Needs.{needs}
+use Prim.Native.Nat.{_≤_}
+use Rattle.fields.proofs.Reading.{seen}
+use Rattle.job.specs.Ids.{predecessorsAt}
+use Rattle.job.specs.Answer.{gotBlockHead}
+use Rattle.job.specs.declared.BlockHead.{BlockHead}
+use Rattle.job.proofs.Bounds.{held, predecessors-most}
+use Rattle.job.proofs.ids.predecessors_at.Statement.{statement}
+use Rattle.job.proofs.ids.predecessors_at.Tie as tie
+
+block-head-at-requires : tie.Need-block-head-at-requires
+block-head-at-requires c κs = search needs
+
+enum-known-head-field : tie.Need-enum-known-head-field
+enum-known-head-field c = search needs
+
+enum-told : tie.Need-enum-told
+enum-told c = search needs
+
+returns : tie.Need-returns
+unfolding predecessorsAt
+returns c =
+    let head = seen gotBlockHead (c .before .before .block-head-at .ensures) (c .enum-told .given .1) in
+    (rw head, rw head)
+
+ids-into-requires : tie.Need-ids-into-requires
+ids-into-requires c κs =
+    let field = c .before .before in
+    let head = seen gotBlockHead (field .before .before .block-head-at .ensures) (field .head-field .given .1) in
+    held (λ (h : BlockHead). h .predecessors ≤ 64) head (predecessors-most _ _)
+
+returns-2 : tie.Need-returns-2
+unfolding predecessorsAt
+returns-2 c =
+    let field = c .before .before .before in
+    let head = seen gotBlockHead (field .before .before .block-head-at .ensures) (field .head-field .given .1) in
+    (rw head (c .ids-into .ensures .0), rw head (c .ids-into .ensures .1))
+
+pub predecessors-at-spec : {M : Type 1} → statement M
+predecessors-at-spec =
+    tie.close
+    (tie.spec
+    block-head-at-requires
+    enum-known-head-field
+    enum-told
+    returns
+    ids-into-requires
+    returns-2)

@@ -1,0 +1,69 @@
+-- `job::ids::stray_in` meets its contract, as `contains_from` does: an id of the rest from here is none of the known ones if one of the whole is.
+-- Assumes nothing.
+use borrow.Author.Needs.{needs}
+use Prim.Native.Nat.{_-_}
+use mathlib.Core.Path.{_≡_, refl, sym, _∙_}
+use lib.ListN.{length, drop}
+use Rattle.job.specs.Ids.{blockIds, strays}
+use Rattle.job.proofs.IdLists.{strays-none, strays-here, strays-next}
+use Rattle.job.proofs.ids.stray_in.Statement.{statement}
+use Rattle.job.proofs.ids.stray_in.Tie as tie
+
+abbrev Inv-loop : tie.InvT-loop
+Inv-loop ids known i₀ i = strays (blockIds known) (blockIds (drop i ids)) ≡ strays (blockIds known) (blockIds ids)
+
+abbrev μ-loop : tie.MeasureT-loop
+μ-loop ids known i₀ i = length ids - i
+
+loop-holds : tie.Need-loop-holds Inv-loop μ-loop
+loop-holds c = refl
+
+mul-contains-from : tie.Need-mul-contains-from Inv-loop μ-loop
+mul-contains-from c = search needs
+
+shared-slice-read-contains-from : tie.Need-shared-slice-read-contains-from Inv-loop μ-loop
+shared-slice-read-contains-from c = search needs
+
+contains-from-requires : tie.Need-contains-from-requires Inv-loop μ-loop
+contains-from-requires c κs = search needs
+
+add-i : tie.Need-add-i Inv-loop μ-loop
+add-i c = search needs
+
+loop-less : tie.Need-loop-less Inv-loop μ-loop
+loop-less c = search needs
+
+loop-again : tie.Need-loop-again Inv-loop μ-loop
+loop-again c =
+    let known = c .before .before .before .before .before .before .before .args .known .now in
+    let turn = c .before .before .before in
+    let found = sym (c .before .contains-from .ensures) ∙ c .if1 .taken in
+    sym (strays-next _ _ known (turn .loop-test .taken) found) ∙ turn .before .loop .inv
+
+returns : tie.Need-returns Inv-loop μ-loop
+returns c =
+    let known = c .before .before .before .before .before .before .before .args .known .now in
+    let turn = c .before .before .before in
+    let found = sym (c .before .contains-from .ensures) ∙ c .if1 .left in
+    sym (strays-here _ _ known (turn .loop-test .taken) found) ∙ turn .before .loop .inv
+
+returns-2 : tie.Need-returns-2 Inv-loop μ-loop
+returns-2 c =
+    let known = c .before .before .before .before .args .known .now in
+    sym (strays-none _ _ known (c .loop-test .left)) ∙ c .before .loop .inv
+
+pub stray-in-spec : {M : Type 1} → statement M
+stray-in-spec =
+    tie.close
+    (tie.spec
+    Inv-loop
+    μ-loop
+    loop-holds
+    mul-contains-from
+    shared-slice-read-contains-from
+    contains-from-requires
+    add-i
+    loop-less
+    loop-again
+    returns
+    returns-2)

@@ -1,0 +1,146 @@
+-- `job::records_of` meets its contract: header, blocks and candidates one after the other. The laws of `Records` say how far the definition goes.
+-- Assumes nothing.
+use borrow.Author.Needs.{needs}
+use Prim.Native.Nat.{_≤_}
+use mathlib.Core.Path.{sym}
+use Rattle.model.specs.Job.{HD, Header}
+use Rattle.fields.specs.Answer.{gotPlace}
+use Rattle.fields.proofs.Reading.{seen}
+use Rattle.job.specs.Kept.{blockNotes}
+use Rattle.job.specs.Answer.{gotHeader}
+use Rattle.job.proofs.Bounds.{held, blocks-most}
+use Rattle.job.proofs.Records.{records-fields, blocks-refused, candidates-refused, byte-extra, all-read}
+use Rattle.job.proofs.records_of.Statement.{statement}
+use Rattle.job.proofs.records_of.Tie as tie
+
+header-at-requires : tie.Need-header-at-requires
+header-at-requires c κs = search needs
+
+enum-known-header-field : tie.Need-enum-known-header-field
+enum-known-header-field c = search needs
+
+enum-told : tie.Need-enum-told
+enum-told c = search needs
+
+refusal-requires : tie.Need-refusal-requires
+refusal-requires c κs = search needs
+
+returns : tie.Need-returns
+unfolding blockNotes
+returns c =
+    let told = c .before .enum-told .given .1 in
+    let head = seen gotHeader (c .before .before .before .header-at .ensures) told in
+    (rw (records-fields, head, c .refusal .ensures, told), (rw head, rw head))
+
+blocks-from-requires : tie.Need-blocks-from-requires
+blocks-from-requires c κs =
+    let header = c .before .before .before in
+    let head = seen gotHeader (header .before .before .header-at .ensures) (header .header-field .given .1) in
+    held (λ (h : Header). h .blocks ≤ 128) head (blocks-most HD _ 0)
+
+enum-known-past-blocks : tie.Need-enum-known-past-blocks
+enum-known-past-blocks c = search needs
+
+enum-told-2 : tie.Need-enum-told-2
+enum-told-2 c = search needs
+
+refusal-requires-2 : tie.Need-refusal-requires-2
+refusal-requires-2 c κs = search needs
+
+returns-2 : tie.Need-returns-2
+unfolding blockNotes
+returns-2 c =
+    let blocks-call = c .before .before .before in
+    let header = blocks-call .before .before .before .before in
+    let head = seen gotHeader (header .before .before .header-at .ensures) (header .header-field .given .1) in
+    let told = c .before .enum-told2 .given .1 in (
+      rw (blocks-refused _ head (seen gotPlace (blocks-call .blocks-from .ensures .0) told), c .refusal2 .ensures, told),
+      (rw head (blocks-call .blocks-from .ensures .1 .0), rw head (blocks-call .blocks-from .ensures .1 .1)),
+    )
+
+paths-from-requires : tie.Need-paths-from-requires
+paths-from-requires c κs = search needs
+
+enum-known-past-candidates : tie.Need-enum-known-past-candidates
+enum-known-past-candidates c = search needs
+
+enum-told-3 : tie.Need-enum-told-3
+enum-told-3 c = search needs
+
+refusal-requires-3 : tie.Need-refusal-requires-3
+refusal-requires-3 c κs = search needs
+
+returns-3 : tie.Need-returns-3
+unfolding blockNotes
+returns-3 c =
+    let call = c .before .before .before in
+    let blocks = call .before .before in
+    let blocks-call = blocks .before .before in
+    let header = blocks-call .before .before .before .before in
+    let head = seen gotHeader (header .before .before .header-at .ensures) (header .header-field .given .1) in
+    let past = seen gotPlace (blocks-call .blocks-from .ensures .0) (blocks .past-blocks .given .1) in
+    let told = c .before .enum-told3 .given .1 in (
+      rw (candidates-refused _ head past (seen gotPlace (call .paths-from .ensures) told), c .refusal3 .ensures, told),
+      (rw head (blocks-call .blocks-from .ensures .1 .0), rw head (blocks-call .blocks-from .ensures .1 .1)),
+    )
+
+returns-4 : tie.Need-returns-4
+unfolding blockNotes
+returns-4 c =
+    let candidates = c .before .before in
+    let call = candidates .before .before in
+    let blocks = call .before .before in
+    let blocks-call = blocks .before .before in
+    let header = blocks-call .before .before .before .before in
+    let head = seen gotHeader (header .before .before .header-at .ensures) (header .header-field .given .1) in
+    let past = seen gotPlace (blocks-call .blocks-from .ensures .0) (blocks .past-blocks .given .1) in
+    let last = seen gotPlace (call .paths-from .ensures) (candidates .past-candidates .given .1) in (
+      rw (byte-extra _ head past last (c .if1 .taken)),
+      (rw head (blocks-call .blocks-from .ensures .1 .0), rw head (blocks-call .blocks-from .ensures .1 .1)),
+    )
+
+cast-t17 : tie.Need-cast-t17
+cast-t17 c = search needs
+
+cast-t20 : tie.Need-cast-t20
+cast-t20 c = search needs
+
+returns-5 : tie.Need-returns-5
+unfolding blockNotes
+returns-5 c =
+    let test = c .before .before .before in
+    let candidates = test .before .before in
+    let call = candidates .before .before in
+    let blocks = call .before .before in
+    let blocks-call = blocks .before .before in
+    let header = blocks-call .before .before .before .before in
+    let head = seen gotHeader (header .before .before .header-at .ensures) (header .header-field .given .1) in
+    let past = seen gotPlace (blocks-call .blocks-from .ensures .0) (blocks .past-blocks .given .1) in
+    let last = seen gotPlace (call .paths-from .ensures) (candidates .past-candidates .given .1) in (
+      sym (all-read _ head past last (test .if1 .left)),
+      (rw head (blocks-call .blocks-from .ensures .1 .0), rw head (blocks-call .blocks-from .ensures .1 .1)),
+    )
+
+pub records-of-spec : {M : Type 1} → statement M
+records-of-spec =
+    tie.close
+    (tie.spec
+    header-at-requires
+    enum-known-header-field
+    enum-told
+    refusal-requires
+    returns
+    blocks-from-requires
+    enum-known-past-blocks
+    enum-told-2
+    refusal-requires-2
+    returns-2
+    paths-from-requires
+    enum-known-past-candidates
+    enum-told-3
+    refusal-requires-3
+    returns-3
+    returns-4
+    cast-t17
+    cast-t20
+    returns-5)

@@ -1,0 +1,21 @@
+-- What stands before the repeated parts of a path and of a block. `proofs/Heads.antt` shows that the records are these and what follows.
+use Rattle.model.specs.Read.{Reader, got, andThen, readNumber, readMark, readWithin, readFlag}
+use Rattle.model.specs.Job.{BL, readBlockId}
+use Rattle.job.specs.declared.PathHead.{PathHead}
+use Rattle.job.specs.declared.BlockHead.{BlockHead}
+
+unfoldable pub readPathHead : Reader PathHead
+readPathHead s at =
+    andThen (readNumber 4 s at) (λ identifier reactiveAt.
+    andThen (readFlag s reactiveAt) (λ reactive spanAt.
+    andThen (readNumber 4 s spanAt) (λ span entriesAt.
+    andThen (readWithin 0 16 (readNumber 1) s entriesAt) (λ entries next.
+    got (record { identifier = record { 0 = identifier }; reactive = reactive; span = span; entries = entries }) next))))
+
+unfoldable pub readBlockHead : Reader BlockHead
+readBlockHead s at =
+    andThen (readMark BL s at) (λ _ idAt.
+    andThen (readBlockId s idAt) (λ id countAt.
+    andThen (readWithin 0 64 (readNumber 1) s countAt) (λ predecessors assumedAt.
+    andThen (readNumber 1 s assumedAt) (λ assumed next.
+    got (record { id = id; predecessors = predecessors; assumed = assumed }) next))))

@@ -1,0 +1,47 @@
+-- Refusals 7 and 8 by what was noted of the blocks: their ids, and the places at which their predecessors are read again.
+use Prim.Native.Nat.{ℕ}
+use mathlib.Core.Bool.{Bool, _||_, not, cond}
+use mathlib.Core.List.{List, map}
+use Rattle.entries.specs.declared.BlockId.{BlockId}
+use Rattle.entries.specs.declared.Refusal.the-variants.{RepeatedId, UnknownBlock}
+use Rattle.model.specs.Lists.{anyOf}
+use Rattle.model.specs.Read.{readNumber}
+use Rattle.model.specs.Job.{containsId, repeats}
+use Rattle.job.specs.Passing.{orNone, notes, itself}
+use Rattle.job.specs.Head.{readBlockHead}
+use Rattle.job.specs.declared.BlockHead.{BlockHead}
+use Rattle.job.specs.declared.JobHead.{JobHead}
+use Rattle.job.specs.declared.ReadJob.{ReadJob}
+use Rattle.job.specs.declared.ReadJob.the-variants.{Value, Refused}
+
+-- the arrays of the code hold the numbers of ids
+abbrev pub blockId : ℕ → BlockId
+blockId i = record { 0 = i }
+
+abbrev pub blockIds : List ℕ → List BlockId
+blockIds ids = map blockId ids
+
+-- an id is none of the known ones
+abbrev pub strays : List BlockId → List BlockId → Bool
+strays known ids = anyOf (λ i. not (containsId known i)) ids
+
+-- the numbers of the predecessors of the block at a place
+unfoldable pub predecessorsAt : List ℕ → ℕ → List ℕ
+predecessorsAt s at = orNone (readBlockHead s at) (λ (head : BlockHead) idsAt. notes itself (head .predecessors) (readNumber 4) s idsAt)
+
+abbrev pub repeatsAt : List ℕ → ℕ → Bool
+repeatsAt s at = repeats (blockIds (predecessorsAt s at))
+
+abbrev pub straysAt : List ℕ → List ℕ → ℕ → Bool
+straysAt s known at = strays (blockIds known) (blockIds (predecessorsAt s at))
+
+-- 7 and 8, of the blocks with these ids at these places
+abbrev pub repeatedIn : List ℕ → List ℕ → List ℕ → Bool
+repeatedIn s ids places = repeats (blockIds ids) || anyOf (repeatsAt s) places
+
+abbrev pub unknownIn : List ℕ → List ℕ → List ℕ → BlockId → Bool
+unknownIn s ids places scope = anyOf (straysAt s ids) places || not (containsId (blockIds ids) scope)
+
+unfoldable pub checkedBy : List ℕ → List ℕ → List ℕ → JobHead → ReadJob
+checkedBy s ids places head =
+    cond (repeatedIn s ids places) (Refused RepeatedId) (cond (unknownIn s ids places (head .scope)) (Refused UnknownBlock) (Value head))

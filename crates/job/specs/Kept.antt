@@ -1,0 +1,44 @@
+-- What the reader keeps of a job: the header, the place of the candidates, and a note of each block.
+use Prim.Native.Nat.{ℕ}
+use mathlib.Core.List.{List}
+use lib.ListN.{length}
+use Rattle.model.specs.Read.{Read, got, refused, andThen, readMany}
+use Rattle.model.specs.Job.{HD, Header, Block, Job, readHeader, readBlock}
+use Rattle.job.specs.Passing.{orNone, notes}
+use Rattle.job.specs.declared.JobHead.{JobHead}
+use Rattle.job.specs.declared.ReadJob.{ReadJob}
+use Rattle.job.specs.declared.ReadJob.the-variants.{Value, Refused}
+
+abbrev pub placeOf : ℕ → Block → ℕ
+placeOf at b = at
+
+abbrev pub numberOf : ℕ → Block → ℕ
+numberOf at b = b .id .0
+
+-- of each block that was read, what f makes of its place and the block
+unfoldable pub blockNotes : (ℕ → Block → ℕ) → List ℕ → List ℕ
+blockNotes f s = orNone (readHeader HD s 0) (λ (header : Header) blocksAt. notes f (header .blocks) (readBlock 4) s blocksAt)
+
+-- where each block's record starts, and the number of its id
+abbrev pub blockPlaces : List ℕ → List ℕ
+blockPlaces s = blockNotes placeOf s
+
+abbrev pub blockNumbers : List ℕ → List ℕ
+blockNumbers s = blockNotes numberOf s
+
+-- the place after a value; of no use where there is none
+abbrev pub placeAfter : {A : Type 0} → Read A → ℕ
+placeAfter (got a next) = next
+placeAfter (refused r) = 0
+
+-- the place after the blocks
+unfoldable pub candidatesAt : List ℕ → ℕ
+candidatesAt s = placeAfter (andThen (readHeader HD s 0) (λ (header : Header) blocksAt. readMany (header .blocks) (readBlock 4) s blocksAt))
+
+abbrev pub headOf : List ℕ → Job → JobHead
+headOf s job = record { blocks = length (job .blocks); candidates = length (job .candidates); scope = job .scope; «candidates_at» = candidatesAt s }
+
+-- the answer that stands for a reading of the whole job
+abbrev pub answerOf : List ℕ → Read Job → ReadJob
+answerOf s (got job end) = Value (headOf s job)
+answerOf s (refused r) = Refused r

@@ -1,0 +1,5 @@
+pub mod Passing
+pub mod Head
+pub mod Answer
+pub mod Ids
+pub mod Kept

@@ -1,0 +1,22 @@
+-- What a pass over records finds out: the place after them, and a note of each that was read.
+use Prim.Native.Nat.{ℕ, zero, suc}
+use mathlib.Core.List.{List, [], _∷_}
+use Rattle.model.specs.Read.{Read, got, refused, Reader}
+
+-- the place alone
+abbrev pub passed : {A : Type 0} → Read A → Read Unit
+passed (got a next) = got tt next
+passed (refused r) = refused r
+
+abbrev pub orNone : {A B : Type 0} → Read A → (A → ℕ → List B) → List B
+orNone (got a next) rest = rest a next
+orNone (refused r) rest = []
+
+-- of each record up to the first refusal, what f makes of its place and its value
+abbrev pub notes : {A B : Type 0} → (ℕ → A → B) → ℕ → Reader A → List ℕ → ℕ → List B
+notes f zero read s at = []
+notes f (suc n) read s at = orNone (read s at) (λ a next. f at a ∷ notes f n read s next)
+
+-- a value that is its own note
+abbrev pub itself : ℕ → ℕ → ℕ
+itself at x = x

@@ -1,0 +1,174 @@
+// Refusals 7 and 8: the ids of the blocks among each other, and the predecessors of each block, read again at its place.
+use crate::JobHead;
+use crate::ReadBlockHead;
+use crate::ReadJob;
+use entries::BlockId;
+use entries::Refusal;
+use fields::ReadU32;
+ghost use mathlib.Core.Path.{_≡_};
+ghost use Prim.Native.Nat.{_≤_};
+ghost use lib.ListN.{length, take, drop};
+ghost use lib.Seq.{sets};
+ghost use Rattle.model.specs.Lists.{anyOf};
+ghost use Rattle.model.specs.Read.{readNumber};
+ghost use Rattle.model.specs.Job.{containsId, repeats};
+ghost use Rattle.job.specs.Passing.{notes, itself};
+ghost use Rattle.job.specs.Ids.{blockId, blockIds, strays, predecessorsAt, repeatsAt, straysAt, repeatedIn, unknownIn, checkedBy};
+
+// Whether an id stands among others, from a place on.
+fn contains_from(ids: &[u32], from: usize, id: u32) -> bool
+    ensures { λ r. ⌜ r ≡ containsId (blockIds (drop from (now (ids .entry)))) (blockId id) ⌝ }
+{
+    let mut i = from;
+    while i < ids.len() {
+        if id == ids[i] {
+            return true;
+        }
+        i = i + 1;
+    }
+    false
+}
+
+// Whether an id stands twice.
+fn repeat_in(ids: &[u32]) -> bool
+    ensures { λ r. ⌜ r ≡ repeats (blockIds (now (ids .entry))) ⌝ }
+{
+    let mut i = 0;
+    while i < ids.len() {
+        if contains_from(ids, i + 1, ids[i]) {
+            return true;
+        }
+        i = i + 1;
+    }
+    false
+}
+
+// Whether an id is none of the known ones.
+fn stray_in(ids: &[u32], known: &[u32]) -> bool
+    ensures { λ r. ⌜ r ≡ strays (blockIds (now (known .entry))) (blockIds (now (ids .entry))) ⌝ }
+{
+    let mut i = 0;
+    while i < ids.len() {
+        if contains_from(known, 0, ids[i]) {
+            i = i + 1;
+        } else {
+            return true;
+        }
+    }
+    false
+}
+
+// Up to `count` ids, as far as they go; how many were stored.
+fn ids_into(s: &[u8], start: usize, count: u8, out: &mut [u32; 64]) -> usize
+    requires { ⌜ count ≤ 64 ⌝ }
+    ensures { λ r. ⌜ r ≡ length (notes itself count (readNumber 4) (now (s .entry)) start) ⌝ }
+    ensures { λ r. ⌜ now (out .exit) ≡ sets (now (out .entry)) 0 (notes itself count (readNumber 4) (now (s .entry)) start) ⌝ }
+{
+    let mut at = start;
+    let mut i: u8 = 0;
+    while i < count {
+        let field = fields::u32_at(s, at);
+        let ReadU32::Value(id, next) = field else {
+            return i as usize;
+        };
+        out[i as usize] = id;
+        at = next;
+        i = i + 1;
+    }
+    i as usize
+}
+
+// The predecessors of the block at a place, stored; how many there are.
+fn predecessors_at(s: &[u8], at: usize, out: &mut [u32; 64]) -> usize
+    ensures { λ r. ⌜ r ≡ length (predecessorsAt (now (s .entry)) at) ⌝ }
+    ensures { λ r. ⌜ now (out .exit) ≡ sets (now (out .entry)) 0 (predecessorsAt (now (s .entry)) at) ⌝ }
+{
+    let head_field = crate::block_head_at(s, at);
+    let ReadBlockHead::Value(head, ids_at) = head_field else {
+        return 0;
+    };
+    ids_into(s, ids_at, head.predecessors, out)
+}
+
+// Whether a predecessor of the block at a place stands twice.
+fn repeat_at(s: &[u8], at: usize) -> bool
+    ensures { λ r. ⌜ r ≡ repeatsAt (now (s .entry)) at ⌝ }
+{
+    let mut out = [0u32; 64];
+    let n = predecessors_at(s, at, &mut out);
+    repeat_in(&out[..n])
+}
+
+// Whether a predecessor of the block at a place is no block of the job.
+fn stray_at(s: &[u8], at: usize, known: &[u32]) -> bool
+    ensures { λ r. ⌜ r ≡ straysAt (now (s .entry)) (now (known .entry)) at ⌝ }
+{
+    let mut out = [0u32; 64];
+    let n = predecessors_at(s, at, &mut out);
+    stray_in(&out[..n], known)
+}
+
+// Whether a predecessor stands twice in a block at one of these places.
+fn any_repeat(s: &[u8], places: &[usize]) -> bool
+    ensures { λ r. ⌜ r ≡ anyOf (repeatsAt (now (s .entry))) (now (places .entry)) ⌝ }
+{
+    let mut i = 0;
+    while i < places.len() {
+        if repeat_at(s, places[i]) {
+            return true;
+        }
+        i = i + 1;
+    }
+    false
+}
+
+// Whether a predecessor of a block at one of these places is no block of the job.
+fn any_stray(s: &[u8], places: &[usize], known: &[u32]) -> bool
+    ensures { λ r. ⌜ r ≡ anyOf (straysAt (now (s .entry)) (now (known .entry))) (now (places .entry)) ⌝ }
+{
+    let mut i = 0;
+    while i < places.len() {
+        if stray_at(s, places[i], known) {
+            return true;
+        }
+        i = i + 1;
+    }
+    false
+}
+
+// Refusal 7, of the blocks with these ids at these places.
+fn repeated(s: &[u8], ids: &[u32], places: &[usize]) -> bool
+    ensures { λ r. ⌜ r ≡ repeatedIn (now (s .entry)) (now (ids .entry)) (now (places .entry)) ⌝ }
+{
+    if repeat_in(ids) {
+        return true;
+    }
+    any_repeat(s, places)
+}
+
+// Refusal 8, of the same.
+fn unknown(s: &[u8], ids: &[u32], places: &[usize], scope: BlockId) -> bool
+    ensures { λ r. ⌜ r ≡ unknownIn (now (s .entry)) (now (ids .entry)) (now (places .entry)) scope ⌝ }
+{
+    if any_stray(s, places, ids) {
+        return true;
+    }
+    !contains_from(ids, 0, scope.0)
+}
+
+// The answer for a job whose records were read, by the ids and the places of its blocks.
+pub fn checked_by(s: &[u8], ids: &[u32], places: &[usize], head: JobHead) -> ReadJob
+    requires { ⌜ head .blocks ≤ length (now places) ⌝ }
+    ensures { λ r. ⌜ r ≡ checkedBy (now (s .entry)) (now (ids .entry)) (take (head .blocks) (now (places .entry))) head ⌝ }
+{
+    let n = head.blocks;
+    let noted = &places[..n];
+    if repeated(s, ids, noted) {
+        return ReadJob::Refused(Refusal::RepeatedId);
+    }
+    let scope = head.scope;
+    if unknown(s, ids, noted, scope) {
+        return ReadJob::Refused(Refusal::UnknownBlock);
+    }
+    ReadJob::Value(head)
+}

@@ -1,0 +1,435 @@
+// Reads a job: the records field by field and refusals 3 to 6 in one pass over the bytes; then 7 and 8, by the blocks' ids and places.
+use entries::BlockId;
+use entries::DependencyPathEntry;
+use entries::IdentifierId;
+use entries::PropertyLiteral;
+use entries::Refusal;
+use fields::Passed;
+use fields::ReadFlag;
+use fields::ReadU8;
+use fields::ReadU16;
+use fields::ReadU32;
+use fields::ReadU64;
+ghost use mathlib.Core.Path.{_≡_};
+ghost use Prim.Native.Nat.{_≤_};
+ghost use lib.Seq.{sets};
+ghost use Rattle.model.specs.Read.{readMany, mapped};
+ghost use Rattle.model.specs.Job.{HD, Block, propertyOf, readBlockId, readEntry, readPath, readBlock, readHeader, readRecords, readJob};
+ghost use Rattle.fields.specs.Answer.{gotPlace};
+ghost use Rattle.job.specs.Passing.{passed, notes};
+ghost use Rattle.job.specs.Head.{readPathHead, readBlockHead};
+ghost use Rattle.job.specs.Answer.{gotEntry, gotPathHead, gotBlockHead, gotBlockId, gotHeader};
+ghost use Rattle.job.specs.Answer.{refusalEntry, refusalPathHead, refusalBlockHead, refusalBlockId, refusalHeader};
+ghost use Rattle.job.specs.Kept.{placeOf, numberOf, blockPlaces, blockNumbers, answerOf};
+
+mod ids;
+
+// A mark is the number that its two bytes make, the first lowest.
+const BL: u16 = 0x4C42;
+
+const PA: u16 = 0x4150;
+
+const CA: u16 = 0x4143;
+
+const HD: u16 = 0x4448;
+
+// A record's value and the place after it, or the refusal.
+pub enum ReadEntry {
+    Value(DependencyPathEntry, usize),
+    Refused(Refusal),
+}
+
+// What stands before a path's entries, and how many there are.
+pub struct PathHead {
+    pub identifier: IdentifierId,
+    pub reactive: bool,
+    pub span: u64,
+    pub entries: u8,
+}
+
+pub enum ReadPathHead {
+    Value(PathHead, usize),
+    Refused(Refusal),
+}
+
+// What stands before a block's predecessors, and how many predecessors and paths there are.
+pub struct BlockHead {
+    pub id: BlockId,
+    pub predecessors: u8,
+    pub assumed: u8,
+}
+
+pub enum ReadBlockHead {
+    Value(BlockHead, usize),
+    Refused(Refusal),
+}
+
+pub enum ReadBlockId {
+    Value(BlockId, usize),
+    Refused(Refusal),
+}
+
+pub struct Header {
+    pub blocks: u16,
+    pub candidates: u16,
+    pub scope: BlockId,
+}
+
+pub enum ReadHeader {
+    Value(Header, usize),
+    Refused(Refusal),
+}
+
+// What is kept of a job that was read, beside the places of its blocks.
+pub struct JobHead {
+    pub blocks: usize,
+    pub candidates: usize,
+    pub scope: BlockId,
+    pub candidates_at: usize,
+}
+
+pub enum ReadJob {
+    Value(JobHead),
+    Refused(Refusal),
+}
+
+// Each answer's `refusal` is asked only where the answer is one.
+impl ReadEntry {
+    pub fn refusal(self) -> Refusal
+        ensures { λ r. ⌜ r ≡ refusalEntry self ⌝ }
+    {
+        match self {
+            ReadEntry::Value(_, _) => Refusal::MissingByte,
+            ReadEntry::Refused(refusal) => refusal,
+        }
+    }
+}
+
+impl ReadPathHead {
+    pub fn refusal(self) -> Refusal
+        ensures { λ r. ⌜ r ≡ refusalPathHead self ⌝ }
+    {
+        match self {
+            ReadPathHead::Value(_, _) => Refusal::MissingByte,
+            ReadPathHead::Refused(refusal) => refusal,
+        }
+    }
+}
+
+impl ReadBlockHead {
+    pub fn refusal(self) -> Refusal
+        ensures { λ r. ⌜ r ≡ refusalBlockHead self ⌝ }
+    {
+        match self {
+            ReadBlockHead::Value(_, _) => Refusal::MissingByte,
+            ReadBlockHead::Refused(refusal) => refusal,
+        }
+    }
+}
+
+impl ReadBlockId {
+    pub fn refusal(self) -> Refusal
+        ensures { λ r. ⌜ r ≡ refusalBlockId self ⌝ }
+    {
+        match self {
+            ReadBlockId::Value(_, _) => Refusal::MissingByte,
+            ReadBlockId::Refused(refusal) => refusal,
+        }
+    }
+}
+
+impl ReadHeader {
+    pub fn refusal(self) -> Refusal
+        ensures { λ r. ⌜ r ≡ refusalHeader self ⌝ }
+    {
+        match self {
+            ReadHeader::Value(_, _) => Refusal::MissingByte,
+            ReadHeader::Refused(refusal) => refusal,
+        }
+    }
+}
+
+pub fn property_of(number: bool, value: u64) -> PropertyLiteral
+    ensures { λ r. ⌜ r ≡ propertyOf number value ⌝ }
+{
+    if number {
+        PropertyLiteral::Number(value)
+    } else {
+        PropertyLiteral::String(value)
+    }
+}
+
+pub fn entry_at(s: &[u8], at: usize) -> ReadEntry
+    ensures { λ r. ⌜ gotEntry r ≡ readEntry 4 (now (s .entry)) at ⌝ }
+{
+    let optional_field = fields::flag_at(s, at);
+    let ReadFlag::Value(optional, kind_at) = optional_field else {
+        return ReadEntry::Refused(optional_field.refusal());
+    };
+    let kind_field = fields::flag_at(s, kind_at);
+    let ReadFlag::Value(kind, value_at) = kind_field else {
+        return ReadEntry::Refused(kind_field.refusal());
+    };
+    let value_field = fields::u64_at(s, value_at);
+    let ReadU64::Value(value, span_at) = value_field else {
+        return ReadEntry::Refused(value_field.refusal());
+    };
+    let span_field = fields::u32_at(s, span_at);
+    let ReadU32::Value(span, next) = span_field else {
+        return ReadEntry::Refused(span_field.refusal());
+    };
+    let property = property_of(kind, value);
+    ReadEntry::Value(
+        DependencyPathEntry {
+            property,
+            optional,
+            span: span as u64,
+        },
+        next,
+    )
+}
+
+// Past `count` entries.
+pub fn entries_from(s: &[u8], start: usize, count: u8) -> Passed
+    ensures { λ r. ⌜ gotPlace r ≡ passed (readMany count (readEntry 4) (now (s .entry)) start) ⌝ }
+{
+    let mut at = start;
+    let mut left = count;
+    while 0 < left {
+        let entry = entry_at(s, at);
+        let ReadEntry::Value(_, next) = entry else {
+            return Passed::Refused(entry.refusal());
+        };
+        at = next;
+        left = left - 1;
+    }
+    Passed::To(at)
+}
+
+pub fn path_head_at(s: &[u8], at: usize) -> ReadPathHead
+    ensures { λ r. ⌜ gotPathHead r ≡ readPathHead (now (s .entry)) at ⌝ }
+{
+    let identifier_field = fields::u32_at(s, at);
+    let ReadU32::Value(identifier, reactive_at) = identifier_field else {
+        return ReadPathHead::Refused(identifier_field.refusal());
+    };
+    let reactive_field = fields::flag_at(s, reactive_at);
+    let ReadFlag::Value(reactive, span_at) = reactive_field else {
+        return ReadPathHead::Refused(reactive_field.refusal());
+    };
+    let span_field = fields::u32_at(s, span_at);
+    let ReadU32::Value(span, entries_at) = span_field else {
+        return ReadPathHead::Refused(span_field.refusal());
+    };
+    let entries_field = fields::u8_within(s, entries_at, 0, 16);
+    let ReadU8::Value(entries, next) = entries_field else {
+        return ReadPathHead::Refused(entries_field.refusal());
+    };
+    ReadPathHead::Value(
+        PathHead {
+            identifier: IdentifierId(identifier),
+            reactive,
+            span: span as u64,
+            entries,
+        },
+        next,
+    )
+}
+
+// Past a path under its mark.
+pub fn path_at(s: &[u8], at: usize, mark: u16) -> Passed
+    ensures { λ r. ⌜ gotPlace r ≡ passed (readPath 4 mark (now (s .entry)) at) ⌝ }
+{
+    let marked = fields::mark_at(s, at, mark);
+    let Passed::To(head_at) = marked else {
+        return marked;
+    };
+    let head_field = path_head_at(s, head_at);
+    let ReadPathHead::Value(head, entries_at) = head_field else {
+        return Passed::Refused(head_field.refusal());
+    };
+    entries_from(s, entries_at, head.entries)
+}
+
+// Past `count` paths under one mark.
+pub fn paths_from(s: &[u8], start: usize, count: u16, mark: u16) -> Passed
+    ensures { λ r. ⌜ gotPlace r ≡ passed (readMany count (readPath 4 mark) (now (s .entry)) start) ⌝ }
+{
+    let mut at = start;
+    let mut left = count;
+    while 0 < left {
+        let path = path_at(s, at, mark);
+        let Passed::To(next) = path else {
+            return path;
+        };
+        at = next;
+        left = left - 1;
+    }
+    Passed::To(at)
+}
+
+// Past `count` block ids. Any four bytes are an id, so no byte is looked at.
+pub fn ids_from(s: &[u8], at: usize, count: u8) -> Passed
+    ensures { λ r. ⌜ gotPlace r ≡ passed (readMany count readBlockId (now (s .entry)) at) ⌝ }
+{
+    if count == 0 {
+        return Passed::To(at);
+    }
+    let bytes = 4 * (count as usize);
+    if fields::reaches(s, at, bytes) {
+        Passed::To(at + bytes)
+    } else {
+        Passed::Refused(Refusal::MissingByte)
+    }
+}
+
+pub fn block_head_at(s: &[u8], at: usize) -> ReadBlockHead
+    ensures { λ r. ⌜ gotBlockHead r ≡ readBlockHead (now (s .entry)) at ⌝ }
+{
+    let marked = fields::mark_at(s, at, BL);
+    let Passed::To(id_at) = marked else {
+        return ReadBlockHead::Refused(marked.refusal());
+    };
+    let id_field = fields::u32_at(s, id_at);
+    let ReadU32::Value(id, count_at) = id_field else {
+        return ReadBlockHead::Refused(id_field.refusal());
+    };
+    let count_field = fields::u8_within(s, count_at, 0, 64);
+    let ReadU8::Value(predecessors, assumed_at) = count_field else {
+        return ReadBlockHead::Refused(count_field.refusal());
+    };
+    let assumed_field = fields::u8_at(s, assumed_at);
+    let ReadU8::Value(assumed, next) = assumed_field else {
+        return ReadBlockHead::Refused(assumed_field.refusal());
+    };
+    ReadBlockHead::Value(
+        BlockHead {
+            id: BlockId(id),
+            predecessors,
+            assumed,
+        },
+        next,
+    )
+}
+
+// The id of a block, and the place after its paths.
+pub fn block_at(s: &[u8], at: usize) -> ReadBlockId
+    ensures { λ r. ⌜ gotBlockId r ≡ mapped (λ (b : Block). b .id) (readBlock 4 (now (s .entry)) at) ⌝ }
+{
+    let head_field = block_head_at(s, at);
+    let ReadBlockHead::Value(head, ids_at) = head_field else {
+        return ReadBlockId::Refused(head_field.refusal());
+    };
+    let ids = ids_from(s, ids_at, head.predecessors);
+    let Passed::To(paths_at) = ids else {
+        return ReadBlockId::Refused(ids.refusal());
+    };
+    let paths = paths_from(s, paths_at, head.assumed as u16, PA);
+    let Passed::To(next) = paths else {
+        return ReadBlockId::Refused(paths.refusal());
+    };
+    let id = head.id;
+    ReadBlockId::Value(id, next)
+}
+
+// Past `count` blocks, whose ids and places are noted.
+fn blocks_from(
+    s: &[u8],
+    start: usize,
+    count: u16,
+    ids: &mut [u32; 128],
+    places: &mut [usize; 128],
+) -> Passed
+    requires { ⌜ count ≤ 128 ⌝ }
+    ensures { λ r. ⌜ gotPlace r ≡ passed (readMany count (readBlock 4) (now (s .entry)) start) ⌝ }
+    ensures { λ r. ⌜ now (ids .exit) ≡ sets (now (ids .entry)) 0 (notes numberOf count (readBlock 4) (now (s .entry)) start) ⌝ }
+    ensures { λ r. ⌜ now (places .exit) ≡ sets (now (places .entry)) 0 (notes placeOf count (readBlock 4) (now (s .entry)) start) ⌝ }
+{
+    let mut at = start;
+    let mut i: u16 = 0;
+    while i < count {
+        let block = block_at(s, at);
+        let ReadBlockId::Value(id, next) = block else {
+            return Passed::Refused(block.refusal());
+        };
+        let k = i as usize;
+        ids[k] = id.0;
+        places[k] = at;
+        at = next;
+        i = i + 1;
+    }
+    Passed::To(at)
+}
+
+pub fn header_at(s: &[u8], at: usize) -> ReadHeader
+    ensures { λ r. ⌜ gotHeader r ≡ readHeader HD (now (s .entry)) at ⌝ }
+{
+    let marked = fields::mark_at(s, at, HD);
+    let Passed::To(blocks_at) = marked else {
+        return ReadHeader::Refused(marked.refusal());
+    };
+    let blocks_field = fields::u16_within(s, blocks_at, 1, 128);
+    let ReadU16::Value(blocks, candidates_at) = blocks_field else {
+        return ReadHeader::Refused(blocks_field.refusal());
+    };
+    let candidates_field = fields::u16_within(s, candidates_at, 0, 64);
+    let ReadU16::Value(candidates, scope_at) = candidates_field else {
+        return ReadHeader::Refused(candidates_field.refusal());
+    };
+    let scope_field = fields::u32_at(s, scope_at);
+    let ReadU32::Value(scope, next) = scope_field else {
+        return ReadHeader::Refused(scope_field.refusal());
+    };
+    ReadHeader::Value(
+        Header {
+            blocks,
+            candidates,
+            scope: BlockId(scope),
+        },
+        next,
+    )
+}
+
+// The records in their order, as far as refusal 6, the ids and the places of the blocks being noted.
+fn records_of(s: &[u8], ids: &mut [u32; 128], places: &mut [usize; 128]) -> ReadJob
+    ensures { λ r. ⌜ r ≡ answerOf (now (s .entry)) (readRecords HD 4 (now (s .entry))) ⌝ }
+    ensures { λ r. ⌜ now (ids .exit) ≡ sets (now (ids .entry)) 0 (blockNumbers (now (s .entry))) ⌝ }
+    ensures { λ r. ⌜ now (places .exit) ≡ sets (now (places .entry)) 0 (blockPlaces (now (s .entry))) ⌝ }
+{
+    let header_field = header_at(s, 0);
+    let ReadHeader::Value(header, blocks_at) = header_field else {
+        return ReadJob::Refused(header_field.refusal());
+    };
+    let past_blocks = blocks_from(s, blocks_at, header.blocks, ids, places);
+    let Passed::To(candidates_at) = past_blocks else {
+        return ReadJob::Refused(past_blocks.refusal());
+    };
+    let past_candidates = paths_from(s, candidates_at, header.candidates, CA);
+    let Passed::To(next) = past_candidates else {
+        return ReadJob::Refused(past_candidates.refusal());
+    };
+    if next != s.len() {
+        return ReadJob::Refused(Refusal::ExtraByte);
+    }
+    let scope = header.scope;
+    ReadJob::Value(JobHead {
+        blocks: header.blocks as usize,
+        candidates: header.candidates as usize,
+        scope,
+        candidates_at,
+    })
+}
+
+// The job, or its refusal. The place of each block's record is noted.
+pub fn read_job(s: &[u8], places: &mut [usize; 128]) -> ReadJob
+    ensures { λ r. ⌜ r ≡ answerOf (now (s .entry)) (readJob HD 4 (now (s .entry))) ⌝ }
+    ensures { λ r. ⌜ now (places .exit) ≡ sets (now (places .entry)) 0 (blockPlaces (now (s .entry))) ⌝ }
+{
+    let mut ids = [0u32; 128];
+    let read = records_of(s, &mut ids, places);
+    let ReadJob::Value(head) = read else {
+        return read;
+    };
+    let n = head.blocks;
+    ids::checked_by(s, &ids[..n], places, head)
+}

@@ -1,0 +1,27 @@
+-- What entering a record of the job gives, beside what reading it gives.
+use Prim.Native.Nat.{ℕ, _<_}
+use mathlib.Core.Path.{_≡_}
+use mathlib.Core.List.{List}
+use lib.ListN.{length}
+use Rattle.entries.specs.declared.NodeId.{NodeId}
+use Rattle.entries.specs.declared.DependencyPathEntry.{DependencyPathEntry}
+use Rattle.model.specs.Read.{Read, got, refused}
+use Rattle.model.specs.Registry.{nodeLimit, PropertyPathRegistry, Reached, walkFrom, ownMark}
+use Rattle.registry.specs.declared.Entered.the-variants as entered
+use Rattle.registry.specs.Words.{Arrives}
+use Rattle.paths.specs.declared.EnteredPath.{EnteredPath}
+use Rattle.paths.specs.declared.EnteredPath.the-variants.{At, Full, Refused}
+
+-- down from a node by entries under their own marks
+abbrev pub onFrom : PropertyPathRegistry → NodeId → List DependencyPathEntry → Reached
+onFrom reg k es = walkFrom ownMark (record { registry = reg; node = k }) es
+
+-- The record that reads to a value leads to the node that `reach` gives for it, with the place after it, or the registry has no room for that. One that is
+-- refused is refused for the same, unless there was no room for what stands before.
+abbrev pub Enters : {A : Type 0} → Read A → (A → Reached) → EnteredPath → List ℕ → List ℕ → Type 0
+Enters (got a next) reach (At k n) ws os = Arrives (reach a) (entered.At k) ws os × (n ≡ next)
+Enters (got a next) reach Full ws os = nodeLimit < length (reach a .registry)
+Enters (got a next) reach (Refused r) ws os = ⊥
+Enters (refused r) reach (At k n) ws os = ⊥
+Enters (refused r) reach Full ws os = Unit
+Enters (refused r) reach (Refused q) ws os = q ≡ r

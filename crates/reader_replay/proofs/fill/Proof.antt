@@ -1,0 +1,12 @@
+-- The part that is read to has n bytes, since the test before found room for them.
+use mathlib.Core.Path.{sym}
+use lib.Seq.{length-take-le}
+use borrow.Author.Needs.{needs}
+use Rattle.reader_replay.proofs.fill.Statement.{statement}
+use Rattle.reader_replay.proofs.fill.Tie as tie
+
+slice-aggregate-read-full : tie.Need-slice-aggregate-read-full
+slice-aggregate-read-full c = let a = c .before .before .before .args in sym (length-take-le (a .n) (a .space .now) (c .before .if1 .left))
+
+pub fill-spec : {M : Type 1} → statement M
+fill-spec = tie.close (tie.spec (λ c. search needs) (λ c. search needs) slice-aggregate-read-full (λ c κs. search needs) (λ c. search needs) (λ c. search needs))
