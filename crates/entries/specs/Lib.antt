@@ -1,3 +1,4 @@
 pub mod Path
+pub mod Property
 pub mod Refusals
 pub mod Examples

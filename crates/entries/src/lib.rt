@@ -1,6 +1,7 @@
 // The types that all crates share. A number is kept in a struct of its own where the Rust keeps it apart from other numbers.
 ghost use mathlib.Core.Path.{_≡_};
 ghost use Rattle.entries.specs.Path.{sameProperty, sameEntry};
+ghost use Rattle.entries.specs.Property.{propertyOf, isNumber, valueOf};
 ghost use Rattle.entries.specs.Refusals.{refusalNumber};
 
 // A variable of the compiled function (`IdentifierId` of the Rust).
@@ -19,6 +20,35 @@ pub enum PropertyLiteral {
 }
 
 impl PropertyLiteral {
+    // From a kind and a value, and back.
+    pub fn of(number: bool, value: u64) -> PropertyLiteral
+        ensures { λ r. ⌜ r ≡ propertyOf number value ⌝ }
+    {
+        if number {
+            PropertyLiteral::Number(value)
+        } else {
+            PropertyLiteral::String(value)
+        }
+    }
+
+    pub fn is_number(self) -> bool
+        ensures { λ r. ⌜ r ≡ isNumber self ⌝ }
+    {
+        match self {
+            PropertyLiteral::String(_) => false,
+            PropertyLiteral::Number(_) => true,
+        }
+    }
+
+    pub fn value(self) -> u64
+        ensures { λ r. ⌜ r ≡ valueOf self ⌝ }
+    {
+        match self {
+            PropertyLiteral::String(v) => v,
+            PropertyLiteral::Number(v) => v,
+        }
+    }
+
     // The same kind and the same 64 bits.
     pub fn same(self, other: PropertyLiteral) -> bool
         ensures { λ r. ⌜ r ≡ sameProperty self other ⌝ }

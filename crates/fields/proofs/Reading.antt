@@ -1,5 +1,4 @@
 -- From an answer of the code to the reading that it stands for.
--- Assumes nothing.
 use mathlib.Core.Path.{_≡_, sym, ap, _∙_}
 use Rattle.model.specs.Read.{Read}
 

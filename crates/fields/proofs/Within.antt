@@ -1,5 +1,4 @@
 -- The definitions of marks, ranges and flags, one step open: what they read first stays shut.
--- Assumes nothing.
 use Prim.Native.Nat.{ℕ}
 use mathlib.Core.Path.{_≡_, refl}
 use mathlib.Core.Bool.{_&&_, cond}

@@ -1,5 +1,4 @@
 -- What the answer to an accepted job says of the job: where later stages read its blocks, predecessors, paths and candidates again.
--- Assumes nothing.
 use Prim.Native.Nat.{ℕ, _<_, _≤_}
 use mathlib.Core.Path.{_≡_, refl, sym, ap, _∙_}
 use mathlib.Core.Bool.{Bool, true, false, cond}

@@ -1,5 +1,4 @@
 -- From the answer for the records to the answer for the job: what was stored, and refusals 7 and 8.
--- Assumes nothing.
 use Prim.Native.Nat.{ℕ, _≤_}
 use mathlib.Core.Path.{_≡_, refl, sym, ap, _∙_}
 use mathlib.Core.List.{List}

@@ -1,10 +1,10 @@
 -- The definitions of entries and of the header, one step open: what they read stays shut.
--- Assumes nothing.
 use Prim.Native.Nat.{ℕ}
 use mathlib.Core.Path.{_≡_, refl}
 use mathlib.Core.List.{List}
 use Rattle.model.specs.Read.{got, andThen, readNumber, readMark, readWithin, readFlag}
-use Rattle.model.specs.Job.{propertyOf, readBlockId, readEntry, readHeader}
+use Rattle.entries.specs.Property.{propertyOf}
+use Rattle.model.specs.Job.{readBlockId, readEntry, readHeader}
 
 pub entry-fields : (s : List ℕ) (at : ℕ) → readEntry 4 s at ≡
     andThen (readFlag s at) (λ optional kindAt.

@@ -1,5 +1,4 @@
 -- A path is its mark, its head and its entries; a block is its head, its predecessors and its paths.
--- Assumes nothing.
 use Prim.Native.Nat.{ℕ}
 use mathlib.Core.Path.{_≡_, refl}
 use mathlib.Core.List.{List}

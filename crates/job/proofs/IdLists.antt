@@ -1,5 +1,4 @@
 -- Tests over lists of ids and of places: one turn of a loop over the list.
--- Assumes nothing.
 use Prim.Native.Nat.{ℕ, _+_, _<_, _≤_}
 use mathlib.Core.Path.{_≡_}
 use mathlib.Core.Bool.{Bool, true, false}

@@ -1,5 +1,4 @@
 -- What was noted of the blocks is what the definition asks of them: their ids, and their predecessors, read again at their places.
--- Assumes nothing.
 use Prim.Native.Nat.{ℕ}
 use mathlib.Core.Path.{_≡_, refl, sym, ap}
 use mathlib.Core.Bool.{Bool, true, false, _||_, cond}

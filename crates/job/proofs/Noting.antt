@@ -1,5 +1,4 @@
 -- Notes of records: what one step of a loop that counts up says of the notes from there on, of the array that holds them, and of their number.
--- Assumes nothing.
 use Prim.Native.Nat.{ℕ, zero, suc, _<_, _≤_, _+_, _-_}
 use mathlib.Core.Path.{_≡_}
 use mathlib.Core.List.{List, [], _∷_}

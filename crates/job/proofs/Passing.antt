@@ -1,5 +1,4 @@
 -- Passing over records: what one step of a loop says of the place after all of them.
--- Assumes nothing.
 use Prim.Native.Nat.{ℕ, zero, suc, _<_, _≤_, _-_, _+_}
 use mathlib.Core.Path.{_≡_, refl}
 use mathlib.Core.List.{List}

@@ -1,5 +1,4 @@
 -- Where the parts of a block and of a path stand that were read: their heads, predecessors, paths and entries.
--- Assumes nothing.
 use Prim.Native.Nat.{ℕ, _+_, _*_, _≤_}
 use mathlib.Core.Path.{_≡_, sym, _∙_}
 use mathlib.Core.List.{List}

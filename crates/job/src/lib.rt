@@ -14,7 +14,7 @@ ghost use mathlib.Core.Path.{_≡_};
 ghost use Prim.Native.Nat.{_≤_};
 ghost use lib.Seq.{sets};
 ghost use Rattle.model.specs.Read.{readMany, mapped};
-ghost use Rattle.model.specs.Job.{HD, Block, propertyOf, readBlockId, readEntry, readPath, readBlock, readHeader, readRecords, readJob};
+ghost use Rattle.model.specs.Job.{HD, Block, readBlockId, readEntry, readPath, readBlock, readHeader, readRecords, readJob};
 ghost use Rattle.fields.specs.Answer.{gotPlace};
 ghost use Rattle.job.specs.Passing.{passed, notes};
 ghost use Rattle.job.specs.Head.{readPathHead, readBlockHead};
@@ -149,16 +149,6 @@ impl ReadHeader {
     }
 }
 
-pub fn property_of(number: bool, value: u64) -> PropertyLiteral
-    ensures { λ r. ⌜ r ≡ propertyOf number value ⌝ }
-{
-    if number {
-        PropertyLiteral::Number(value)
-    } else {
-        PropertyLiteral::String(value)
-    }
-}
-
 pub fn entry_at(s: &[u8], at: usize) -> ReadEntry
     ensures { λ r. ⌜ gotEntry r ≡ readEntry 4 (now (s .entry)) at ⌝ }
 {
@@ -178,7 +168,7 @@ pub fn entry_at(s: &[u8], at: usize) -> ReadEntry
     let ReadU32::Value(span, next) = span_field else {
         return ReadEntry::Refused(span_field.refusal());
     };
-    let property = property_of(kind, value);
+    let property = PropertyLiteral::of(kind, value);
     ReadEntry::Value(
         DependencyPathEntry {
             property,

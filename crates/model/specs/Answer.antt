@@ -11,6 +11,7 @@ use Rattle.entries.specs.declared.BlockId.{BlockId}
 use Rattle.entries.specs.declared.PropertyLiteral.{PropertyLiteral}
 use Rattle.entries.specs.declared.PropertyLiteral.the-variants.{String, Number}
 use Rattle.entries.specs.declared.DependencyPathEntry.{DependencyPathEntry}
+use Rattle.entries.specs.Property.{valueOf}
 use Rattle.entries.specs.declared.Refusal.{Refusal}
 use Rattle.entries.specs.declared.Refusal.the-variants.{ShortBuffer, LongJob, ManyNodes}
 use Rattle.entries.specs.Path.{ReactiveScopeDependency}
@@ -62,14 +63,10 @@ NO = markOf 0x4E 0x4F
 abbrev pub SE : ℕ
 SE = markOf 0x53 0x45
 
--- a property's kind and value, as the numbers of a job
+-- a property's kind, as the number of a job
 abbrev pub kindOf : PropertyLiteral → ℕ
 kindOf (String v) = 0
 kindOf (Number v) = 1
-
-abbrev pub valueOf : PropertyLiteral → ℕ
-valueOf (String v) = v
-valueOf (Number v) = v
 
 -- optional, kind, value
 abbrev pub stepBytes : DependencyPathEntry → List ℕ

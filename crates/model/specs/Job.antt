@@ -10,6 +10,7 @@ use Rattle.entries.specs.declared.BlockId.{BlockId}
 use Rattle.entries.specs.declared.PropertyLiteral.{PropertyLiteral}
 use Rattle.entries.specs.declared.PropertyLiteral.the-variants.{String, Number}
 use Rattle.entries.specs.declared.DependencyPathEntry.{DependencyPathEntry}
+use Rattle.entries.specs.Property.{propertyOf}
 use Rattle.entries.specs.declared.Refusal.the-variants.{ExtraByte, RepeatedId, UnknownBlock}
 use Rattle.entries.specs.Path.{ReactiveScopeDependency}
 use Rattle.model.specs.Lists.{anyOf}
@@ -30,11 +31,6 @@ PA = markOf 0x50 0x41
 
 abbrev pub CA : ℕ
 CA = markOf 0x43 0x41
-
--- "Kind u8 (0 name, 1 number), value u64."
-abbrev pub propertyOf : Bool → ℕ → PropertyLiteral
-propertyOf false value = String value
-propertyOf true value = Number value
 
 -- "Entries of 14 bytes: optional u8 (0 or 1), kind u8 (0 name, 1 number), value u64, span u32."
 unfoldable pub readEntry : ℕ → Reader DependencyPathEntry

@@ -11,11 +11,10 @@ use Rattle.entries.specs.declared.PropertyLiteral.the-variants.{String, Number}
 use Rattle.entries.specs.declared.DependencyPathEntry.{DependencyPathEntry}
 use Rattle.model.specs.Tests.{eqb-apart}
 use Rattle.model.specs.Registry.{rootMark}
-use Rattle.model.specs.Job.{propertyOf}
-use Rattle.model.specs.Answer.{flag, valueOf}
+use Rattle.entries.specs.Property.{propertyOf, isNumber, valueOf}
+use Rattle.model.specs.Answer.{flag}
 use Rattle.registry.specs.declared.Node.{Node}
 use Rattle.registry.specs.declared.Node.the-variants.{Root, Child}
-use Rattle.registry.specs.Nodes.{isNumber}
 use Rattle.registry.specs.Words.{Packs, unpack}
 
 flag-back : (b : Bool) → eqb (flag b) 1 ≡ b

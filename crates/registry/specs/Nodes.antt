@@ -4,18 +4,12 @@ use mathlib.Core.Bool.{Bool, true, false, _&&_, _||_, cond}
 use mathlib.Core.List.{List, [], _∷_, _++_}
 use lib.ListN.{length}
 use lib.Dec.{eqb, ltb}
-use Rattle.entries.specs.declared.PropertyLiteral.{PropertyLiteral}
-use Rattle.entries.specs.declared.PropertyLiteral.the-variants.{String, Number}
 use Rattle.entries.specs.declared.NodeId.{NodeId}
 use Rattle.entries.specs.Path.{sameEntry}
 use Rattle.model.specs.Sets.{NodeSet, contains, insert}
 use Rattle.model.specs.Registry.{PropertyPathNode, PropertyPathRegistry, isRootFor, isChildBy, Origin, root, childOf, Reached, findOrMake, rootNode, childNode, fullPathOf}
 use Rattle.registry.specs.declared.Node.{Node}
 use Rattle.registry.specs.declared.Node.the-variants.{Root, Child}
-
-abbrev pub isNumber : PropertyLiteral → Bool
-isNumber (String v) = false
-isNumber (Number v) = true
 
 -- a root for the same identifier, or a child of the same parent by an equal entry
 abbrev pub sameKey : Node → Node → Bool

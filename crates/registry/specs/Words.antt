@@ -9,9 +9,8 @@ use Rattle.entries.specs.declared.NodeId.{NodeId}
 use Rattle.model.specs.Registry.{nodeLimit, rootMark, PropertyPathRegistry, Reached}
 use Rattle.model.specs.Sets.{contains}
 use Rattle.model.specs.Reduction.{hasOptional}
-use Rattle.model.specs.Job.{propertyOf}
+use Rattle.entries.specs.Property.{propertyOf, valueOf}
 use Rattle.rows.specs.Members.{membersOf}
-use Rattle.model.specs.Answer.{valueOf}
 use Rattle.registry.specs.declared.Node.{Node}
 use Rattle.registry.specs.declared.Entered.{Entered}
 use Rattle.registry.specs.declared.Entered.the-variants.{At, Full}

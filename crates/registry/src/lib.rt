@@ -3,12 +3,11 @@
 ghost use mathlib.Core.Path.{_≡_};
 ghost use Prim.Native.Nat.{_<_, _≤_};
 ghost use Rattle.model.specs.Registry.{getOrCreateIdentifier, getOrCreatePropertyEntry};
-ghost use Rattle.model.specs.Job.{propertyOf};
-ghost use Rattle.model.specs.Answer.{flag, valueOf};
+ghost use Rattle.model.specs.Answer.{flag};
 ghost use mathlib.Core.List.{_++_, _∷_, []};
 ghost use Rattle.registry.specs.declared.Node.the-variants.{Root, Child};
 ghost use Rattle.rows.specs.Members.{membersOf};
-ghost use Rattle.registry.specs.Nodes.{isNumber, sameKey, findNode, madeFor, Inside, optionalOver, notedWith};
+ghost use Rattle.registry.specs.Nodes.{sameKey, findNode, madeFor, Inside, optionalOver, notedWith};
 ghost use Rattle.registry.specs.Words.{valueIn, spanIn, Packs, unpack, nodeAt, countIn, nodesOf, registryOf, Sized, Held, Arrives};
 use entries::DependencyPathEntry;
 use entries::IdentifierId;
@@ -58,36 +57,6 @@ impl Node {
     }
 }
 
-// A property's kind and value, and back.
-
-fn property_of(number: bool, value: u64) -> PropertyLiteral
-    ensures { λ r. ⌜ r ≡ propertyOf number value ⌝ }
-{
-    if number {
-        PropertyLiteral::Number(value)
-    } else {
-        PropertyLiteral::String(value)
-    }
-}
-
-fn is_number(property: PropertyLiteral) -> bool
-    ensures { λ r. ⌜ r ≡ isNumber property ⌝ }
-{
-    match property {
-        PropertyLiteral::String(_) => false,
-        PropertyLiteral::Number(_) => true,
-    }
-}
-
-fn value_of(property: PropertyLiteral) -> u64
-    ensures { λ r. ⌜ r ≡ valueOf property ⌝ }
-{
-    match property {
-        PropertyLiteral::String(v) => v,
-        PropertyLiteral::Number(v) => v,
-    }
-}
-
 fn bit(b: bool) -> u64
     ensures { λ r. ⌜ (r ≡ flag b) × (r < 2) ⌝ }
 {
@@ -108,7 +77,7 @@ impl Node {
             }
             Node::Child(parent, entry) => {
                 let property = entry.property;
-                let number = bit(is_number(property));
+                let number = bit(property.is_number());
                 let optional = bit(entry.optional);
                 parent.0 as u64 * 4294967296 + (optional + number * 2) * 281474976710656
             }
@@ -122,7 +91,7 @@ impl Node {
             Node::Root(_, _, _) => 0,
             Node::Child(_, entry) => {
                 let property = entry.property;
-                value_of(property)
+                property.value()
             }
         }
     }
@@ -145,7 +114,7 @@ impl Node {
             let reactive = head / 1125899906842624 % 2 == 1;
             Node::Root(identifier, reactive, span)
         } else {
-            let property = property_of(head / 562949953421312 % 2 == 1, value);
+            let property = PropertyLiteral::of(head / 562949953421312 % 2 == 1, value);
             let optional = head / 281474976710656 % 2 == 1;
             Node::Child(
                 NodeId(parent as usize),

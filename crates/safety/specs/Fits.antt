@@ -17,8 +17,8 @@ use Rattle.model.specs.Lists.{anyOf}
 use Rattle.model.specs.Tests.{by-cond, decide, never, test-passes, and-first, and-second}
 use Rattle.model.specs.ListLaws.{All, all-map, all-both, all-getD}
 use Rattle.model.specs.Read.{Read, got, refused, Reader, andThen, mapped, both, readMany, readByte, readNumber, readU8, readU16, readU32, readMark, readWithin, readFlag}
-use Rattle.model.specs.Job.{propertyOf, readEntry, readPath, Block, readBlock, Header, readHeader, Job, readRecords, hasRepeat, hasUnknown, acceptIds, CA, readBlockId, readJob}
-use Rattle.model.specs.Answer.{valueOf}
+use Rattle.entries.specs.Property.{propertyOf, valueOf}
+use Rattle.model.specs.Job.{readEntry, readPath, Block, readBlock, Header, readHeader, Job, readRecords, hasRepeat, hasUnknown, acceptIds, CA, readBlockId, readJob}
 use Rattle.model.specs.Forest.{Key, identifierKey, propertyKey, Forest, empty, Found, findKey, childByKey, addAll, firsts}
 use Rattle.model.specs.Tree.{HoistablePosition, hoistableKey, hoistableTree, DependencyPosition, dependencyKey, isDependency, mergePosition, ended, atNonNull, stepAccess, stepTo, walkEntries, rootPosition, walkCandidate, dependencyTree, keyIdentifier, keyProperty, entryOf, lastSpan, dependencyOf, deriveMinimalDependencies}
 use Rattle.safety.specs.Lists.{Some, any-some, all-of, all-of-map, all-at}

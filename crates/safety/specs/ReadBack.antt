@@ -18,9 +18,10 @@ use Rattle.model.specs.ListLaws.{All, all-map}
 use Rattle.model.specs.Read.{Read, got, refused, Reader, andThen, mapped, both, readMany, readByte, readNumber, readU8, readMark, readWithin, readFlag}
 use Rattle.model.specs.Rounds.{Rounds}
 use Rattle.model.specs.Propagation.{Work}
-use Rattle.model.specs.Job.{Job, propertyOf, readEntry, readPath}
+use Rattle.entries.specs.Property.{propertyOf, valueOf}
+use Rattle.model.specs.Job.{Job, readEntry, readPath}
 use Rattle.model.specs.Stage.{returnedPaths}
-use Rattle.model.specs.Answer.{numberBytes, flag, AN, DE, kindOf, valueOf, stepBytes, entryBytes, pathBytes, answerBytes, Answered, readAnswer}
+use Rattle.model.specs.Answer.{numberBytes, flag, AN, DE, kindOf, stepBytes, entryBytes, pathBytes, answerBytes, Answered, readAnswer}
 
 -- the reader gives the value where these bytes begin, whatever stands before and after them
 pub record ReadsBack {A : Type 0} (read : Reader A) (a : A) (bytes : List ℕ) : Type 0 where

@@ -1,5 +1,4 @@
 -- `fields::flag_at` meets its contract: a byte in its range, taken as a test.
--- Assumes nothing.
 use borrow.Author.Needs.{needs}
 use Rattle.fields.specs.Answer.{gotU8}
 use Rattle.fields.proofs.Reading.{seen}

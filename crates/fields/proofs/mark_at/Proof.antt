@@ -1,5 +1,4 @@
 -- `fields::mark_at` meets its contract: two bytes, and the test of the number that they make.
--- Assumes nothing.
 use borrow.Author.Needs.{needs}
 use borrow.Author.Tests.{eq-eqb, ne-eqb}
 use Rattle.fields.specs.Answer.{gotU16}

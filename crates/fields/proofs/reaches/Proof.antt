@@ -1,5 +1,4 @@
 -- `fields::reaches` meets its contract: where so many bytes are there at all, the difference is compared in place of the sum.
--- Assumes nothing.
 use borrow.Author.Needs.{needs}
 use native.Mathlib.Omega.{arith}
 use mathlib.Core.Path.{sym}

@@ -1,5 +1,4 @@
 -- `fields::two_bytes` meets its contract: the sum is `numberAt` at two bytes, and a byte is below 256.
--- Assumes nothing.
 use borrow.Author.Needs.{needs}
 use Prim.Native.Nat.{_+_}
 use native.Mathlib.Omega.{arith}

@@ -1,5 +1,4 @@
 -- `fields::u8_within` meets its contract: the number, and the tests of its range in the order of the definition.
--- Assumes nothing.
 use borrow.Author.Needs.{needs}
 use borrow.Author.Tests.{le-leb, lt-leb}
 use Rattle.fields.specs.Answer.{gotU8}

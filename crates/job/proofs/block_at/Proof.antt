@@ -1,5 +1,4 @@
 -- `job::block_at` meets its contract: head, predecessors and paths one after the other; the id is known before the rest.
--- Assumes nothing.
 use borrow.Author.Needs.{needs}
 use mathlib.Core.Path.{_≡_, refl}
 use mathlib.Core.List.{List}

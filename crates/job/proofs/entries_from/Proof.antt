@@ -1,5 +1,4 @@
 -- `job::entries_from` meets its contract. The invariant: the rest from here ends where the whole does.
--- Assumes nothing.
 use borrow.Author.Needs.{needs}
 use mathlib.Core.Path.{_≡_, refl, sym, ap, _∙_}
 use Rattle.model.specs.Read.{readMany}

@@ -1,5 +1,4 @@
 -- `job::entry_at` meets its contract: at each return the fields read so far say how far the definition goes.
--- Assumes nothing.
 use borrow.Author.Needs.{needs}
 use Rattle.fields.specs.Answer.{gotFlag, gotU32, gotU64}
 use Rattle.fields.proofs.Reading.{seen}
@@ -111,8 +110,8 @@ returns-4 c =
       told,
     )
 
-property-of-requires : tie.Need-property-of-requires
-property-of-requires c κs = search needs
+of-requires : tie.Need-of-requires
+of-requires c κs = search needs
 
 cast-t20 : tie.Need-cast-t20
 cast-t20 c = search needs
@@ -129,7 +128,7 @@ returns-5 c =
       seen gotFlag (kind-field .before .before .flag-at2 .ensures) (kind-field .kind-field .given .1),
       seen gotU64 (value-field .before .before .u64-at .ensures) (value-field .value-field .given .1),
       seen gotU32 (span-field .before .before .u32-at .ensures) (span-field .span-field .given .1),
-      c .property-of .ensures,
+      c .of .ensures,
     )
 
 pub entry-at-spec : {M : Type 1} → statement M
@@ -156,6 +155,6 @@ entry-at-spec =
     enum-told-4
     refusal-requires-4
     returns-4
-    property-of-requires
+    of-requires
     cast-t20
     returns-5)

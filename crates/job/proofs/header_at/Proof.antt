@@ -1,5 +1,4 @@
 -- `job::header_at` meets its contract: field by field, as `entry_at`.
--- Assumes nothing.
 use borrow.Author.Needs.{needs}
 use Rattle.fields.specs.Answer.{gotU16, gotU32, gotPlace}
 use Rattle.fields.proofs.Reading.{seen}

@@ -1,5 +1,4 @@
 -- `job::ids_from` meets its contract: ids have four bytes each, so their number says where they end.
--- Assumes nothing.
 use borrow.Author.Needs.{needs}
 use Prim.Native.Nat.{_+_, _*_}
 use native.Mathlib.Omega.{arith}

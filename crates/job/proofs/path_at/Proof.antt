@@ -1,5 +1,4 @@
 -- `job::path_at` meets its contract: mark, head and entries one after the other; the entries' values are no matter of the place.
--- Assumes nothing.
 use borrow.Author.Needs.{needs}
 use Rattle.fields.specs.Answer.{gotPlace}
 use Rattle.fields.proofs.Reading.{seen}

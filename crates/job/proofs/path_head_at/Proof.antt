@@ -1,5 +1,4 @@
 -- `job::path_head_at` meets its contract: field by field, as `entry_at`.
--- Assumes nothing.
 use borrow.Author.Needs.{needs}
 use Rattle.fields.specs.Answer.{gotU8, gotU32, gotFlag}
 use Rattle.fields.proofs.Reading.{seen}

@@ -1,5 +1,4 @@
 -- `job::paths_from` meets its contract, as `entries_from` does: the rest from here ends where the whole does.
--- Assumes nothing.
 use borrow.Author.Needs.{needs}
 use mathlib.Core.Path.{_≡_, refl, sym, _∙_}
 use Rattle.model.specs.Read.{readMany}

@@ -1,5 +1,4 @@
 -- `job::read_job` meets its contract: the front of each array is what was noted, by `blocks-stored`, and its tests are the job's, by `job-checked`.
--- Assumes nothing.
 use borrow.Author.Needs.{needs}
 use native.Mathlib.Omega.{arith}
 use mathlib.Core.Path.{refl, sym, _∙_}

@@ -1,5 +1,4 @@
 -- `job::records_of` meets its contract: header, blocks and candidates one after the other. The laws of `Records` say how far the definition goes.
--- Assumes nothing.
 use borrow.Author.Needs.{needs}
 use Prim.Native.Nat.{_≤_}
 use mathlib.Core.Path.{sym}

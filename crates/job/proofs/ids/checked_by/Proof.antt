@@ -1,5 +1,4 @@
 -- `job::ids::checked_by` meets its contract: the two tests in the order of the definition.
--- Assumes nothing.
 use borrow.Author.Needs.{needs}
 use mathlib.Core.Path.{sym, _∙_}
 use lib.Seq.{length-take-le}

@@ -1,5 +1,4 @@
 -- `job::ids::ids_into` meets its contract. The invariant: what is stored with what follows from here is the whole, and so is their number.
--- Assumes nothing.
 use borrow.Author.Needs.{needs}
 use Prim.Native.Nat.{_+_, _-_, _≤_}
 use native.Mathlib.Nat.{sub-zero, zero-add}

@@ -1,5 +1,4 @@
 -- `job::ids::predecessors_at` meets its contract: the head says how many ids follow it, and they are at most 64.
--- Assumes nothing.
 use borrow.Author.Needs.{needs}
 use Prim.Native.Nat.{_≤_}
 use Rattle.fields.proofs.Reading.{seen}

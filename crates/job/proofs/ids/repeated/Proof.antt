@@ -1,5 +1,4 @@
 -- `job::ids::repeated` meets its contract: each of its two tests as its function finds it.
--- Assumes nothing.
 use borrow.Author.Needs.{needs}
 use mathlib.Core.Path.{sym, _∙_}
 use Rattle.job.proofs.ids.repeated.Statement.{statement}

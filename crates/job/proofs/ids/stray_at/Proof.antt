@@ -1,5 +1,4 @@
 -- `job::ids::stray_at` meets its contract: the front of the array is the list of the predecessors.
--- Assumes nothing.
 use borrow.Author.Needs.{needs}
 use mathlib.Core.Path.{refl}
 use Rattle.job.proofs.Stored.{predecessors-stored}

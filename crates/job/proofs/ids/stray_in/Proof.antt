@@ -1,5 +1,4 @@
 -- `job::ids::stray_in` meets its contract, as `contains_from` does: an id of the rest from here is none of the known ones if one of the whole is.
--- Assumes nothing.
 use borrow.Author.Needs.{needs}
 use Prim.Native.Nat.{_-_}
 use mathlib.Core.Path.{_≡_, refl, sym, _∙_}

@@ -1,5 +1,4 @@
 -- `job::ids::unknown` meets its contract: each of its two tests as its function finds it.
--- Assumes nothing.
 use borrow.Author.Needs.{needs}
 use mathlib.Core.Path.{sym, ap, _∙_}
 use mathlib.Core.Bool.{not}

@@ -1,0 +1,17 @@
+-- A property's kind and value, and back. Document 01, formats: "kind u8 (0 name, 1 number), value u64".
+use Prim.Native.Nat.{ℕ}
+use mathlib.Core.Bool.{Bool, true, false}
+use Rattle.entries.specs.declared.PropertyLiteral.{PropertyLiteral}
+use Rattle.entries.specs.declared.PropertyLiteral.the-variants.{String, Number}
+
+abbrev pub propertyOf : Bool → ℕ → PropertyLiteral
+propertyOf false value = String value
+propertyOf true value = Number value
+
+abbrev pub isNumber : PropertyLiteral → Bool
+isNumber (String v) = false
+isNumber (Number v) = true
+
+abbrev pub valueOf : PropertyLiteral → ℕ
+valueOf (String v) = v
+valueOf (Number v) = v
