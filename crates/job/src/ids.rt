@@ -158,16 +158,17 @@ fn unknown(s: &[u8], ids: &[u32], places: &[usize], scope: BlockId) -> bool
 
 // The answer for a job whose records were read, by the ids and the places of its blocks.
 pub fn checked_by(s: &[u8], ids: &[u32], places: &[usize], head: JobHead) -> ReadJob
-    requires { ⌜ head .blocks ≤ length (now places) ⌝ }
-    ensures { λ r. ⌜ r ≡ checkedBy (now (s .entry)) (now (ids .entry)) (take (head .blocks) (now (places .entry))) head ⌝ }
+    requires { ⌜ (head .blocks ≤ length (now ids)) × (head .blocks ≤ length (now places)) ⌝ }
+    ensures { λ r. ⌜ r ≡ checkedBy (now (s .entry)) (take (head .blocks) (now (ids .entry))) (take (head .blocks) (now (places .entry))) head ⌝ }
 {
     let n = head.blocks;
+    let known = &ids[..n];
     let noted = &places[..n];
-    if repeated(s, ids, noted) {
+    if repeated(s, known, noted) {
         return ReadJob::Refused(Refusal::RepeatedId);
     }
     let scope = head.scope;
-    if unknown(s, ids, noted, scope) {
+    if unknown(s, known, noted, scope) {
         return ReadJob::Refused(Refusal::UnknownBlock);
     }
     ReadJob::Value(head)

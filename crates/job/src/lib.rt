@@ -25,13 +25,13 @@ ghost use Rattle.job.specs.Kept.{placeOf, numberOf, blockPlaces, blockNu
 mod ids;
 
 // A mark is the number that its two bytes make, the first lowest.
-const BL: u16 = 0x4C42;
+pub const BL: u16 = 0x4C42;
 
-const PA: u16 = 0x4150;
+pub const PA: u16 = 0x4150;
 
-const CA: u16 = 0x4143;
+pub const CA: u16 = 0x4143;
 
-const HD: u16 = 0x4448;
+pub const HD: u16 = 0x4448;
 
 // A record's value and the place after it, or the refusal.
 pub enum ReadEntry {
@@ -410,16 +410,15 @@ fn records_of(s: &[u8], ids: &mut [u32; 128], places: &mut [usize; 128]) -> Read
     })
 }
 
-// The job, or its refusal. The place of each block's record is noted.
-pub fn read_job(s: &[u8], places: &mut [usize; 128]) -> ReadJob
+// The job, or its refusal. The id of each block and the place of its record are noted.
+pub fn read_job(s: &[u8], ids: &mut [u32; 128], places: &mut [usize; 128]) -> ReadJob
     ensures { λ r. ⌜ r ≡ answerOf (now (s .entry)) (readJob HD 4 (now (s .entry))) ⌝ }
+    ensures { λ r. ⌜ now (ids .exit) ≡ sets (now (ids .entry)) 0 (blockNumbers (now (s .entry))) ⌝ }
     ensures { λ r. ⌜ now (places .exit) ≡ sets (now (places .entry)) 0 (blockPlaces (now (s .entry))) ⌝ }
 {
-    let mut ids = [0u32; 128];
-    let read = records_of(s, &mut ids, places);
+    let read = records_of(s, ids, places);
     let ReadJob::Value(head) = read else {
         return read;
     };
-    let n = head.blocks;
-    ids::checked_by(s, &ids[..n], places, head)
+    ids::checked_by(s, ids, places, head)
 }

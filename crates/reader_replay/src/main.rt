@@ -48,8 +48,9 @@ fn refused_by(space: &[u8], n: usize) -> u8 {
     if space.len() < n {
         return 0;
     }
+    let mut ids = [0u32; 128];
     let mut places = [0usize; 128];
-    let read = job::read_job(&space[..n], &mut places);
+    let read = job::read_job(&space[..n], &mut ids, &mut places);
     match read {
         ReadJob::Value(_) => 0,
         ReadJob::Refused(refusal) => refusal.number(),

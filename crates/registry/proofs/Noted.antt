@@ -84,3 +84,20 @@ pub noted-new : (ws vs os ps : List ℕ) (n : Node) (k : NodeId) → Held ws os 
 noted-new ws vs os ps n k h e nodes members j =
     ap (λ s. contains s j) members ∙ noted-more (registryOf ws) n (membersOf os) (h .noted) k (e ∙ sym (registry-length ws)) j
     ∙ ap (λ r. hasOptional r j) (sym (registry-snoc ws vs n nodes))
+
+-- words that count no node
+pub none-held : (ws os : List ℕ) → length ws ≡ 1537 → countIn ws ≡ 0 → membersOf os ≡ [] → Held ws os × (registryOf ws ≡ [])
+none-held ws os long none empty = (
+  record {
+    sized = record { long = long; room = omega arith };
+    noted = λ k. ap (λ s. contains s k) empty ∙ sym (ap (λ r. hasOptional r k) nothing ∙ past-none [] k (omega arith));
+  },
+  nothing,
+)
+  where
+    nothing : registryOf ws ≡ []
+    nothing = go (registryOf ws) (registry-length ws ∙ none)
+      where
+        go : (r : PropertyPathRegistry) → length r ≡ 0 → r ≡ []
+        go [] e = refl
+        go (n ∷ r) e = absurd (omega arith)

@@ -5,6 +5,7 @@ ghost use Prim.Native.Nat.{_<_, _≤_};
 ghost use Rattle.model.specs.Registry.{getOrCreateIdentifier, getOrCreatePropertyEntry};
 ghost use Rattle.model.specs.Answer.{flag};
 ghost use mathlib.Core.List.{_++_, _∷_, []};
+ghost use lib.ListN.{length};
 ghost use Rattle.registry.specs.declared.Node.the-variants.{Root, Child};
 ghost use Rattle.rows.specs.Members.{membersOf};
 ghost use Rattle.registry.specs.Nodes.{sameKey, findNode, madeFor, Inside, optionalOver, notedWith};
@@ -142,6 +143,17 @@ pub fn load(ws: &[u64; 1537], k: usize) -> Node
 {
     let at = k * 3;
     Node::unpack(ws[at], ws[at + 1], ws[at + 2])
+}
+
+// A registry of no nodes.
+pub fn clear(ws: &mut [u64; 1537], optional: &mut [u64; 8])
+    requires { ⌜ length (now ws) ≡ 1537 ⌝ }
+    ensures { λ _. ⌜ Held (now (ws .exit)) (now (optional .exit)) × (registryOf (now (ws .exit)) ≡ []) ⌝ }
+{
+    ws[1536] = 0;
+    let none = NodeBits::empty();
+    let words = none.words;
+    *optional = words;
 }
 
 // One node more.

@@ -6,8 +6,11 @@ use Rattle.job.specs.Ids.{checkedBy}
 use Rattle.job.proofs.ids.checked_by.Statement.{statement}
 use Rattle.job.proofs.ids.checked_by.Tie as tie
 
+slice-aggregate-known : tie.Need-slice-aggregate-known
+slice-aggregate-known c = sym (length-take-le _ _ (c .before .before .before .before .pre .0))
+
 slice-aggregate-noted : tie.Need-slice-aggregate-noted
-slice-aggregate-noted c = sym (length-take-le _ _ (c .before .before .before .before .pre))
+slice-aggregate-noted c = sym (length-take-le _ _ (c .before .before .before .before .before .pre .1))
 
 repeated-requires : tie.Need-repeated-requires
 repeated-requires c κs = search needs
@@ -34,4 +37,4 @@ returns-3 c =
 pub checked-by-spec : {M : Type 1} → statement M
 checked-by-spec =
     tie.close
-    (tie.spec slice-aggregate-noted repeated-requires returns unknown-requires returns-2 returns-3)
+    (tie.spec slice-aggregate-known slice-aggregate-noted repeated-requires returns unknown-requires returns-2 returns-3)
