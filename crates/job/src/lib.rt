@@ -1,4 +1,5 @@
-// Reads a job: the records field by field and refusals 3 to 6 in one pass over the bytes; then 7 and 8, by the blocks' ids and places.
+// Reads a job: the records field by field and refusals 3 to 6 in one pass over the bytes; then 7 and 8, by the blocks' ids, and by their
+// predecessors, read again at the blocks' places.
 use entries::BlockId;
 use entries::DependencyPathEntry;
 use entries::IdentifierId;

@@ -129,8 +129,8 @@ fn pass(ws: &mut [u64; 1537], optional: &mut [u64; 8], set: NodeBits) -> Reduced
     requires { ⌜ Held (now ws) (now optional) × Sound (registryOf (now ws)) × Members (registryOf (now ws)) (membersOf (set .words)) ⌝ }
     ensures { λ r. ⌜ Reduces (pass (registryOf (now (ws .entry))) (membersOf (set .words))) r (now (ws .exit)) (now (optional .exit)) ⌝ }
 {
-    let marked = NodeBits { words: *optional };
-    let snapshot = set.intersection(marked);
+    let with_optional = NodeBits { words: *optional };
+    let snapshot = set.intersection(with_optional);
     let mut r = ReducedSet {
         set,
         changed: false,

@@ -1,5 +1,5 @@
 // Sets of registry nodes as 512 bits, by value, and 128 rows of them in words that the caller lends. The contracts speak of the ascending
-// lists of the definitions, and of no word.
+// lists that the words stand for.
 use entries::NodeId;
 ghost use mathlib.Core.Path.{_≡_};
 ghost use mathlib.Core.List.{[]};
