@@ -20,7 +20,7 @@ use Rattle.model.specs.Sets.{NodeSet, sameNode, contains, insert, remove, inter
 use Rattle.model.specs.Registry.{nodeLimit, PropertyPathRegistry, Reached, fullPathOf, walkPath}
 use Rattle.model.specs.RegistryLaws.{Sound, Proper, Extends, extends-length, path-proper}
 use Rattle.model.specs.Reduction.{Reduced, reducedMark, reduceNode, reduceNodes, hasOptional, pass}
-use Rattle.model.specs.ReductionLaws.{Members, node-extends, nodes-extend, node-sound}
+use Rattle.model.specs.ReductionLaws.{Members, node-extends, nodes-extend}
 use Rattle.reduction.specs.declared.ReducedSet.{ReducedSet}
 use Rattle.reduction.specs.Reduces.{reducedOf, ReducesBy, Reduces}
 
@@ -75,7 +75,6 @@ reduces-full want r ws os e a = subst (λ b. ReducesBy b want r ws os) e a
 
 pub record Along (end : Reduced) (snapshot ws os : List ℕ) (r : ReducedSet) (from : ℕ) : Type 0 where
   pub held : Held ws os
-  pub sound : Sound (registryOf ws)
   pub room : r .full ≡ false
   pub inside : All (λ k. k .0 < countIn ws) (membersFrom snapshot from)
   pub left : reduceNodes (reducedOf (registryOf ws) r) (membersFrom snapshot from) ≡ end
@@ -84,7 +83,7 @@ all-noted : (ws os : List ℕ) → Held ws os → (t : NodeSet) → All (λ k. c
 all-noted ws os h [] = tt
 all-noted ws os h (k ∷ t) = (h .noted k, all-noted ws os h t)
 
-module _ (ws os snapshot : List ℕ) (set : NodeBits) (held : Held ws os) (sound : Sound (registryOf ws)) (members : Members (registryOf ws) (membersOf (set .words)))
+module _ (ws os snapshot : List ℕ) (set : NodeBits) (held : Held ws os) (members : Members (registryOf ws) (membersOf (set .words)))
     (taken : membersOf snapshot ≡ intersection (membersOf (set .words)) (membersOf os)) where
   marked : membersOf snapshot ≡ select (hasOptional (registryOf ws)) (membersOf (set .words))
   marked = taken ∙ select-same (contains (membersOf os)) (hasOptional (registryOf ws)) (membersOf (set .words)) (all-noted ws os held (membersOf (set .words)))
@@ -93,7 +92,6 @@ module _ (ws os snapshot : List ℕ) (set : NodeBits) (held : Held ws os) (sound
   unfolding pass
   along-start = record {
     held = held;
-    sound = sound;
     room = refl;
     inside = rw marked (all-select (λ k. k .0 < countIn ws) (hasOptional (registryOf ws)) (membersOf (set .words)) (subst (λ n. All (λ k. k .0 < n) (membersOf (set .words))) (registry-length ws) (members .inside)));
     left = ap (reduceNodes (record { registry = registryOf ws; set = membersOf (set .words); changed = false })) marked;
@@ -139,7 +137,6 @@ module _ {end : Reduced} {snapshot ws os : List ℕ} {r : ReducedSet} {from : �
         let after = registry-length vs in
         record {
           held = to .0;
-          sound = subst (λ (x : Reduced). Sound (x .registry)) (to .1) (node-sound (reducedOf (registryOf ws) r) k (a .sound));
           room = e;
           inside = all-map (λ j. j .0 < countIn ws) (λ j. j .0 < countIn vs) (λ j l. omega arith) (membersFrom snapshot (k .0 + 1)) (all .1);
           left = ap (λ (x : Reduced). reduceNodes x (membersFrom snapshot (k .0 + 1))) (sym (to .1)) ∙ onward;

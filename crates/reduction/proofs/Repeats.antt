@@ -11,9 +11,9 @@ use Rattle.registry.specs.Words.{registryOf, Held}
 use Rattle.model.specs.Tests.{decide}
 use Rattle.model.specs.Sets.{NodeSet}
 use Rattle.model.specs.Registry.{PropertyPathRegistry}
-use Rattle.model.specs.RegistryLaws.{Sound, extends-length}
+use Rattle.model.specs.RegistryLaws.{extends-length}
 use Rattle.model.specs.Reduction.{Reduced, pass, optionalMarksOf, reduceMaybeOptionalChains}
-use Rattle.model.specs.ReductionLaws.{Members, pass-sound, pass-shrunk, pass-less, reduction-extends, reduction-repeats}
+use Rattle.model.specs.ReductionLaws.{Members, pass-shrunk, pass-less, reduction-extends, reduction-repeats}
 use Rattle.reduction.specs.declared.ReducedSet.{ReducedSet}
 use Rattle.reduction.specs.Reduces.{reducedOf, ReducesBy, Reduces}
 use Rattle.reduction.proofs.Passes.{reduces-to, reduces-full}
@@ -33,14 +33,13 @@ passesLeft ws r = marksLeft (registryOf ws) r (r .changed)
 
 pub record Repeating (end : Reduced) (ws os : List ℕ) (r : ReducedSet) : Type 0 where
   pub held : Held ws os
-  pub sound : Sound (registryOf ws)
   pub members : Members (registryOf ws) (membersOf (r .set .words))
   pub room : r .full ≡ false
   pub left : onwards (registryOf ws) r (r .changed) ≡ end
 
-pub repeating-start : (ws os : List ℕ) (set : NodeBits) → Held ws os → Sound (registryOf ws) → Members (registryOf ws) (membersOf (set .words))
+pub repeating-start : (ws os : List ℕ) (set : NodeBits) → Held ws os → Members (registryOf ws) (membersOf (set .words))
     → Repeating (reduceMaybeOptionalChains (registryOf ws) (membersOf (set .words))) ws os (record { set = set; changed = true; full = false })
-repeating-start ws os set held sound members = record { held = held; sound = sound; members = members; room = refl; left = refl }
+repeating-start ws os set held members = record { held = held; members = members; room = refl; left = refl }
 
 module _ {end : Reduced} {ws os : List ℕ} {r : ReducedSet} (a : Repeating end ws os r) where
   pub repeating-end : r .changed ≡ false → Reduces end r ws os
@@ -59,7 +58,7 @@ module _ {end : Reduced} {ws os : List ℕ} {r : ReducedSet} (a : Repeating end 
     -- a pass makes no node that the reduction does not make
     within : length (pass reg s .registry) ≤ length (end .registry)
     within =
-        let on = reduction-repeats reg s (a .sound) (a .members) in
+        let on = reduction-repeats reg s (a .held .sound) (a .members) in
         decide (pass reg s .changed)
         (λ e.
         let longer = extends-length (reduction-extends (pass reg s .registry) (pass reg s .set)) in
@@ -79,12 +78,11 @@ module _ {end : Reduced} {ws os : List ℕ} {r : ReducedSet} (a : Repeating end 
 
       pub repeating-more : Repeating end vs ps q
       repeating-more =
-          let on = reduction-repeats reg s (a .sound) (a .members) in
+          let on = reduction-repeats reg s (a .held .sound) (a .members) in
           let flag = ap (λ (x : Reduced). x .changed) (to .1) in
           record {
             held = to .0;
-            sound = subst (λ (x : Reduced). Sound (x .registry)) (to .1) (pass-sound reg s (a .sound));
-            members = subst (λ (x : Reduced). Members (x .registry) (x .set)) (to .1) (pass-shrunk reg s (a .sound) (a .members) .members);
+            members = subst (λ (x : Reduced). Members (x .registry) (x .set)) (to .1) (pass-shrunk reg s (a .held .sound) (a .members) .members);
             room = e;
             left = decide (q .changed)
                 (λ t. ap (onwards (registryOf vs) q) t ∙ ap (λ (x : Reduced). reduceMaybeOptionalChains (x .registry) (x .set)) (sym (to .1)) ∙ sym (on .0 (flag ∙ t)) ∙ whole)
@@ -97,7 +95,7 @@ module _ {end : Reduced} {ws os : List ℕ} {r : ReducedSet} (a : Repeating end 
           let now = ap (marksLeft reg r) changed in
           decide (q .changed)
           (λ t.
-          let less = pass-less reg s (a .sound) (a .members) (flag ∙ t) in
+          let less = pass-less reg s (a .held .sound) (a .members) (flag ∙ t) in
           let same = ap (λ (x : Reduced). optionalMarksOf (x .registry) (x .set)) (to .1) in
           let then = ap (marksLeft (registryOf vs) q) t in
           omega arith)

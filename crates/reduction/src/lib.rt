@@ -5,7 +5,7 @@ ghost use Rattle.entries.specs.declared.NodeId.{NodeId};
 ghost use Rattle.rows.specs.Members.{membersOf};
 ghost use Rattle.registry.specs.Words.{countIn, registryOf, Held, Arrives};
 ghost use Rattle.model.specs.Registry.{fullPathOf, walkPath};
-ghost use Rattle.model.specs.RegistryLaws.{Sound, stepFrom};
+ghost use Rattle.model.specs.RegistryLaws.{stepFrom};
 ghost use Rattle.model.specs.Reduction.{reducedMark, reduceNode, pass, reduceMaybeOptionalChains};
 ghost use Rattle.model.specs.ReductionLaws.{Members};
 ghost use Rattle.reduction.specs.Reduces.{ChildAt, reducedOf, Reduces};
@@ -74,7 +74,7 @@ pub fn walk_again(
     set: NodeBits,
     k: NodeId,
 ) -> Entered
-    requires { ⌜ Held (now ws) (now optional) × Sound (registryOf (now ws)) × (k .0 < countIn (now ws)) ⌝ }
+    requires { ⌜ Held (now ws) (now optional) × (k .0 < countIn (now ws)) ⌝ }
     ensures { λ r. ⌜ Arrives (walkPath (reducedMark (membersOf (set .words))) (registryOf (now (ws .entry))) (fullPathOf (registryOf (now (ws .entry))) k)) r (now (ws .exit)) (now (optional .exit)) ⌝ }
 {
     let n = load(ws, k.0);
@@ -96,7 +96,7 @@ fn reduce_node(
     r: ReducedSet,
     k: NodeId,
 ) -> ReducedSet
-    requires { ⌜ Held (now ws) (now optional) × Sound (registryOf (now ws)) × (k .0 < countIn (now ws)) ⌝ }
+    requires { ⌜ Held (now ws) (now optional) × (k .0 < countIn (now ws)) ⌝ }
     ensures { λ s. ⌜ Reduces (reduceNode (reducedOf (registryOf (now (ws .entry))) r) k) s (now (ws .exit)) (now (optional .exit)) ⌝ }
 {
     let set = r.set;
@@ -126,7 +126,7 @@ fn reduce_node(
 
 // The set's nodes with an optional entry, ascending, as they are at the start.
 fn pass(ws: &mut [u64; 1537], optional: &mut [u64; 8], set: NodeBits) -> ReducedSet
-    requires { ⌜ Held (now ws) (now optional) × Sound (registryOf (now ws)) × Members (registryOf (now ws)) (membersOf (set .words)) ⌝ }
+    requires { ⌜ Held (now ws) (now optional) × Members (registryOf (now ws)) (membersOf (set .words)) ⌝ }
     ensures { λ r. ⌜ Reduces (pass (registryOf (now (ws .entry))) (membersOf (set .words))) r (now (ws .exit)) (now (optional .exit)) ⌝ }
 {
     let with_optional = NodeBits { words: *optional };
@@ -156,7 +156,7 @@ pub fn reduce_maybe_optional_chains(
     optional: &mut [u64; 8],
     set: NodeBits,
 ) -> ReducedSet
-    requires { ⌜ Held (now ws) (now optional) × Sound (registryOf (now ws)) × Members (registryOf (now ws)) (membersOf (set .words)) ⌝ }
+    requires { ⌜ Held (now ws) (now optional) × Members (registryOf (now ws)) (membersOf (set .words)) ⌝ }
     ensures { λ r. ⌜ Reduces (reduceMaybeOptionalChains (registryOf (now (ws .entry))) (membersOf (set .words))) r (now (ws .exit)) (now (optional .exit)) ⌝ }
 {
     let mut r = ReducedSet {

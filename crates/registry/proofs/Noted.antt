@@ -14,7 +14,7 @@ use Rattle.model.specs.Tests.{decide, eqb-same, eqb-true, eqb-false}
 use Rattle.model.specs.Sets.{NodeSet, sameNode, contains, insert}
 use Rattle.model.specs.SetLaws.{same-node, contains-inserted}
 use Rattle.model.specs.Registry.{PropertyPathRegistry, PropertyPathNode, fullPathOf}
-use Rattle.model.specs.RegistryLaws.{nodeAt}
+use Rattle.model.specs.RegistryLaws.{nodeAt, Sound, sound-empty}
 use Rattle.model.specs.Reduction.{hasOptional}
 use Rattle.rows.specs.Members.{membersOf}
 use Rattle.registry.specs.declared.Node.{Node}
@@ -90,6 +90,7 @@ pub none-held : (ws os : List ℕ) → length ws ≡ 1537 → countIn ws ≡ 0 �
 none-held ws os long none empty = (
   record {
     sized = record { long = long; room = omega arith };
+    sound = subst Sound (sym nothing) sound-empty;
     noted = λ k. ap (λ s. contains s k) empty ∙ sym (ap (λ r. hasOptional r k) nothing ∙ past-none [] k (omega arith));
   },
   nothing,

@@ -10,7 +10,7 @@ use lib.ListN.{length, getD, length-append}
 use Rattle.entries.specs.declared.NodeId.{NodeId}
 use Rattle.model.specs.Tests.{decide}
 use Rattle.model.specs.Registry.{nodeLimit, PropertyPathNode, PropertyPathRegistry, find, ensure, Reached, findOrMake}
-use Rattle.model.specs.RegistryLaws.{found-or-made, WasFound, WasMade}
+use Rattle.model.specs.RegistryLaws.{found-or-made, WasFound, WasMade, Sound, root-reached, child-reached}
 use Rattle.model.specs.RegistryLaws as Placed
 use Rattle.registry.specs.declared.Node.{Node}
 use Rattle.registry.specs.declared.Node.the-variants.{Root, Child}
@@ -105,6 +105,14 @@ module _ (ws : List ℕ) (n : Node) (k e : ℕ) (found : k ≡ findNode (nodesOf
 
   pub arrived-full : e ≤ k → nodeLimit ≤ e → nodeLimit < length (madeFor (registryOf ws) n .registry)
   arrived-full l f = made-full ws n (omega arith) (omega arith)
+
+-- a sound registry stays sound
+pub arrived-sound : (ws vs : List ℕ) (n : Node) (k : NodeId) → Sound (registryOf ws) → Inside n (countIn ws) → madeFor (registryOf ws) n ≡ record { registry = registryOf vs; node = k } → Sound (registryOf vs)
+arrived-sound ws vs n k h inside e = subst (λ (x : Reached). Sound (x .registry)) e (go n (subst (Inside n) (sym (registry-length ws)) inside))
+  where
+    go : (m : Node) → Inside m (length (registryOf ws)) → Sound (madeFor (registryOf ws) m .registry)
+    go (Root i r s) l = root-reached (registryOf ws) i r s h .proper .sound
+    go (Child p f) l = child-reached (registryOf ws) p f h l .proper .sound
 
 -- a parent among the nodes fits its bits
 pub inside-packs : (n : Node) (m : ℕ) → m ≤ 512 → Inside n m → Packs n

@@ -7,6 +7,7 @@ use lib.ListN.{length, getD}
 use lib.Dec.{eqb}
 use Rattle.entries.specs.declared.NodeId.{NodeId}
 use Rattle.model.specs.Registry.{nodeLimit, rootMark, PropertyPathRegistry, Reached}
+use Rattle.model.specs.RegistryLaws.{Sound}
 use Rattle.model.specs.Sets.{contains}
 use Rattle.model.specs.Reduction.{hasOptional}
 use Rattle.entries.specs.Property.{propertyOf, valueOf}
@@ -63,9 +64,10 @@ pub record Sized (ws : List ℕ) : Type 0 where
   pub long : length ws ≡ 1537
   pub room : countIn ws ≤ nodeLimit
 
--- The words hold a registry, and the eight words `os` the set of its nodes with an optional entry.
+-- The words hold a registry as its operations make it, and the eight words `os` the set of its nodes with an optional entry.
 pub record Held (ws os : List ℕ) : Type 0 where
   pub sized : Sized ws
+  pub sound : Sound (registryOf ws)
   pub noted : (k : NodeId) → contains (membersOf os) k ≡ hasOptional (registryOf ws) k
 
 -- What is reached: the words hold the registry that was to be reached, and the node is its number; or that registry has no room.

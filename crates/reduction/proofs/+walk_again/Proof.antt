@@ -36,10 +36,10 @@ abbrev claims : ℕ → lts.Claims
 claims t = (load-reads.Asked, load-reads.Learnt, below t, walk-again.Post, step-reads.Asked, step-reads.Learnt)
 
 loaded : (t : ℕ) (l : lts.After-load (claims t) (at t) walk-again.Post) → Loaded (now (l .before .before .args .ws)) (l .before .before .args .k) (l .load .result)
-loaded t l = let s = l .before .before in record { sound = s .pre .1 .1; here = s .pre .1 .2; loaded = l .load .ensures }
+loaded t l = let s = l .before .before in record { sound = s .pre .1 .0 .sound; here = s .pre .1 .1; loaded = l .load .ensures }
 
 load-requires : (t : ℕ) → lts.Need-load-requires (claims t) (at t) walk-again.Post
-load-requires t c κs = le-trans (c .before .pre .1 .2) (c .before .pre .1 .0 .sized .room)
+load-requires t c κs = le-trans (c .before .pre .1 .1) (c .before .pre .1 .0 .sized .room)
 
 walk-again-requires : (t : ℕ) → lts.Need-walk-again-requires (claims t) (at t) walk-again.Post
 walk-again-requires t c κs =
@@ -47,7 +47,7 @@ walk-again-requires t c κs =
     let l = n .before .before in
     let s = l .before .before in
     let less = parent-before (reducedMark (membersOf (s .args .set .words))) (loaded t l) (n .n .given .1) in
-    (subst (λ (j : ℕ). n .n .given .0 .0 .0 < j) (s .pre .0) less, (s .pre .1 .0, s .pre .1 .1, lt-trans less (s .pre .1 .2)))
+    (subst (λ (j : ℕ). n .n .given .0 .0 .0 < j) (s .pre .0) less, (s .pre .1 .0, lt-trans less (s .pre .1 .1)))
 
 returns : (t : ℕ) → lts.Need-returns (claims t) (at t) walk-again.Post
 returns t c =

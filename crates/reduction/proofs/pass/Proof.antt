@@ -21,7 +21,7 @@ abbrev μ-loop : tie.MeasureT-loop
 loop-holds : tie.Need-loop-holds Inv-loop μ-loop
 loop-holds c =
     let s = c .before .before in
-    along-start (now (s .args .ws)) (now (s .args .optional)) (c .intersection .result .words) (s .args .set) (s .pre .0) (s .pre .1) (s .pre .2) (c .intersection .ensures)
+    along-start (now (s .args .ws)) (now (s .args .optional)) (c .intersection .result .words) (s .args .set) (s .pre .0) (s .pre .1) (c .intersection .ensures)
 
 returns : tie.Need-returns Inv-loop μ-loop
 returns c =
@@ -34,7 +34,7 @@ reduce-node-requires c κs =
     let k = c .before .before .before in
     let n = k .before .before in
     let l = n .before .before in
-    (l .loop .inv .held, l .loop .inv .sound, along-inside (l .loop .inv) _ (sym (n .next .ensures) ∙ k .k .given .1))
+    (l .loop .inv .held, along-inside (l .loop .inv) _ (sym (n .next .ensures) ∙ k .k .given .1))
 
 returns-2 : tie.Need-returns-2 Inv-loop μ-loop
 returns-2 c =

@@ -15,10 +15,10 @@ abbrev μ-loop : tie.MeasureT-loop
 μ-loop ws₀ optional₀ r₀ ws optional r = passesLeft ws r
 
 loop-holds : tie.Need-loop-holds Inv-loop μ-loop
-loop-holds c = repeating-start (now (c .args .ws)) (now (c .args .optional)) (c .args .set) (c .pre .0) (c .pre .1) (c .pre .2)
+loop-holds c = repeating-start (now (c .args .ws)) (now (c .args .optional)) (c .args .set) (c .pre .0) (c .pre .1)
 
 pass-requires : tie.Need-pass-requires Inv-loop μ-loop
-pass-requires c κs = let l = c .before .before .before in (l .loop .inv .held, l .loop .inv .sound, l .loop .inv .members)
+pass-requires c κs = let l = c .before .before .before in (l .loop .inv .held, l .loop .inv .members)
 
 returns : tie.Need-returns Inv-loop μ-loop
 returns c =

@@ -22,7 +22,7 @@ insert-requires c κs =
     let s = w .before .before .before .before in
     let r = w .walk-again in
     let there = arrived-at _ (r .result) _ (r .last .0) (r .last .1 .0) (q .q .given .1) (r .ensures) in
-    node-inside (now (s .args .ws)) (s .args .r) (s .args .k) (r .last .0) _ (there .1) (s .pre .1) (there .0 .sized .room)
+    node-inside (now (s .args .ws)) (s .args .r) (s .args .k) (r .last .0) _ (there .1) (s .pre .0 .sound) (there .0 .sized .room)
 
 returns-2 : tie.Need-returns-2
 returns-2 c =

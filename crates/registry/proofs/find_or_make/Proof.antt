@@ -1,7 +1,7 @@
 -- What `find` gives tells whether the model finds the node or makes it; where it is made and there is no room, the model's registry passes the limit.
 use denote.Ref.{now}
 use Rattle.registry.specs.Words.{countIn}
-use Rattle.registry.proofs.View.{arrived-found, arrived-new, arrived-full, inside-packs, inside-limit}
+use Rattle.registry.proofs.View.{arrived-found, arrived-new, arrived-full, arrived-sound, inside-packs, inside-limit}
 use Rattle.registry.proofs.Noted.{noted-new}
 use borrow.Author.Needs.{needs}
 use Rattle.registry.proofs.find_or_make.Statement.{statement}
@@ -32,9 +32,10 @@ returns-2 : tie.Need-returns-2
 returns-2 c =
     let a = c .before .before .before .before .before .before .before .before .before .before in
     let w = now (a .args .ws) in
-    let counted = c .before .before .before .before .before .before .count .ensures in (
-      record { sized = c .before .before .push .ensures .0; noted = noted-new w _ (now (a .args .optional)) _ (a .args .n) _ (a .pre .0) counted (c .before .before .push .ensures .1) (c .note .ensures) },
-      arrived-new w _ _ _ (c .before .before .before .before .before .before .before .before .find .ensures) counted _ (c .before .before .before .before .before .if1 .left) (c .before .before .push .ensures .1),
+    let counted = c .before .before .before .before .before .before .count .ensures in
+    let arrived = arrived-new w _ _ _ (c .before .before .before .before .before .before .before .before .find .ensures) counted _ (c .before .before .before .before .before .if1 .left) (c .before .before .push .ensures .1) in (
+      record { sized = c .before .before .push .ensures .0; sound = arrived-sound w _ (a .args .n) _ (a .pre .0 .sound) (a .pre .1) arrived; noted = noted-new w _ (now (a .args .optional)) _ (a .args .n) _ (a .pre .0) counted (c .before .before .push .ensures .1) (c .note .ensures) },
+      arrived,
     )
 
 returns-3 : tie.Need-returns-3
