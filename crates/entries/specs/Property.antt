@@ -4,14 +4,17 @@ use mathlib.Core.Bool.{Bool, true, false}
 use Rattle.entries.specs.declared.PropertyLiteral.{PropertyLiteral}
 use Rattle.entries.specs.declared.PropertyLiteral.the-variants.{String, Number}
 
+-- "Kind u8 (0 name, 1 number), value u64": the property of a kind and a value.
 abbrev pub propertyOf : Bool → ℕ → PropertyLiteral
 propertyOf false value = String value
 propertyOf true value = Number value
 
+-- The kind: 1, a number, or 0, a name.
 abbrev pub isNumber : PropertyLiteral → Bool
 isNumber (String v) = false
 isNumber (Number v) = true
 
+-- The value: "the host's number for that string" or "the stored u64 of `FloatValue`".
 abbrev pub valueOf : PropertyLiteral → ℕ
 valueOf (String v) = v
 valueOf (Number v) = v

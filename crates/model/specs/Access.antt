@@ -3,12 +3,14 @@ use mathlib.Core.Bool.{Bool, true, false, _&&_, _||_}
 use Rattle.entries.specs.declared.PropertyAccessType.{PropertyAccessType}
 use Rattle.entries.specs.declared.PropertyAccessType.the-variants.{OptionalAccess, UnconditionalAccess, OptionalDependency, UnconditionalDependency}
 
+-- "Optional only if both are": which of "the four access kinds" are optional (`is_optional` of the Rust).
 abbrev pub isOptionalAccess : PropertyAccessType → Bool
 isOptionalAccess OptionalAccess = true
 isOptionalAccess UnconditionalAccess = false
 isOptionalAccess OptionalDependency = true
 isOptionalAccess UnconditionalDependency = false
 
+-- "A dependency if either is": which of them are dependencies (`is_dependency` of the Rust).
 abbrev pub isDependencyAccess : PropertyAccessType → Bool
 isDependencyAccess OptionalAccess = false
 isDependencyAccess UnconditionalAccess = false

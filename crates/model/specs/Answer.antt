@@ -32,34 +32,44 @@ unfoldable pub numberBytes : ℕ → ℕ → List ℕ
 numberBytes zero x = []
 numberBytes (suc bytes) x = x % 256 ∷ numberBytes bytes (x / 256)
 
+-- A field "u8": one byte.
 abbrev pub u8 : ℕ → List ℕ
 u8 = numberBytes 1
 
+-- A field "u16": two bytes.
 abbrev pub u16 : ℕ → List ℕ
 u16 = numberBytes 2
 
+-- A field "u32": four bytes.
 abbrev pub u32 : ℕ → List ℕ
 u32 = numberBytes 4
 
+-- A field "u64": eight bytes.
 abbrev pub u64 : ℕ → List ℕ
 u64 = numberBytes 8
 
+-- "0 or 1", "settled u8 (1 or 0)": the byte of a yes or no.
 abbrev pub flag : Bool → ℕ
 flag false = 0
 flag true = 1
 
+-- "The answer is AN, ..": its mark.
 abbrev pub AN : ℕ
 AN = markOf 0x41 0x4E
 
+-- "A DE record per returned path": its mark.
 abbrev pub DE : ℕ
 DE = markOf 0x44 0x45
 
+-- "The sheet is SH, ..": its mark.
 abbrev pub SH : ℕ
 SH = markOf 0x53 0x48
 
+-- "Per node NO": its mark.
 abbrev pub NO : ℕ
 NO = markOf 0x4E 0x4F
 
+-- "Per block in job order SE": its mark.
 abbrev pub SE : ℕ
 SE = markOf 0x53 0x45
 
@@ -72,6 +82,7 @@ kindOf (Number v) = 1
 abbrev pub stepBytes : DependencyPathEntry → List ℕ
 stepBytes e = u8 (flag (e .optional)) ++ u8 (kindOf (e .property)) ++ u64 (valueOf (e .property))
 
+-- "Entries of 14 bytes: optional u8, kind u8, value u64, span u32", the span in so many bytes.
 abbrev pub entryBytes : ℕ → DependencyPathEntry → List ℕ
 entryBytes spanBytes e = stepBytes e ++ numberBytes spanBytes (e .span)
 
@@ -91,11 +102,13 @@ answerBytes spanBytes job p =
 
 -- The same read back: what an answer holds.
 
+-- What stands in an answer: "count, rounds, settled, .. returned path", the count being that of the list.
 pub record Answered : Type 0 where
   pub paths : List ReactiveScopeDependency
   pub rounds : ℕ
   pub settled : Bool
 
+-- The answer's fields in their order, "fields as PA": read by the readers of a job.
 unfoldable pub readAnswer : ℕ → Reader Answered
 unfolding readMark readNumber readFlag readPath
 readAnswer spanBytes s at =
@@ -164,13 +177,16 @@ withinLengths leastOut mostJob job out rest =
 abbrev pub withinNodes : Rounds Work → List ℕ → Verdict
 withinNodes p bytes = cond (ltb nodeLimit (length (p .work .registry))) (turnsBack ManyNodes) (writes bytes)
 
+-- A job that was read is propagated, 9 is looked at, and the bytes are written; 3 to 8 stay what they are.
 abbrev pub onJob : JoiningRule → (Job → Rounds Work → List ℕ) → Read Job → Verdict
 onJob rule bytes (got job next) = let p = propagated rule (job .blocks) in withinNodes p (bytes job p)
 onJob rule bytes (refused r) = turnsBack r
 
+-- 1: "Shorter than 24,576 bytes."
 abbrev pub leastBuffer : ℕ
 leastBuffer = 24576
 
+-- 2: "Longer than 32,768 bytes."
 abbrev pub longestJob : ℕ
 longestJob = 32768
 
@@ -183,10 +199,12 @@ unfoldable pub verdict : JoiningRule → (ℕ → Job → Rounds Work → List �
 unfolding readJob propagated
 verdict rule bytes job out = withinLengths leastBuffer longestJob job out (onJob rule (bytes spanWidth) (readJob HD spanWidth job))
 
+-- "Two operations take a job and an out buffer": the answer.
 unfoldable pub answerOf : List ℕ → List ℕ → Verdict
 unfolding verdict answerBytes doneNeighbours
 answerOf job out = verdict doneNeighbours answerBytes job out
 
+-- And the sheet.
 unfoldable pub sheetOf : List ℕ → List ℕ → Verdict
 unfolding verdict sheetBytes doneNeighbours
 sheetOf job out = verdict doneNeighbours sheetBytes job out
@@ -206,8 +224,10 @@ abbrev pub programOutput : Verdict → List ℕ
 programOutput (writes bytes) = bytes
 programOutput (turnsBack r) = 0x52 ∷ 0x46 ∷ refusalNumber r ∷ []
 
+-- "Program `answer`": its buffer has the least length, so that 1 does not occur, and its input is the job.
 unfoldable pub answerProgram : List ℕ → List ℕ
 answerProgram input = programOutput (answerOf input (replicate leastBuffer 0))
 
+-- "`sheet` likewise."
 unfoldable pub sheetProgram : List ℕ → List ℕ
 sheetProgram input = programOutput (sheetOf input (replicate leastBuffer 0))

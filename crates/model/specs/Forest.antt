@@ -13,12 +13,14 @@ pub data Key : Type 0 where
   identifierKey : IdentifierId → Key
   propertyKey : PropertyLiteral → Key
 
+-- Keys are equal when both are identifiers or both properties, and these are equal ("properties are equal when ..", module 1).
 abbrev pub sameKey : Key → Key → Bool
 sameKey (identifierKey a) (identifierKey b) = eqb (a .0) (b .0)
 sameKey (identifierKey a) (propertyKey q) = false
 sameKey (propertyKey p) (identifierKey b) = false
 sameKey (propertyKey p) (propertyKey q) = sameProperty p q
 
+-- "Roots and children in order of first insertion": a position, its children, and the positions after it.
 pub data Forest (P : Type 0) : Type 0 where
   empty : Forest P
   position : P → Forest P → Forest P → Forest P
@@ -40,6 +42,7 @@ module _ {P : Type 0} (key : P → Key) where
   childByKey (some f) k = findKey (f .children) k
 
   module _ (merge : P → P → P) where
+    -- The positions that a way down makes where none of them is there: each the only child of the one before.
     abbrev pub chain : List P → Forest P
     chain [] = empty
     chain (s ∷ ss) = position s (chain ss) empty
@@ -50,12 +53,13 @@ module _ {P : Type 0} (key : P → Key) where
     add (position p c r) [] = position p c r
     add (position p c r) (s ∷ ss) = cond (sameKey (key p) (key s)) (position (merge p s) (add c ss) r) (position p c (add r (s ∷ ss)))
 
+    -- One way down after the other, in their order.
     abbrev pub addAll : Forest P → List (List P) → Forest P
     addAll f [] = f
     addAll f (w ∷ ws) = addAll (add f w) ws
 
--- the ways down to the first positions on each that pass the test, in order
 module _ {P : Type 0} (test : P → Bool) where
+  -- "The first dependencies on each way down": the ways down to the first positions on each that pass the test, in order.
   abbrev pub firsts : Forest P → List (List P)
   firsts empty = []
   firsts (position p c r) = map (λ ps. p ∷ ps) (cond (test p) ([] ∷ []) (firsts c)) ++ firsts r

@@ -20,15 +20,19 @@ use Rattle.model.specs.Read.{Read, got, refused, Reader, andThen, mapped
 abbrev pub markOf : ℕ → ℕ → ℕ
 markOf first second = first + 256 * second
 
+-- "HD": the mark of the header.
 abbrev pub HD : ℕ
 HD = markOf 0x48 0x44
 
+-- "Per block BL": the mark of a block.
 abbrev pub BL : ℕ
 BL = markOf 0x42 0x4C
 
+-- "Its assumed paths follow as PA records": the mark of an assumed path.
 abbrev pub PA : ℕ
 PA = markOf 0x50 0x41
 
+-- "After the blocks, candidates: CA": the mark of a candidate.
 abbrev pub CA : ℕ
 CA = markOf 0x43 0x41
 
@@ -54,11 +58,13 @@ readPath spanBytes mark s at =
     mapped (λ entries. record { identifier = record { 0 = identifier }; reactive = reactive; path = entries; span = span })
     (readMany count (readEntry spanBytes) s entriesAt))))))
 
+-- The fields of BL, with the assumed paths that follow it; the two counts are those of the lists.
 pub record Block : Type 0 where
   pub id : BlockId
   pub predecessors : List BlockId
   pub assumed : List ReactiveScopeDependency
 
+-- "Id u32", of a block. "Identifiers and block ids are kept apart as in the source."
 abbrev pub readBlockId : Reader BlockId
 readBlockId s at = mapped (λ i. record { 0 = i }) (readU32 s at)
 
@@ -73,6 +79,7 @@ readBlock spanBytes s at =
     both (λ ids paths. record { id = id; predecessors = ids; assumed = paths })
     (readMany predecessors readBlockId s idsAt) (readMany assumed (readPath spanBytes PA) s)))))
 
+-- The fields of HD.
 pub record Header : Type 0 where
   pub blocks : ℕ
   pub candidates : ℕ
@@ -88,6 +95,7 @@ readHeader mark s at =
     andThen (readBlockId s scopeAt) (λ scope next.
     got (record { blocks = blocks; candidates = candidates; scope = scope }) next))))
 
+-- A job: the scope block, the blocks in job order, the candidates in theirs.
 pub record Job : Type 0 where
   pub scope : BlockId
   pub blocks : List Block
@@ -102,9 +110,11 @@ readRecords head spanBytes s =
     andThen (readMany (header .candidates) (readPath spanBytes CA) s candidatesAt) (λ candidates next.
     cond (eqb next (length s)) (got (record { scope = header .scope; blocks = blocks; candidates = candidates }) next) (refused ExtraByte))))
 
+-- Two block ids are the same number.
 abbrev pub sameBlock : BlockId → BlockId → Bool
 sameBlock a b = eqb (a .0) (b .0)
 
+-- A block id stands in a list.
 abbrev pub containsId : List BlockId → BlockId → Bool
 containsId ids i = anyOf (sameBlock i) ids
 
@@ -113,6 +123,7 @@ abbrev pub repeats : List BlockId → Bool
 repeats [] = false
 repeats (i ∷ ids) = containsId ids i || repeats ids
 
+-- The blocks' ids, in job order.
 abbrev pub idsOf : List Block → List BlockId
 idsOf blocks = map (λ (b : Block). b .id) blocks
 

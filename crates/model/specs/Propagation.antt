@@ -16,6 +16,7 @@ pub record Work : Type 0 where
   pub sets : List NodeSet
   pub changed : Bool
 
+-- A block's set ("its set"), by the block's place; a place that is no block has none.
 abbrev pub setOf : List NodeSet → ℕ → NodeSet
 setOf sets b = getD sets b []
 
@@ -43,6 +44,7 @@ joinWith neighbours b w =
       changed = w .changed || not (sameSet (setOf (w .sets) b) (r .set));
     }
 
+-- "Then joins its set with the intersection of its Done neighbours' sets .., reduces it": the rule says which of a block's neighbours join.
 unfoldable pub join : JoiningRule → (ℕ → List ℕ) → ℕ → List TraversalState → Work → Work
 unfolding joinWith
 join rule near b marks w = joinWith (rule marks (near b)) b w
@@ -53,22 +55,26 @@ pub record Graph : Type 0 where
   pub predecessors : ℕ → List ℕ
   pub successors : ℕ → List ℕ
 
+-- "Forward takes blocks in job order with predecessors in job order."
 unfoldable pub forward : JoiningRule → Graph → Work → Work
 unfolding walk jobOrder join
 forward rule g w = walk (g .size) (g .predecessors) (join rule (g .predecessors)) (jobOrder (g .size)) w
 
+-- "Backward takes reverse job order with successors by ascending id."
 unfoldable pub backward : JoiningRule → Graph → Work → Work
 unfolding walk reverseJobOrder join
 backward rule g w = walk (g .size) (g .successors) (join rule (g .successors)) (reverseJobOrder (g .size)) w
 
--- "Rounds of a forward and a backward walk."
+-- A round starts with no set changed.
 abbrev pub unchanged : PropertyPathRegistry → List NodeSet → Work
 unchanged reg sets = record { registry = reg; sets = sets; changed = false }
 
+-- "Rounds of a forward and a backward walk."
 unfoldable pub round : JoiningRule → Graph → Work → Work
 unfolding forward backward
 round rule g w = backward rule g (forward rule g (unchanged (w .registry) (w .sets)))
 
+-- "The round that changes nothing": whether this one did change a set.
 abbrev pub hasChanged : Work → Bool
 hasChanged w = w .changed
 

@@ -21,6 +21,7 @@ abbrev pub andThen : {A B : Type 0} → Read A → (A → ℕ → Read B) → Re
 andThen (got a next) rest = rest a next
 andThen (refused r) rest = refused r
 
+-- A value made of the value read; a refusal stays.
 abbrev pub mapped : {A B : Type 0} → (A → B) → Read A → Read B
 mapped f (got a next) = got (f a) next
 mapped f (refused r) = refused r
@@ -44,15 +45,19 @@ unfolding readByte
 readNumber zero s at = got 0 at
 readNumber (suc bytes) s at = both (λ low high. low + 256 * high) (readByte s at) (readNumber bytes s)
 
+-- A field "u8".
 abbrev pub readU8 : Reader ℕ
 readU8 = readNumber 1
 
+-- A field "u16".
 abbrev pub readU16 : Reader ℕ
 readU16 = readNumber 2
 
+-- A field "u32".
 abbrev pub readU32 : Reader ℕ
 readU32 = readNumber 4
 
+-- A field "u64".
 abbrev pub readU64 : Reader ℕ
 readU64 = readNumber 8
 

@@ -29,11 +29,13 @@ reduceNode r k =
       changed = r .changed || not (sameNode (at .node) k);
     }
 
+-- The nodes of a pass, one after the other, each with the set as the one before left it: "replaced at once".
 unfoldable pub reduceNodes : Reduced → List NodeId → Reduced
 unfolding reduceNode
 reduceNodes r [] = r
 reduceNodes r (k ∷ ks) = reduceNodes (reduceNode r k) ks
 
+-- "Nodes with an optional entry": one stands in the node's path.
 abbrev pub hasOptional : PropertyPathRegistry → NodeId → Bool
 hasOptional reg k = anyOf (λ (e : DependencyPathEntry). e .optional) (fullPathOf reg k .path)
 
@@ -54,6 +56,7 @@ passes (suc most) reg s =
 unfoldable pub optionalMarks : List DependencyPathEntry → ℕ
 optionalMarks es = countOf (λ (e : DependencyPathEntry). e .optional) es
 
+-- and those of a set's nodes together
 unfoldable pub optionalMarksOf : PropertyPathRegistry → NodeSet → ℕ
 unfolding optionalMarks
 optionalMarksOf reg s = sumOf (λ k. optionalMarks (fullPathOf reg k .path)) s

@@ -9,10 +9,11 @@ use Rattle.entries.specs.declared.NodeId.{NodeId}
 use Rattle.entries.specs.declared.DependencyPathEntry.{DependencyPathEntry}
 use Rattle.entries.specs.Path.{sameEntry, ReactiveScopeDependency}
 
--- the most nodes that an accepted job's registry has, and the number that stands for a root's parent in a sheet
+-- 9: "Would pass 512 nodes": the most nodes that an accepted job's registry has.
 abbrev pub nodeLimit : ℕ
 nodeLimit = 512
 
+-- "Parent u16 (65535 for a root)."
 abbrev pub rootMark : ℕ
 rootMark = 65535
 
@@ -30,6 +31,7 @@ pub record PropertyPathNode : Type 0 where
 abbrev pub PropertyPathRegistry : Type 0
 PropertyPathRegistry = List PropertyPathNode
 
+-- A node hangs nowhere: it is a root.
 abbrev pub isRoot : Origin → Bool
 isRoot root = true
 isRoot (childOf q f) = false
@@ -38,6 +40,7 @@ isRoot (childOf q f) = false
 abbrev pub isRootFor : IdentifierId → PropertyPathNode → Bool
 isRootFor i n = isRoot (n .origin) && eqb (n .fullPath .identifier .0) (i .0)
 
+-- A node hangs at this parent, by an entry whose property and optional mark are these.
 abbrev pub isChild : NodeId → DependencyPathEntry → Origin → Bool
 isChild p e root = false
 isChild p e (childOf q f) = eqb (q .0) (p .0) && sameEntry f e
@@ -61,6 +64,7 @@ pub record Reached : Type 0 where
   pub registry : PropertyPathRegistry
   pub node : NodeId
 
+-- The node that passes the test, found or made last ("numbered from 0 as made").
 abbrev pub findOrMake : (PropertyPathNode → Bool) → PropertyPathNode → PropertyPathRegistry → Reached
 findOrMake test new reg = record { registry = ensure test new reg; node = record { 0 = find test reg } }
 
@@ -79,9 +83,11 @@ childNode p d e = record {
 abbrev pub fullPathOf : PropertyPathRegistry → NodeId → ReactiveScopeDependency
 fullPathOf reg k = (getD reg (k .0) (rootNode (record { 0 = zero }) false zero)) .fullPath
 
+-- "A root per identifier", found or made (`get_or_create_identifier` of the Rust).
 abbrev pub getOrCreateIdentifier : PropertyPathRegistry → IdentifierId → Bool → ℕ → Reached
 getOrCreateIdentifier reg i r s = findOrMake (isRootFor i) (rootNode i r s) reg
 
+-- "A child per parent, property and optional mark", found or made (`get_or_create_property_entry` of the Rust).
 abbrev pub getOrCreatePropertyEntry : PropertyPathRegistry → NodeId → DependencyPathEntry → Reached
 getOrCreatePropertyEntry reg p e = findOrMake (isChildBy p e) (childNode p (fullPathOf reg p) e) reg
 
@@ -94,9 +100,11 @@ unfoldable pub walkFrom : (NodeId → DependencyPathEntry → Bool) → Reached 
 walkFrom mark at [] = at
 walkFrom mark at (e ∷ es) = walkFrom mark (getOrCreatePropertyEntry (at .registry) (at .node) (remarked e (mark (at .node) e))) es
 
+-- Down a whole path, from the root of its identifier.
 abbrev pub walkPath : (NodeId → DependencyPathEntry → Bool) → PropertyPathRegistry → ReactiveScopeDependency → Reached
 walkPath mark reg d = walkFrom mark (getOrCreateIdentifier reg (d .identifier) (d .reactive) (d .span)) (d .path)
 
+-- An entry keeps its own optional mark.
 abbrev pub ownMark : NodeId → DependencyPathEntry → Bool
 ownMark k e = e .optional
 

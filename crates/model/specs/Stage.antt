@@ -29,10 +29,12 @@ placeOf (b ∷ bs) i = cond (sameBlock (b .id) i) zero (suc (placeOf bs i))
 unfoldable pub predecessorsOf : List Block → ℕ → List ℕ
 predecessorsOf bs k = map (placeOf bs) (blockAt bs k .predecessors)
 
+-- A place set in among places whose blocks' ids ascend.
 abbrev pub insertById : List Block → ℕ → List ℕ → List ℕ
 insertById bs k [] = k ∷ []
 insertById bs k (j ∷ js) = cond (ltb (blockAt bs k .id .0) (blockAt bs j .id .0)) (k ∷ j ∷ js) (j ∷ insertById bs k js)
 
+-- Places sorted so that their blocks' ids ascend ("by ascending id").
 abbrev pub sortById : List Block → List ℕ → List ℕ
 sortById bs [] = []
 sortById bs (k ∷ ks) = insertById bs k (sortById bs ks)
@@ -47,16 +49,19 @@ unfoldable pub successorsOf : List Block → ℕ → List ℕ
 unfolding byAscendingId
 successorsOf bs k = select (λ j. containsId (blockAt bs j .predecessors) (blockAt bs k .id)) (byAscendingId bs)
 
+-- The job's graph: its blocks by place, with "predecessors in job order" and "successors by ascending id".
 unfoldable pub graphOf : List Block → Graph
 unfolding predecessorsOf successorsOf
 graphOf bs = record { size = length bs; predecessors = predecessorsOf bs; successors = successorsOf bs }
 
 -- The start.
 
+-- The registry and one block's set, as paths are entered.
 pub record Entered : Type 0 where
   pub registry : PropertyPathRegistry
   pub set : NodeSet
 
+-- "Assumed paths are entered .. in job order": each path's node joins the block's set.
 abbrev pub enterPaths : PropertyPathRegistry → NodeSet → List ReactiveScopeDependency → Entered
 enterPaths reg s [] = record { registry = reg; set = s }
 enterPaths reg s (d ∷ ds) = let at = getOrCreateProperty reg d in enterPaths (at .registry) (insert (at .node) s) ds

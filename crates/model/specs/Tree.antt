@@ -19,6 +19,7 @@ use Rattle.model.specs.Forest.{Key, identifierKey, propertyKey, Forest, 
 
 -- The hoistable tree.
 
+-- "Paths with an optional first entry": the list starts with one.
 abbrev pub startsOptional : List DependencyPathEntry → Bool
 startsOptional [] = false
 startsOptional (e ∷ es) = e .optional
@@ -27,13 +28,16 @@ startsOptional (e ∷ es) = e .optional
 unfoldable pub ordered : List ReactiveScopeDependency → List ReactiveScopeDependency
 ordered ds = select (λ d. startsOptional (d .path)) ds ++ select (λ d. not (startsOptional (d .path))) ds
 
+-- A position of the hoistable tree: its key ("keyed by property alone") and its access ("Optional .., else NonNull").
 pub record HoistablePosition : Type 0 where
   pub key : Key
   pub access : HoistableAccessType
 
+-- The key of a position, as the forest asks for it.
 abbrev pub hoistableKey : HoistablePosition → Key
 hoistableKey h = h .key
 
+-- "At a NonNull position": the access is NonNull.
 abbrev pub accessIsNonNull : HoistableAccessType → Bool
 accessIsNonNull Optional = false
 accessIsNonNull NonNull = true
@@ -42,10 +46,12 @@ accessIsNonNull NonNull = true
 abbrev pub accessBefore : List DependencyPathEntry → HoistableAccessType
 accessBefore es = cond (startsOptional es) Optional NonNull
 
+-- The positions of a path's entries, each with the access that the entry after it gives.
 abbrev pub hoistableEntries : List DependencyPathEntry → List HoistablePosition
 hoistableEntries [] = []
 hoistableEntries (e ∷ es) = record { key = propertyKey (e .property); access = accessBefore es } ∷ hoistableEntries es
 
+-- The positions of a whole path: its root's, keyed by the identifier, and its entries'.
 abbrev pub hoistablePath : ReactiveScopeDependency → List HoistablePosition
 hoistablePath d = record { key = identifierKey (d .identifier); access = accessBefore (d .path) } ∷ hoistableEntries (d .path)
 
@@ -60,15 +66,18 @@ hoistableTree ds = addAll hoistableKey firstMade empty (map hoistablePath (order
 
 -- The walk of a candidate.
 
+-- A position of the dependency tree: key, access kind, span, and a root's reactive.
 pub record DependencyPosition : Type 0 where
   pub key : Key
   pub access : PropertyAccessType
   pub span : ℕ
   pub reactive : Bool
 
+-- The key of a position, as the forest asks for it.
 abbrev pub dependencyKey : DependencyPosition → Key
 dependencyKey p = p .key
 
+-- "First dependencies": the position's access is a dependency.
 abbrev pub isDependency : DependencyPosition → Bool
 isDependency p = isDependencyAccess (p .access)
 
@@ -76,6 +85,7 @@ isDependency p = isDependencyAccess (p .access)
 abbrev pub withMerged : DependencyPosition → PropertyAccessType → DependencyPosition
 withMerged p a = record { key = p .key; access = mergeAccess (p .access) a; span = p .span; reactive = p .reactive }
 
+-- A position met again is merged ("`merge_access`"), the one that was there keeping its span and reactive.
 abbrev pub mergePosition : DependencyPosition → DependencyPosition → DependencyPosition
 mergePosition old new = withMerged old (new .access)
 
@@ -83,10 +93,12 @@ mergePosition old new = withMerged old (new .access)
 abbrev pub ended : DependencyPosition → DependencyPosition
 ended p = withMerged p OptionalDependency
 
+-- "At a NonNull position": the hoistable tree has the position, and its access is NonNull.
 abbrev pub atNonNull : Option (Found HoistablePosition) → Bool
 atNonNull none = false
 atNonNull (some f) = accessIsNonNull (f .here .access)
 
+-- "At a NonNull position plain; otherwise optional": the access of the entry taken there.
 abbrev pub stepAccess : Bool → PropertyAccessType
 stepAccess true = UnconditionalAccess
 stepAccess false = OptionalAccess
@@ -104,9 +116,11 @@ walkEntries h p (e ∷ es) =
     (p ∷ walkEntries (childByKey hoistableKey h (propertyKey (e .property))) (stepTo e (stepAccess (atNonNull h))) es)
     (ended p ∷ [])
 
+-- The position where a candidate's walk starts: its identifier, accessed without condition.
 abbrev pub rootPosition : ReactiveScopeDependency → DependencyPosition
 rootPosition d = record { key = identifierKey (d .identifier); access = UnconditionalAccess; span = d .span; reactive = d .reactive }
 
+-- "Each candidate walks its entries", from its root; the hoistable tree is looked up by the identifier.
 unfoldable pub walkCandidate : Forest HoistablePosition → ReactiveScopeDependency → List DependencyPosition
 unfolding walkEntries
 walkCandidate t d = walkEntries (findKey hoistableKey t (identifierKey (d .identifier))) (rootPosition d) (d .path)
@@ -118,18 +132,21 @@ unfoldable pub dependencyTree : List ReactiveScopeDependency → List ReactiveSc
 unfolding hoistableTree walkCandidate
 dependencyTree hs cs = let t = hoistableTree hs in addAll dependencyKey mergePosition empty (map (walkCandidate t) cs)
 
--- each key's identifier or property; a way down has an identifier first and then properties, so the other cases are not read
+-- A root's key is an identifier; a way down starts at a root, so the other case is not read.
 abbrev pub keyIdentifier : Key → IdentifierId
 keyIdentifier (identifierKey i) = i
 keyIdentifier (propertyKey p) = record { 0 = zero }
 
+-- A child's key is a property; below the root every key is one, so the other case is not read.
 abbrev pub keyProperty : Key → PropertyLiteral
 keyProperty (identifierKey i) = String zero
 keyProperty (propertyKey p) = p
 
+-- A child's position as an entry of the returned path: optional where its access is.
 abbrev pub entryOf : DependencyPosition → DependencyPathEntry
 entryOf p = record { property = keyProperty (p .key); optional = isOptionalAccess (p .access); span = p .span }
 
+-- The span of the position where a way down ends.
 abbrev pub lastSpan : DependencyPosition → List DependencyPosition → ℕ
 lastSpan p [] = p .span
 lastSpan p (q ∷ qs) = lastSpan q qs

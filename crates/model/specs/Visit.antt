@@ -10,11 +10,13 @@ use lib.ListN.{getD, set}
 pub data TraversalState : Type 0 where
   Unmarked Active Done : TraversalState
 
+-- "Visits unmarked neighbours": a block is marked once it is Active or Done.
 abbrev pub isMarked : TraversalState → Bool
 isMarked Unmarked = false
 isMarked Active = true
 isMarked Done = true
 
+-- "Its Done neighbours": the mark is Done.
 abbrev pub isDone : TraversalState → Bool
 isDone Unmarked = false
 isDone Active = false
@@ -36,9 +38,11 @@ unmarkedIn (Done ∷ ms) = unmarkedIn ms
 abbrev pub marked : {W : Type 0} → ℕ → Visited W → Bool
 marked b v = isMarked (getD (v .marks) b Done)
 
+-- "A visit marks the block Active."
 abbrev pub enter : {W : Type 0} → ℕ → Visited W → Visited W
 enter b v = record { marks = set (v .marks) b Active; work = v .work }
 
+-- "Then joins .. and marks it Done."
 abbrev pub leave : {W : Type 0} → (ℕ → List TraversalState → W → W) → ℕ → Visited W → Visited W
 leave join b v = record { marks = set (v .marks) b Done; work = join b (v .marks) (v .work) }
 

@@ -16,6 +16,7 @@ Linked [] = Unit {0}
 Linked (a ∷ []) = Unit {0}
 Linked (a ∷ (b ∷ s)) = Precedes a b × Linked (b ∷ s)
 
+-- "At least one."
 abbrev pub NonEmpty : List Block → Type 0
 NonEmpty [] = ⊥
 NonEmpty (a ∷ s) = Unit {0}
@@ -30,6 +31,7 @@ pub record ControlSequence (bs s : List Block) : Type 0 where
 abbrev pub WithoutLoops : List Block → Type 0
 WithoutLoops bs = (b : Block) (before between after : List Block) → ControlSequence bs (before ++ (b ∷ (between ++ (b ∷ after)))) → ⊥
 
+-- Demand 3: "a block with no predecessor".
 abbrev pub NoPredecessor : Block → Type 0
 NoPredecessor b = b .predecessors ≡ []
 
@@ -37,10 +39,12 @@ NoPredecessor b = b .predecessors ≡ []
 abbrev pub NoSuccessor : List Block → Block → Type 0
 NoSuccessor bs b = All (λ c. Precedes b c → ⊥) bs
 
+-- Demand 3: "from a block with ..": of the first block of a run.
 abbrev pub FirstHas : (Block → Type 0) → List Block → Type 0
 FirstHas P [] = ⊥
 FirstHas P (a ∷ s) = P a
 
+-- Demand 3: "to a block with ..": of the last block of a run.
 abbrev pub LastHas : (Block → Type 0) → List Block → Type 0
 LastHas P [] = ⊥
 LastHas P (a ∷ []) = P a
