@@ -9,7 +9,7 @@ use lib.Seq.{sets, getD-take}
 use Rattle.entries.specs.declared.Refusal.the-variants.{RepeatedId, UnknownBlock}
 use Rattle.model.specs.Read.{got, refused, readMany}
 use Rattle.model.specs.Job.{HD, CA, Header, Job, readPath, readBlock, readRecords, hasRepeat, hasUnknown, acceptIds, readJob}
-use Rattle.job.specs.Kept.{placeOf, blockNotes, blockPlaces, candidatesAt, headOf, answerOf}
+use Rattle.job.specs.Kept.{notePlace, blockNotes, blockPlaces, candidatesAt, headOf, keptOf}
 use Rattle.job.specs.declared.JobHead.{JobHead}
 use Rattle.job.specs.declared.ReadJob.the-variants.{Value}
 use Rattle.job.proofs.Bounds.{held, blocks-most, candidates-most}
@@ -62,7 +62,7 @@ module _ (s : List ℕ) (j : Job) (p : Parts s j) where
     no-unknown = unknown;
     blocks-few = omega (arith, block-count s j p, held (λ (h : Header). h .blocks ≤ 128) (p .header-read) (blocks-most HD s 0));
     candidates-few = omega (arith, candidate-count, held (λ (h : Header). h .candidates ≤ 64) (p .header-read) (candidates-most HD s 0));
-    places-count = note-count s j p placeOf ∙ sym (block-count s j p);
+    places-count = note-count s j p notePlace ∙ sym (block-count s j p);
     block-again = again;
     candidates-read = rw candidate-count (p .candidates-read);
   }
@@ -74,7 +74,7 @@ joined s j j′ end end′ r a e k =
     let p = parts s r in
     rw (k, ← (t .2)) (is s j (p .0) end (p .1) (rw (t .2, t .3) e) (t .0) (t .1))
 
-pub accepted : (s : List ℕ) {h : JobHead} → Value h ≡ answerOf s (readJob HD 4 s) → Accepted s h
+pub accepted : (s : List ℕ) {h : JobHead} → Value h ≡ keptOf s (readJob HD 4 s) → Accepted s h
 accepted s e =
     let v = answer-value s (readJob HD 4 s) e in
     let t = then-got (readRecords HD 4 s) acceptIds (sym (job-fields s) ∙ v .2) in

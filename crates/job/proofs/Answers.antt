@@ -9,7 +9,7 @@ use Rattle.entries.specs.declared.Refusal.{Refusal}
 use Rattle.model.specs.Read.{Read, andThen}
 use Rattle.model.specs.Job.{HD, Header, Block, Job, readBlock, readRecords, acceptIds, readJob}
 use Rattle.job.specs.Ids.{checkedBy}
-use Rattle.job.specs.Kept.{blockNotes, blockPlaces, blockNumbers, answerOf}
+use Rattle.job.specs.Kept.{blockNotes, blockPlaces, blockNumbers, keptOf}
 use Rattle.job.specs.declared.JobHead.{JobHead}
 use Rattle.job.specs.declared.ReadJob.the-variants.{Value, Refused}
 use Rattle.job.proofs.Bounds.{held, blocks-most}
@@ -23,7 +23,7 @@ unfolding readJob
 job-fields s = refl
 
 -- a job whose records are refused is refused for that
-pub job-refused : (s : List ℕ) {r : Refusal} → Refused r ≡ answerOf s (readRecords HD 4 s) → Refused r ≡ answerOf s (readJob HD 4 s)
+pub job-refused : (s : List ℕ) {r : Refusal} → Refused r ≡ keptOf s (readRecords HD 4 s) → Refused r ≡ keptOf s (readJob HD 4 s)
 job-refused s e = rw (job-fields, answer-refused s (readRecords HD 4 s) e)
 
 -- the records were read: the job j has the parts p
@@ -42,7 +42,7 @@ module _ (s : List ℕ) (j : Job) (p : Parts s j) where
   notes-stored f l r wide =
       stored l (blockNotes f s) r (length (j .blocks)) (omega (arith, note-count f, few, wide)) (block-count ∙ sym (note-count f))
 
-module _ (s : List ℕ) {h : JobHead} (e : Value h ≡ answerOf s (readRecords HD 4 s)) where
+module _ (s : List ℕ) {h : JobHead} (e : Value h ≡ keptOf s (readRecords HD 4 s)) where
   pub blocks-few : h .blocks ≤ 128
   blocks-few =
       let v = answer-value s (readRecords HD 4 s) e in
@@ -59,9 +59,9 @@ module _ (s : List ℕ) {h : JobHead} (e : Value h ≡ answerOf s (readRecords H
   pub blocks-stored-in : (f : ℕ → Block → ℕ) (l r : List ℕ) → length r ≡ 128 → r ≡ sets l 0 (blockNotes f s) → Stored (blockNotes f s) r (h .blocks)
   blocks-stored-in f l r wide kept = blocks-stored f l r (sym (ap length kept ∙ length-sets l 0 (blockNotes f s)) ∙ wide) kept
 
-  pub job-checked : checkedBy s (blockNumbers s) (blockPlaces s) h ≡ answerOf s (readJob HD 4 s)
+  pub job-checked : checkedBy s (blockNumbers s) (blockPlaces s) h ≡ keptOf s (readJob HD 4 s)
   job-checked =
       let v = answer-value s (readRecords HD 4 s) e in
       ap (λ (h : JobHead). checkedBy s (blockNumbers s) (blockPlaces s) h) (v .3)
       ∙ checked-is s (v .0) (parts s (v .2) .0) (v .1)
-      ∙ sym (ap (λ (x : Read Job). answerOf s x) (job-fields s ∙ ap (λ (x : Read Job). andThen x acceptIds) (v .2)))
+      ∙ sym (ap (λ (x : Read Job). keptOf s x) (job-fields s ∙ ap (λ (x : Read Job). andThen x acceptIds) (v .2)))

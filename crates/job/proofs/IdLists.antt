@@ -9,7 +9,7 @@ use lib.ListN.{length, getD, drop, drop-of-length-le}
 use lib.Seq.{drop-cons}
 use Rattle.model.specs.Lists.{anyOf}
 use Rattle.model.specs.Job.{containsId, repeats}
-use Rattle.job.specs.Ids.{blockId, blockIds, strays}
+use Rattle.job.specs.Ids.{blockId, blockIds, anyUnknown}
 
 module _ (xs : List ℕ) (i : ℕ) where
   pub contains-none : (x : ℕ) → length xs ≤ i → containsId (blockIds (drop i xs)) (blockId x) ≡ false
@@ -42,13 +42,13 @@ module _ (xs : List ℕ) (i : ℕ) where
   pub any-next : (p : ℕ → Bool) → i < length xs → p (getD xs i 0) ≡ false → anyOf p (drop i xs) ≡ anyOf p (drop (i + 1) xs)
   any-next p h e = rw (add-one, drop-cons xs i 0, e)
 
-  pub strays-none : (known : List ℕ) → length xs ≤ i → strays (blockIds known) (blockIds (drop i xs)) ≡ false
-  strays-none known h = rw (drop-of-length-le xs h)
+  pub unknown-none : (known : List ℕ) → length xs ≤ i → anyUnknown (blockIds known) (blockIds (drop i xs)) ≡ false
+  unknown-none known h = rw (drop-of-length-le xs h)
 
-  pub strays-here : (known : List ℕ) → i < length xs → containsId (blockIds known) (blockId (getD xs i 0)) ≡ false
-      → strays (blockIds known) (blockIds (drop i xs)) ≡ true
-  strays-here known h e = rw (drop-cons xs i 0, e)
+  pub unknown-here : (known : List ℕ) → i < length xs → containsId (blockIds known) (blockId (getD xs i 0)) ≡ false
+      → anyUnknown (blockIds known) (blockIds (drop i xs)) ≡ true
+  unknown-here known h e = rw (drop-cons xs i 0, e)
 
-  pub strays-next : (known : List ℕ) → i < length xs → containsId (blockIds known) (blockId (getD xs i 0)) ≡ true
-      → strays (blockIds known) (blockIds (drop i xs)) ≡ strays (blockIds known) (blockIds (drop (i + 1) xs))
-  strays-next known h e = rw (add-one, drop-cons xs i 0, e)
+  pub unknown-next : (known : List ℕ) → i < length xs → containsId (blockIds known) (blockId (getD xs i 0)) ≡ true
+      → anyUnknown (blockIds known) (blockIds (drop i xs)) ≡ anyUnknown (blockIds known) (blockIds (drop (i + 1) xs))
+  unknown-next known h e = rw (add-one, drop-cons xs i 0, e)

@@ -8,10 +8,10 @@ use Rattle.entries.specs.declared.Refusal.the-variants.{RepeatedId, UnknownBloc
 use Rattle.model.specs.Lists.{anyOf}
 use Rattle.model.specs.Read.{Read, got, refused, andThen, mapped, both, readMany, readNumber}
 use Rattle.model.specs.Job.{PA, Block, Job, readBlockId, readPath, readBlock, repeats, idsOf, hasRepeat, hasUnknown, acceptIds}
-use Rattle.job.specs.Passing.{notes, orNone, itself}
+use Rattle.job.specs.Passing.{notes, orNone, noteValue}
 use Rattle.job.specs.Head.{readBlockHead}
-use Rattle.job.specs.Ids.{blockId, blockIds, strays, predecessorsAt, checkedBy}
-use Rattle.job.specs.Kept.{placeOf, numberOf, blockNotes, blockPlaces, blockNumbers, headOf, answerOf}
+use Rattle.job.specs.Ids.{blockId, blockIds, anyUnknown, predecessorsAt, checkedBy}
+use Rattle.job.specs.Kept.{notePlace, noteNumber, blockNotes, blockPlaces, blockNumbers, headOf, keptOf}
 use Rattle.job.specs.declared.BlockHead.{BlockHead}
 use Rattle.job.proofs.Bounds.{Holds, held}
 use Rattle.job.proofs.Passing.{mapped-got}
@@ -21,15 +21,15 @@ use Rattle.job.proofs.Records.{Parts}
 
 -- the ids noted are the blocks' ids
 ids-noted : (s : List ℕ) (n at : ℕ) {all : List Block} {end : ℕ} → readMany n (readBlock 4) s at ≡ got all end
-    → blockIds (notes numberOf n (readBlock 4) s at) ≡ idsOf all
+    → blockIds (notes noteNumber n (readBlock 4) s at) ≡ idsOf all
 ids-noted s =
-    many-all (readBlock 4) s (λ n at all. blockIds (notes numberOf n (readBlock 4) s at) ≡ idsOf all) (λ at. refl)
+    many-all (readBlock 4) s (λ n at all. blockIds (notes noteNumber n (readBlock 4) s at) ≡ idsOf all) (λ at. refl)
     (λ n at next a rest e q. rw e (ap (λ (l : List BlockId). a .id ∷ l) q))
 
 -- the numbers of ids that are read one after the other
-numbers-noted : (s : List ℕ) (n at : ℕ) → Holds (λ all. blockIds (notes itself n (readNumber 4) s at) ≡ all) (readMany n readBlockId s at)
+numbers-noted : (s : List ℕ) (n at : ℕ) → Holds (λ all. blockIds (notes noteValue n (readNumber 4) s at) ≡ all) (readMany n readBlockId s at)
 numbers-noted s =
-    many-holds readBlockId s (λ n at all. blockIds (notes itself n (readNumber 4) s at) ≡ all) (λ at. refl)
+    many-holds readBlockId s (λ n at all. blockIds (notes noteValue n (readNumber 4) s at) ≡ all) (λ at. refl)
     (λ n at next a rest e q.
     let number = mapped-got blockId (readNumber 4 s at) e in
     rw (number .1, q) (ap (λ (i : BlockId). i ∷ rest) (number .2)))
@@ -50,28 +50,28 @@ predecessors-are s at = rw block-by-head (by-head (readBlockHead s at))
   where
     by-head : (x : Read BlockHead)
         → Holds
-        (λ (b : Block). blockIds (orNone x (λ (head : BlockHead) idsAt. notes itself (head .predecessors) (readNumber 4) s idsAt)) ≡ b .predecessors)
+        (λ (b : Block). blockIds (orNone x (λ (head : BlockHead) idsAt. notes noteValue (head .predecessors) (readNumber 4) s idsAt)) ≡ b .predecessors)
         (andThen x (λ (head : BlockHead) idsAt. both (blockOf head) (readMany (head .predecessors) readBlockId s idsAt) (readMany (head .assumed) (readPath 4 PA) s)))
     by-head (got head idsAt) =
-        let ids : List BlockId = blockIds (notes itself (head .predecessors) (readNumber 4) s idsAt) in
+        let ids : List BlockId = blockIds (notes noteValue (head .predecessors) (readNumber 4) s idsAt) in
         holds-both (λ l. ids ≡ l) (λ (b : Block). ids ≡ b .predecessors) (blockOf head) (λ l paths e. e)
         (readMany (head .predecessors) readBlockId s idsAt) (readMany (head .assumed) (readPath 4 PA) s) (numbers-noted s (head .predecessors) idsAt)
     by-head (refused r) = tt
 
 -- a test of the predecessors at each place is the test of each block's
 tests-agree : (test : List BlockId → Bool) (s : List ℕ) (n at : ℕ) {all : List Block} {end : ℕ} → readMany n (readBlock 4) s at ≡ got all end
-    → anyOf (λ at. test (blockIds (predecessorsAt s at))) (notes placeOf n (readBlock 4) s at) ≡ anyOf (λ (b : Block). test (b .predecessors)) all
+    → anyOf (λ at. test (blockIds (predecessorsAt s at))) (notes notePlace n (readBlock 4) s at) ≡ anyOf (λ (b : Block). test (b .predecessors)) all
 tests-agree test s =
     many-all (readBlock 4) s
-    (λ n at all. anyOf (λ at. test (blockIds (predecessorsAt s at))) (notes placeOf n (readBlock 4) s at) ≡ anyOf (λ (b : Block). test (b .predecessors)) all)
+    (λ n at all. anyOf (λ at. test (blockIds (predecessorsAt s at))) (notes notePlace n (readBlock 4) s at) ≡ anyOf (λ (b : Block). test (b .predecessors)) all)
     (λ at. refl)
     (λ n at next a rest e q.
     rw (e, held (λ (b : Block). blockIds (predecessorsAt s at) ≡ b .predecessors) e (predecessors-are s at))
     (ap (λ (r : Bool). test (a .predecessors) || r) q))
 
 answer-tested : (s : List ℕ) (p q : Bool) (j : Job) (end : ℕ)
-    → answerOf s (cond p (refused RepeatedId) (cond q (refused UnknownBlock) (got j end)))
-    ≡ cond p (answerOf s (refused RepeatedId)) (cond q (answerOf s (refused UnknownBlock)) (answerOf s (got j end)))
+    → keptOf s (cond p (refused RepeatedId) (cond q (refused UnknownBlock) (got j end)))
+    ≡ cond p (keptOf s (refused RepeatedId)) (cond q (keptOf s (refused UnknownBlock)) (keptOf s (got j end)))
 answer-tested s true q j end = refl
 answer-tested s false true j end = refl
 answer-tested s false false j end = refl
@@ -87,8 +87,8 @@ module _ (s : List ℕ) (j : Job) (p : Parts s j) where
   tests-are test = rw (p .header-read) (tests-agree test s (p .header .blocks) (p .blocksAt) (p .blocks-read))
 
   -- the tests of what was noted are refusals 7 and 8 of the job
-  pub checked-is : (end : ℕ) → checkedBy s (blockNumbers s) (blockPlaces s) (headOf s j) ≡ answerOf s (acceptIds j end)
+  pub checked-is : (end : ℕ) → checkedBy s (blockNumbers s) (blockPlaces s) (headOf s j) ≡ keptOf s (acceptIds j end)
   unfolding checkedBy acceptIds hasRepeat hasUnknown
   checked-is end =
-      rw (tests-are repeats, tests-are (strays (blockIds (blockNumbers s))), ids-are)
+      rw (tests-are repeats, tests-are (anyUnknown (blockIds (blockNumbers s))), ids-are)
       (sym (answer-tested s (hasRepeat j) (hasUnknown j) j end))

@@ -12,7 +12,7 @@ use Rattle.entries.specs.declared.Refusal.the-variants.{ExtraByte}
 use Rattle.entries.specs.Path.{ReactiveScopeDependency}
 use Rattle.model.specs.Read.{Read, got, refused, andThen, readMany}
 use Rattle.model.specs.Job.{HD, CA, Header, Block, Job, readHeader, readBlock, readPath, readRecords}
-use Rattle.job.specs.Kept.{candidatesAt, headOf, answerOf}
+use Rattle.job.specs.Kept.{candidatesAt, headOf, keptOf}
 use Rattle.job.specs.declared.JobHead.{JobHead}
 use Rattle.job.specs.declared.ReadJob.the-variants.{Value, Refused}
 use Rattle.job.specs.Passing.{passed}
@@ -52,7 +52,7 @@ module _ (s : List ℕ) {h : Header} {b : ℕ} (head : readHeader HD s 0 ≡ got
       byte-extra more = rw (records-fields, head, passed-got blocks past .1, passed-got candidates last .1, ne-eqb next (length s) more)
 
       pub all-read : next ≡ length s
-          → answerOf s (readRecords HD 4 s) ≡ Value (record { blocks = h .blocks; candidates = h .candidates; scope = h .scope; «candidates_at» = c })
+          → keptOf s (readRecords HD 4 s) ≡ Value (record { blocks = h .blocks; candidates = h .candidates; scope = h .scope; «candidates_at» = c })
       all-read end =
           let bs = passed-got blocks past in
           let cs = passed-got candidates last in
@@ -68,11 +68,11 @@ module _ (s : List ℕ) {h : Header} {b : ℕ} (head : readHeader HD s 0 ≡ got
           )
 
 -- what an answer says of the reading that it stands for
-pub answer-value : (s : List ℕ) (x : Read Job) {h : JobHead} → Value h ≡ answerOf s x → (j : Job) × (end : ℕ) × (x ≡ got j end) × (h ≡ headOf s j)
+pub answer-value : (s : List ℕ) (x : Read Job) {h : JobHead} → Value h ≡ keptOf s x → (j : Job) × (end : ℕ) × (x ≡ got j end) × (h ≡ headOf s j)
 answer-value s (got j end) e = (j, end, refl, cc)
 answer-value s (refused r) e = absurd (let z : _≡_ {A = ℕ} 0 1 = cc in omega arith)
 
-pub answer-refused : (s : List ℕ) (x : Read Job) {r : Refusal} → Refused r ≡ answerOf s x → x ≡ refused r
+pub answer-refused : (s : List ℕ) (x : Read Job) {r : Refusal} → Refused r ≡ keptOf s x → x ≡ refused r
 answer-refused s (got j end) e = absurd (let z : _≡_ {A = ℕ} 0 1 = cc in omega arith)
 answer-refused s (refused r) e = cc
 

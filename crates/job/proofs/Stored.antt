@@ -6,7 +6,7 @@ use native.Mathlib.Omega.{arith}
 use lib.ListN.{length, take, drop}
 use lib.Seq.{sets, sets-eq, length-sets, take-append-seam, length-take-le}
 use Rattle.model.specs.Read.{Read, got, refused, readNumber}
-use Rattle.job.specs.Passing.{orNone, itself}
+use Rattle.job.specs.Passing.{orNone, noteValue}
 use Rattle.job.specs.Head.{readBlockHead}
 use Rattle.job.specs.Ids.{predecessorsAt}
 use Rattle.job.specs.declared.BlockHead.{BlockHead}
@@ -38,7 +38,7 @@ predecessors-few : (s : List ℕ) (at : ℕ) → length (predecessorsAt s at) �
 unfolding predecessorsAt
 predecessors-few s at =
     few-held (λ h. h .predecessors ≤ 64) 64 (readBlockHead s at) _ (predecessors-most s at) (λ head idsAt h.
-    omega (arith, notes-few (readNumber 4) s itself (head .predecessors) idsAt))
+    omega (arith, notes-few (readNumber 4) s noteValue (head .predecessors) idsAt))
 
 pub predecessors-stored : (s : List ℕ) (at : ℕ) (l r : List ℕ) (n : ℕ) → length l ≡ 64 → n ≡ length (predecessorsAt s at)
     → r ≡ sets l 0 (predecessorsAt s at) → Stored (predecessorsAt s at) r n

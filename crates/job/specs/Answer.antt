@@ -19,25 +19,31 @@ use Rattle.job.specs.declared.Header.{Header}
 use Rattle.job.specs.declared.ReadHeader.{ReadHeader}
 use Rattle.job.specs.declared.ReadHeader.the-variants as header
 
+-- What an answer of `entry_at` says: the value and the place after it, or the refusal.
 abbrev pub gotEntry : ReadEntry → Read DependencyPathEntry
 gotEntry (entry.Value x next) = got x next
 gotEntry (entry.Refused r) = refused r
 
+-- The same of `path_head_at`.
 abbrev pub gotPathHead : ReadPathHead → Read PathHead
 gotPathHead (pathHead.Value x next) = got x next
 gotPathHead (pathHead.Refused r) = refused r
 
+-- The same of `block_head_at`.
 abbrev pub gotBlockHead : ReadBlockHead → Read BlockHead
 gotBlockHead (blockHead.Value x next) = got x next
 gotBlockHead (blockHead.Refused r) = refused r
 
+-- The same of `block_at`.
 abbrev pub gotBlockId : ReadBlockId → Read BlockId
 gotBlockId (blockId.Value x next) = got x next
 gotBlockId (blockId.Refused r) = refused r
 
+-- The header as the definitions have it.
 abbrev pub headerOf : Header → model.Header
 headerOf h = record { blocks = h .blocks; candidates = h .candidates; scope = h .scope }
 
+-- The same of `header_at`.
 abbrev pub gotHeader : ReadHeader → Read model.Header
 gotHeader (header.Value x next) = got (headerOf x) next
 gotHeader (header.Refused r) = refused r
@@ -47,18 +53,22 @@ abbrev pub refusalEntry : ReadEntry → Refusal
 refusalEntry (entry.Value x next) = MissingByte
 refusalEntry (entry.Refused r) = r
 
+-- The same of a path's head.
 abbrev pub refusalPathHead : ReadPathHead → Refusal
 refusalPathHead (pathHead.Value x next) = MissingByte
 refusalPathHead (pathHead.Refused r) = r
 
+-- The same of a block's head.
 abbrev pub refusalBlockHead : ReadBlockHead → Refusal
 refusalBlockHead (blockHead.Value x next) = MissingByte
 refusalBlockHead (blockHead.Refused r) = r
 
+-- The same of a block.
 abbrev pub refusalBlockId : ReadBlockId → Refusal
 refusalBlockId (blockId.Value x next) = MissingByte
 refusalBlockId (blockId.Refused r) = r
 
+-- The same of the header.
 abbrev pub refusalHeader : ReadHeader → Refusal
 refusalHeader (header.Value x next) = MissingByte
 refusalHeader (header.Refused r) = r

@@ -7,7 +7,7 @@ use Rattle.entries.specs.declared.Refusal.the-variants.{RepeatedId, UnknownBloc
 use Rattle.model.specs.Lists.{anyOf}
 use Rattle.model.specs.Read.{readNumber}
 use Rattle.model.specs.Job.{containsId, repeats}
-use Rattle.job.specs.Passing.{orNone, notes, itself}
+use Rattle.job.specs.Passing.{orNone, notes, noteValue}
 use Rattle.job.specs.Head.{readBlockHead}
 use Rattle.job.specs.declared.BlockHead.{BlockHead}
 use Rattle.job.specs.declared.JobHead.{JobHead}
@@ -18,30 +18,35 @@ use Rattle.job.specs.declared.ReadJob.the-variants.{Value, Refused}
 abbrev pub blockId : ℕ → BlockId
 blockId i = record { 0 = i }
 
+-- The ids that a list of numbers stands for.
 abbrev pub blockIds : List ℕ → List BlockId
 blockIds ids = map blockId ids
 
 -- an id is none of the known ones
-abbrev pub strays : List BlockId → List BlockId → Bool
-strays known ids = anyOf (λ i. not (containsId known i)) ids
+abbrev pub anyUnknown : List BlockId → List BlockId → Bool
+anyUnknown known ids = anyOf (λ i. not (containsId known i)) ids
 
 -- the numbers of the predecessors of the block at a place
 unfoldable pub predecessorsAt : List ℕ → ℕ → List ℕ
-predecessorsAt s at = orNone (readBlockHead s at) (λ (head : BlockHead) idsAt. notes itself (head .predecessors) (readNumber 4) s idsAt)
+predecessorsAt s at = orNone (readBlockHead s at) (λ (head : BlockHead) idsAt. notes noteValue (head .predecessors) (readNumber 4) s idsAt)
 
+-- A predecessor of the block at a place stands twice.
 abbrev pub repeatsAt : List ℕ → ℕ → Bool
 repeatsAt s at = repeats (blockIds (predecessorsAt s at))
 
-abbrev pub straysAt : List ℕ → List ℕ → ℕ → Bool
-straysAt s known at = strays (blockIds known) (blockIds (predecessorsAt s at))
+-- A predecessor of the block at a place is none of the known ids.
+abbrev pub anyUnknownAt : List ℕ → List ℕ → ℕ → Bool
+anyUnknownAt s known at = anyUnknown (blockIds known) (blockIds (predecessorsAt s at))
 
--- 7 and 8, of the blocks with these ids at these places
+-- 7, of the blocks with these ids at these places: an id, or a predecessor within one block, stands twice.
 abbrev pub repeatedIn : List ℕ → List ℕ → List ℕ → Bool
 repeatedIn s ids places = repeats (blockIds ids) || anyOf (repeatsAt s) places
 
+-- 8, of the blocks with these ids at these places: a predecessor or the scope block is none of the ids.
 abbrev pub unknownIn : List ℕ → List ℕ → List ℕ → BlockId → Bool
-unknownIn s ids places scope = anyOf (straysAt s ids) places || not (containsId (blockIds ids) scope)
+unknownIn s ids places scope = anyOf (anyUnknownAt s ids) places || not (containsId (blockIds ids) scope)
 
+-- 7 before 8, else what was kept of the job.
 unfoldable pub checkedBy : List ℕ → List ℕ → List ℕ → JobHead → ReadJob
 checkedBy s ids places head =
     cond (repeatedIn s ids places) (Refused RepeatedId) (cond (unknownIn s ids places (head .scope)) (Refused UnknownBlock) (Value head))

@@ -8,6 +8,7 @@ abbrev pub passed : {A : Type 0} → Read A → Read Unit
 passed (got a next) = got tt next
 passed (refused r) = refused r
 
+-- What follows a value that was read; nothing follows a refusal.
 abbrev pub orNone : {A B : Type 0} → Read A → (A → ℕ → List B) → List B
 orNone (got a next) rest = rest a next
 orNone (refused r) rest = []
@@ -18,5 +19,5 @@ notes f zero read s at = []
 notes f (suc n) read s at = orNone (read s at) (λ a next. f at a ∷ notes f n read s next)
 
 -- a value that is its own note
-abbrev pub itself : ℕ → ℕ → ℕ
-itself at x = x
+abbrev pub noteValue : ℕ → ℕ → ℕ
+noteValue at x = x

@@ -12,8 +12,8 @@ ghost use lib.Seq.{sets};
 ghost use Rattle.model.specs.Lists.{anyOf};
 ghost use Rattle.model.specs.Read.{readNumber};
 ghost use Rattle.model.specs.Job.{containsId, repeats};
-ghost use Rattle.job.specs.Passing.{notes, itself};
-ghost use Rattle.job.specs.Ids.{blockId, blockIds, strays, predecessorsAt, repeatsAt, straysAt, repeatedIn, unknownIn, checkedBy};
+ghost use Rattle.job.specs.Passing.{notes, noteValue};
+ghost use Rattle.job.specs.Ids.{blockId, blockIds, anyUnknown, predecessorsAt, repeatsAt, anyUnknownAt, repeatedIn, unknownIn, checkedBy};
 
 // Whether an id stands among others, from a place on.
 fn contains_from(ids: &[u32], from: usize, id: u32) -> bool
@@ -44,8 +44,8 @@ fn repeat_in(ids: &[u32]) -> bool
 }
 
 // Whether an id is none of the known ones.
-fn stray_in(ids: &[u32], known: &[u32]) -> bool
-    ensures { λ r. ⌜ r ≡ strays (blockIds (now (known .entry))) (blockIds (now (ids .entry))) ⌝ }
+fn unknown_in(ids: &[u32], known: &[u32]) -> bool
+    ensures { λ r. ⌜ r ≡ anyUnknown (blockIds (now (known .entry))) (blockIds (now (ids .entry))) ⌝ }
 {
     let mut i = 0;
     while i < ids.len() {
@@ -61,8 +61,8 @@ fn stray_in(ids: &[u32], known: &[u32]) -> bool
 // Up to `count` ids, as far as they go; how many were stored.
 fn ids_into(s: &[u8], start: usize, count: u8, out: &mut [u32; 64]) -> usize
     requires { ⌜ count ≤ 64 ⌝ }
-    ensures { λ r. ⌜ r ≡ length (notes itself count (readNumber 4) (now (s .entry)) start) ⌝ }
-    ensures { λ r. ⌜ now (out .exit) ≡ sets (now (out .entry)) 0 (notes itself count (readNumber 4) (now (s .entry)) start) ⌝ }
+    ensures { λ r. ⌜ r ≡ length (notes noteValue count (readNumber 4) (now (s .entry)) start) ⌝ }
+    ensures { λ r. ⌜ now (out .exit) ≡ sets (now (out .entry)) 0 (notes noteValue count (readNumber 4) (now (s .entry)) start) ⌝ }
 {
     let mut at = start;
     let mut i: u8 = 0;
@@ -100,12 +100,12 @@ fn repeat_at(s: &[u8], at: usize) -> bool
 }
 
 // Whether a predecessor of the block at a place is no block of the job.
-fn stray_at(s: &[u8], at: usize, known: &[u32]) -> bool
-    ensures { λ r. ⌜ r ≡ straysAt (now (s .entry)) (now (known .entry)) at ⌝ }
+fn unknown_at(s: &[u8], at: usize, known: &[u32]) -> bool
+    ensures { λ r. ⌜ r ≡ anyUnknownAt (now (s .entry)) (now (known .entry)) at ⌝ }
 {
     let mut out = [0u32; 64];
     let n = predecessors_at(s, at, &mut out);
-    stray_in(&out[..n], known)
+    unknown_in(&out[..n], known)
 }
 
 // Whether a predecessor stands twice in a block at one of these places.
@@ -123,12 +123,12 @@ fn any_repeat(s: &[u8], places: &[usize]) -> bool
 }
 
 // Whether a predecessor of a block at one of these places is no block of the job.
-fn any_stray(s: &[u8], places: &[usize], known: &[u32]) -> bool
-    ensures { λ r. ⌜ r ≡ anyOf (straysAt (now (s .entry)) (now (known .entry))) (now (places .entry)) ⌝ }
+fn any_unknown(s: &[u8], places: &[usize], known: &[u32]) -> bool
+    ensures { λ r. ⌜ r ≡ anyOf (anyUnknownAt (now (s .entry)) (now (known .entry))) (now (places .entry)) ⌝ }
 {
     let mut i = 0;
     while i < places.len() {
-        if stray_at(s, places[i], known) {
+        if unknown_at(s, places[i], known) {
             return true;
         }
         i = i + 1;
@@ -150,7 +150,7 @@ fn repeated(s: &[u8], ids: &[u32], places: &[usize]) -> bool
 fn unknown(s: &[u8], ids: &[u32], places: &[usize], scope: BlockId) -> bool
     ensures { λ r. ⌜ r ≡ unknownIn (now (s .entry)) (now (ids .entry)) (now (places .entry)) scope ⌝ }
 {
-    if any_stray(s, places, ids) {
+    if any_unknown(s, places, ids) {
         return true;
     }
     !contains_from(ids, 0, scope.0)

@@ -16,12 +16,13 @@ ghost use Prim.Native.Nat.{_≤_};
 ghost use lib.Seq.{sets};
 ghost use Rattle.model.specs.Read.{readMany, mapped};
 ghost use Rattle.model.specs.Job.{HD, Block, readBlockId, readEntry, readPath, readBlock, readHeader, readRecords, readJob};
+ghost use Rattle.model.specs.Answer.{spanWidth};
 ghost use Rattle.fields.specs.Answer.{gotPlace};
 ghost use Rattle.job.specs.Passing.{passed, notes};
 ghost use Rattle.job.specs.Head.{readPathHead, readBlockHead};
 ghost use Rattle.job.specs.Answer.{gotEntry, gotPathHead, gotBlockHead, gotBlockId, gotHeader};
 ghost use Rattle.job.specs.Answer.{refusalEntry, refusalPathHead, refusalBlockHead, refusalBlockId, refusalHeader};
-ghost use Rattle.job.specs.Kept.{placeOf, numberOf, blockPlaces, blockNumbers, answerOf};
+ghost use Rattle.job.specs.Kept.{notePlace, noteNumber, blockPlaces, blockNumbers, keptOf};
 
 mod ids;
 
@@ -151,7 +152,7 @@ impl ReadHeader {
 }
 
 pub fn entry_at(s: &[u8], at: usize) -> ReadEntry
-    ensures { λ r. ⌜ gotEntry r ≡ readEntry 4 (now (s .entry)) at ⌝ }
+    ensures { λ r. ⌜ gotEntry r ≡ readEntry spanWidth (now (s .entry)) at ⌝ }
 {
     let optional_field = fields::flag_at(s, at);
     let ReadFlag::Value(optional, kind_at) = optional_field else {
@@ -181,8 +182,8 @@ pub fn entry_at(s: &[u8], at: usize) -> ReadEntry
 }
 
 // Past `count` entries.
-pub fn entries_from(s: &[u8], start: usize, count: u8) -> Passed
-    ensures { λ r. ⌜ gotPlace r ≡ passed (readMany count (readEntry 4) (now (s .entry)) start) ⌝ }
+pub fn past_entries(s: &[u8], start: usize, count: u8) -> Passed
+    ensures { λ r. ⌜ gotPlace r ≡ passed (readMany count (readEntry spanWidth) (now (s .entry)) start) ⌝ }
 {
     let mut at = start;
     let mut left = count;
@@ -228,8 +229,8 @@ pub fn path_head_at(s: &[u8], at: usize) -> ReadPathHead
 }
 
 // Past a path under its mark.
-pub fn path_at(s: &[u8], at: usize, mark: u16) -> Passed
-    ensures { λ r. ⌜ gotPlace r ≡ passed (readPath 4 mark (now (s .entry)) at) ⌝ }
+pub fn past_path(s: &[u8], at: usize, mark: u16) -> Passed
+    ensures { λ r. ⌜ gotPlace r ≡ passed (readPath spanWidth mark (now (s .entry)) at) ⌝ }
 {
     let marked = fields::mark_at(s, at, mark);
     let Passed::To(head_at) = marked else {
@@ -239,17 +240,17 @@ pub fn path_at(s: &[u8], at: usize, mark: u16) -> Passed
     let ReadPathHead::Value(head, entries_at) = head_field else {
         return Passed::Refused(head_field.refusal());
     };
-    entries_from(s, entries_at, head.entries)
+    past_entries(s, entries_at, head.entries)
 }
 
 // Past `count` paths under one mark.
-pub fn paths_from(s: &[u8], start: usize, count: u16, mark: u16) -> Passed
-    ensures { λ r. ⌜ gotPlace r ≡ passed (readMany count (readPath 4 mark) (now (s .entry)) start) ⌝ }
+pub fn past_paths(s: &[u8], start: usize, count: u16, mark: u16) -> Passed
+    ensures { λ r. ⌜ gotPlace r ≡ passed (readMany count (readPath spanWidth mark) (now (s .entry)) start) ⌝ }
 {
     let mut at = start;
     let mut left = count;
     while 0 < left {
-        let path = path_at(s, at, mark);
+        let path = past_path(s, at, mark);
         let Passed::To(next) = path else {
             return path;
         };
@@ -260,7 +261,7 @@ pub fn paths_from(s: &[u8], start: usize, count: u16, mark: u16) -> Passed
 }
 
 // Past `count` block ids. Any four bytes are an id, so no byte is looked at.
-pub fn ids_from(s: &[u8], at: usize, count: u8) -> Passed
+pub fn past_ids(s: &[u8], at: usize, count: u8) -> Passed
     ensures { λ r. ⌜ gotPlace r ≡ passed (readMany count readBlockId (now (s .entry)) at) ⌝ }
 {
     if count == 0 {
@@ -305,17 +306,17 @@ pub fn block_head_at(s: &[u8], at: usize) -> ReadBlockHead
 
 // The id of a block, and the place after its paths.
 pub fn block_at(s: &[u8], at: usize) -> ReadBlockId
-    ensures { λ r. ⌜ gotBlockId r ≡ mapped (λ (b : Block). b .id) (readBlock 4 (now (s .entry)) at) ⌝ }
+    ensures { λ r. ⌜ gotBlockId r ≡ mapped (λ (b : Block). b .id) (readBlock spanWidth (now (s .entry)) at) ⌝ }
 {
     let head_field = block_head_at(s, at);
     let ReadBlockHead::Value(head, ids_at) = head_field else {
         return ReadBlockId::Refused(head_field.refusal());
     };
-    let ids = ids_from(s, ids_at, head.predecessors);
+    let ids = past_ids(s, ids_at, head.predecessors);
     let Passed::To(paths_at) = ids else {
         return ReadBlockId::Refused(ids.refusal());
     };
-    let paths = paths_from(s, paths_at, head.assumed as u16, PA);
+    let paths = past_paths(s, paths_at, head.assumed as u16, PA);
     let Passed::To(next) = paths else {
         return ReadBlockId::Refused(paths.refusal());
     };
@@ -324,7 +325,7 @@ pub fn block_at(s: &[u8], at: usize) -> ReadBlockId
 }
 
 // Past `count` blocks, whose ids and places are noted.
-fn blocks_from(
+fn note_blocks(
     s: &[u8],
     start: usize,
     count: u16,
@@ -332,9 +333,9 @@ fn blocks_from(
     places: &mut [usize; 128],
 ) -> Passed
     requires { ⌜ count ≤ 128 ⌝ }
-    ensures { λ r. ⌜ gotPlace r ≡ passed (readMany count (readBlock 4) (now (s .entry)) start) ⌝ }
-    ensures { λ r. ⌜ now (ids .exit) ≡ sets (now (ids .entry)) 0 (notes numberOf count (readBlock 4) (now (s .entry)) start) ⌝ }
-    ensures { λ r. ⌜ now (places .exit) ≡ sets (now (places .entry)) 0 (notes placeOf count (readBlock 4) (now (s .entry)) start) ⌝ }
+    ensures { λ r. ⌜ gotPlace r ≡ passed (readMany count (readBlock spanWidth) (now (s .entry)) start) ⌝ }
+    ensures { λ r. ⌜ now (ids .exit) ≡ sets (now (ids .entry)) 0 (notes noteNumber count (readBlock spanWidth) (now (s .entry)) start) ⌝ }
+    ensures { λ r. ⌜ now (places .exit) ≡ sets (now (places .entry)) 0 (notes notePlace count (readBlock spanWidth) (now (s .entry)) start) ⌝ }
 {
     let mut at = start;
     let mut i: u16 = 0;
@@ -383,7 +384,7 @@ pub fn header_at(s: &[u8], at: usize) -> ReadHeader
 
 // The records in their order, as far as refusal 6, the ids and the places of the blocks being noted.
 fn records_of(s: &[u8], ids: &mut [u32; 128], places: &mut [usize; 128]) -> ReadJob
-    ensures { λ r. ⌜ r ≡ answerOf (now (s .entry)) (readRecords HD 4 (now (s .entry))) ⌝ }
+    ensures { λ r. ⌜ r ≡ keptOf (now (s .entry)) (readRecords HD spanWidth (now (s .entry))) ⌝ }
     ensures { λ r. ⌜ now (ids .exit) ≡ sets (now (ids .entry)) 0 (blockNumbers (now (s .entry))) ⌝ }
     ensures { λ r. ⌜ now (places .exit) ≡ sets (now (places .entry)) 0 (blockPlaces (now (s .entry))) ⌝ }
 {
@@ -391,11 +392,11 @@ fn records_of(s: &[u8], ids: &mut [u32; 128], places: &mut [usize; 128]) -> Read
     let ReadHeader::Value(header, blocks_at) = header_field else {
         return ReadJob::Refused(header_field.refusal());
     };
-    let past_blocks = blocks_from(s, blocks_at, header.blocks, ids, places);
+    let past_blocks = note_blocks(s, blocks_at, header.blocks, ids, places);
     let Passed::To(candidates_at) = past_blocks else {
         return ReadJob::Refused(past_blocks.refusal());
     };
-    let past_candidates = paths_from(s, candidates_at, header.candidates, CA);
+    let past_candidates = past_paths(s, candidates_at, header.candidates, CA);
     let Passed::To(next) = past_candidates else {
         return ReadJob::Refused(past_candidates.refusal());
     };
@@ -413,7 +414,7 @@ fn records_of(s: &[u8], ids: &mut [u32; 128], places: &mut [usize; 128]) -> Read
 
 // The job, or its refusal. The id of each block and the place of its record are noted.
 pub fn read_job(s: &[u8], ids: &mut [u32; 128], places: &mut [usize; 128]) -> ReadJob
-    ensures { λ r. ⌜ r ≡ answerOf (now (s .entry)) (readJob HD 4 (now (s .entry))) ⌝ }
+    ensures { λ r. ⌜ r ≡ keptOf (now (s .entry)) (readJob HD spanWidth (now (s .entry))) ⌝ }
     ensures { λ r. ⌜ now (ids .exit) ≡ sets (now (ids .entry)) 0 (blockNumbers (now (s .entry))) ⌝ }
     ensures { λ r. ⌜ now (places .exit) ≡ sets (now (places .entry)) 0 (blockPlaces (now (s .entry))) ⌝ }
 {

@@ -14,7 +14,7 @@ use Rattle.entries.specs.declared.DependencyPathEntry.{DependencyPathEntry}
 use Rattle.entries.specs.Path.{ReactiveScopeDependency}
 use Rattle.model.specs.Lists.{select, countOf, sumOf}
 use Rattle.model.specs.Sets.{NodeSet, sameNode, contains, insert, remove}
-use Rattle.model.specs.Registry.{PropertyPathRegistry, Reached, fullPathOf, getOrCreateIdentifier, getOrCreatePropertyEntry, remarked, walkFrom, walkPath, ownMark}
+use Rattle.model.specs.Registry.{PropertyPathRegistry, Reached, fullPathOf, getOrCreateIdentifier, getOrCreatePropertyEntry, withOptional, walkFrom, walkPath, ownMark}
 use Rattle.model.specs.Reduction.{Reduced, reducedMark, reduceNode, reduceNodes, hasOptional, pass, passes, optionalMarks, optionalMarksOf, reduceMaybeOptionalChains}
 use Rattle.model.specs.Tests.{by-cond, decide, never, eqb-same, eqb-true, eqb-false, eqb-apart, and-first}
 use Rattle.model.specs.ListLaws.{All, all-map, all-both, all-select}
@@ -67,10 +67,10 @@ unfolding walkFrom optionalMarks
 walk-lowers mark low at [] h = record { fewer = omega arith; kept = λ e. refl }
 walk-lowers mark low at (e ∷ es) h =
     let o = mark (at .node) e in
-    go o (e .optional) refl refl (walk-lowers mark low _ es (child-reached (at .registry) (at .node) (remarked e o) (h .sound) (h .inside) .proper)) (child-marks at (remarked e o) h)
+    go o (e .optional) refl refl (walk-lowers mark low _ es (child-reached (at .registry) (at .node) (withOptional e o) (h .sound) (h .inside) .proper)) (child-marks at (withOptional e o) h)
   where
     next : Bool → Reached
-    next o = getOrCreatePropertyEntry (at .registry) (at .node) (remarked e o)
+    next o = getOrCreatePropertyEntry (at .registry) (at .node) (withOptional e o)
 
     all : optionalMarks (e ∷ es) ≡ mark-value (e .optional) + optionalMarks es
     all = marks-cons e es

@@ -92,13 +92,13 @@ abbrev pub getOrCreatePropertyEntry : PropertyPathRegistry → NodeId → Depend
 getOrCreatePropertyEntry reg p e = findOrMake (isChildBy p e) (childNode p (fullPathOf reg p) e) reg
 
 -- an entry with another optional mark
-abbrev pub remarked : DependencyPathEntry → Bool → DependencyPathEntry
-remarked e o = record { property = e .property; optional = o; span = e .span }
+abbrev pub withOptional : DependencyPathEntry → Bool → DependencyPathEntry
+withOptional e o = record { property = e .property; optional = o; span = e .span }
 
 -- down from a node by entries, each under the optional mark that `mark` gives it at the node reached so far
 unfoldable pub walkFrom : (NodeId → DependencyPathEntry → Bool) → Reached → List DependencyPathEntry → Reached
 walkFrom mark at [] = at
-walkFrom mark at (e ∷ es) = walkFrom mark (getOrCreatePropertyEntry (at .registry) (at .node) (remarked e (mark (at .node) e))) es
+walkFrom mark at (e ∷ es) = walkFrom mark (getOrCreatePropertyEntry (at .registry) (at .node) (withOptional e (mark (at .node) e))) es
 
 -- Down a whole path, from the root of its identifier.
 abbrev pub walkPath : (NodeId → DependencyPathEntry → Bool) → PropertyPathRegistry → ReactiveScopeDependency → Reached

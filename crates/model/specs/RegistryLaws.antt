@@ -17,7 +17,7 @@ use Rattle.entries.specs.declared.PropertyLiteral.the-variants.{String, Number}
 use Rattle.entries.specs.declared.DependencyPathEntry.{DependencyPathEntry}
 use Rattle.entries.specs.Path.{sameProperty, sameEntry, ReactiveScopeDependency}
 use Rattle.model.specs.Tests.{by-cond, decide, never, eqb-same, eqb-true, eqb-false, beq-same, beq-true, and-first, and-second}
-use Rattle.model.specs.Registry.{Origin, root, childOf, PropertyPathNode, PropertyPathRegistry, isRoot, isRootFor, isChild, isChildBy, find, ensure, Reached, findOrMake, rootNode, childNode, fullPathOf, getOrCreateIdentifier, getOrCreatePropertyEntry, remarked, walkFrom, walkPath, ownMark}
+use Rattle.model.specs.Registry.{Origin, root, childOf, PropertyPathNode, PropertyPathRegistry, isRoot, isRootFor, isChild, isChildBy, find, ensure, Reached, findOrMake, rootNode, childNode, fullPathOf, getOrCreateIdentifier, getOrCreatePropertyEntry, withOptional, walkFrom, walkPath, ownMark}
 
 -- Equal entries.
 
@@ -288,12 +288,12 @@ child-reached reg p e h le =
 pub walk-proper : (mark : NodeId → DependencyPathEntry → Bool) (at : Reached) (es : List DependencyPathEntry) → Proper at → Proper (walkFrom mark at es)
 unfolding walkFrom
 walk-proper mark at [] h = h
-walk-proper mark at (e ∷ es) h = walk-proper mark _ es (child-reached (at .registry) (at .node) (remarked e (mark (at .node) e)) (h .sound) (h .inside) .proper)
+walk-proper mark at (e ∷ es) h = walk-proper mark _ es (child-reached (at .registry) (at .node) (withOptional e (mark (at .node) e)) (h .sound) (h .inside) .proper)
 
 pub walk-extends : (mark : NodeId → DependencyPathEntry → Bool) (at : Reached) (es : List DependencyPathEntry) → Extends (at .registry) (walkFrom mark at es .registry)
 unfolding walkFrom
 walk-extends mark at [] = extends-refl (at .registry)
-walk-extends mark at (e ∷ es) = extends-trans (ensure-extends (isChildBy (at .node) (remarked e (mark (at .node) e))) _ (at .registry)) (walk-extends mark _ es)
+walk-extends mark at (e ∷ es) = extends-trans (ensure-extends (isChildBy (at .node) (withOptional e (mark (at .node) e))) _ (at .registry)) (walk-extends mark _ es)
 
 pub path-proper : (mark : NodeId → DependencyPathEntry → Bool) (reg : PropertyPathRegistry) (d : ReactiveScopeDependency) → Sound reg → Proper (walkPath mark reg d)
 path-proper mark reg d h = walk-proper mark _ (d .path) (root-reached reg (d .identifier) (d .reactive) (d .span) h .proper)
@@ -335,7 +335,7 @@ leads-back reg h (suc below) k lt le r s =
 
 -- the child of what was reached, by an entry under its mark there
 abbrev pub stepFrom : (NodeId → DependencyPathEntry → Bool) → Reached → DependencyPathEntry → Reached
-stepFrom mark at e = getOrCreatePropertyEntry (at .registry) (at .node) (remarked e (mark (at .node) e))
+stepFrom mark at e = getOrCreatePropertyEntry (at .registry) (at .node) (withOptional e (mark (at .node) e))
 
 -- a node's root is there, so that asking for it makes nothing, whatever reactive and span are given
 root-there : (reg : PropertyPathRegistry) → Sound reg → (k : NodeId) → k .0 < length reg → (r : Bool) (s : ℕ) → getOrCreateIdentifier reg (fullPathOf reg k .identifier) r s .registry ≡ reg

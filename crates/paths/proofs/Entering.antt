@@ -24,7 +24,7 @@ use Rattle.registry.specs.Words.{countIn, registryOf, Held, Arrives}
 use Rattle.registry.proofs.View.{registry-length}
 use Rattle.paths.specs.declared.EnteredPath.{EnteredPath}
 use Rattle.paths.specs.declared.EnteredPath.the-variants.{At, Full, Refused}
-use Rattle.paths.specs.Enters.{onFrom, Enters}
+use Rattle.paths.specs.Enters.{walkOwn, Enters}
 
 -- a record that is made of another
 pub enters-mapped : {A B : Type 0} (f : A → B) (x : Read A) (reach : B → Reached) (r : EnteredPath) (ws os : List ℕ) → Enters x (λ a. reach (f a)) r ws os → Enters (mapped f x) reach r ws os
@@ -72,7 +72,7 @@ child-made-at reg p e =
 pub record Entering {A : Type 0} (whole : Read A) (reach : A → Reached) (s ws os : List ℕ) (node : NodeId) (at left : ℕ) : Type 0 where
   pub held : Held ws os
   pub inside : node .0 < countIn ws
-  pub on : (r : EnteredPath) (us ps : List ℕ) → Enters (readMany left (readEntry 4) s at) (onFrom (registryOf ws) node) r us ps → Enters whole reach r us ps
+  pub on : (r : EnteredPath) (us ps : List ℕ) → Enters (readMany left (readEntry 4) s at) (walkOwn (registryOf ws) node) r us ps → Enters whole reach r us ps
 
 module _ {A : Type 0} {whole : Read A} {reach : A → Reached} {s ws os : List ℕ} {node : NodeId} {at left : ℕ} (x : Entering whole reach s ws os node at left) where
   pub entering-end : left ≤ 0 → Enters whole reach (At node at) ws os
@@ -100,7 +100,7 @@ module _ {A : Type 0} {whole : Read A} {reach : A → Reached} {s ws os : List �
       -- what enters the entries after this one enters those from it on
       step : (r : EnteredPath) (us ps : List ℕ) → Enters (readMany (left - 1) (readEntry 4) s next) (λ es. walkFrom ownMark child es) r us ps → Enters whole reach r us ps
       unfolding walkFrom
-      step r us ps h = x .on r us ps (rw rest (enters-mapped (λ es. e ∷ es) (readMany (left - 1) (readEntry 4) s next) (onFrom (registryOf ws) node) r us ps h))
+      step r us ps h = x .on r us ps (rw rest (enters-mapped (λ es. e ∷ es) (readMany (left - 1) (readEntry 4) s next) (walkOwn (registryOf ws) node) r us ps h))
 
       pub entering-full : (us ps : List ℕ) → nodeLimit < length (child .registry) → Enters whole reach Full us ps
       entering-full us ps full =
@@ -137,7 +137,7 @@ module _ (mark : ℕ) (s : List ℕ) (at : ℕ) where
           path-entered Full us ps (enters-full (readMany (head .entries) (readEntry 4) s entriesAt) (λ es. walkFrom ownMark root es) us ps (λ es. let longer = extends-length (walk-extends ownMark root es) in omega arith))
 
       pub path-rooted : (vs : List ℕ) (k : NodeId) → root ≡ record { registry = registryOf vs; node = k } → (r : EnteredPath) (us ps : List ℕ)
-          → Enters (readMany (head .entries) (readEntry 4) s entriesAt) (onFrom (registryOf vs) k) r us ps → Enters (readPath 4 mark s at) (getOrCreateProperty reg) r us ps
+          → Enters (readMany (head .entries) (readEntry 4) s entriesAt) (walkOwn (registryOf vs) k) r us ps → Enters (readPath 4 mark s at) (getOrCreateProperty reg) r us ps
       path-rooted vs k is r us ps h = path-entered r us ps (subst (λ (y : Reached). Enters (readMany (head .entries) (readEntry 4) s entriesAt) (λ es. walkFrom ownMark y es) r us ps) (sym is) h)
 
 pub enters-refused : {A : Type 0} {x : Read A} (reach : A → Reached) {r : Refusal} (ws os : List ℕ) → x ≡ refused r → Enters x reach (Refused r) ws os

@@ -13,8 +13,8 @@ use Rattle.paths.specs.declared.EnteredPath.{EnteredPath}
 use Rattle.paths.specs.declared.EnteredPath.the-variants.{At, Full, Refused}
 
 -- down from a node by entries under their own marks
-abbrev pub onFrom : PropertyPathRegistry → NodeId → List DependencyPathEntry → Reached
-onFrom reg k es = walkFrom ownMark (record { registry = reg; node = k }) es
+abbrev pub walkOwn : PropertyPathRegistry → NodeId → List DependencyPathEntry → Reached
+walkOwn reg k es = walkFrom ownMark (record { registry = reg; node = k }) es
 
 -- The record that reads to a value leads to the node that `reach` gives for it, with the place after it, or the registry has no room for that. One that is
 -- refused is refused for the same, unless there was no room for what stands before.

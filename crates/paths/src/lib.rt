@@ -4,8 +4,9 @@ ghost use Prim.Native.Nat.{_<_};
 ghost use Rattle.model.specs.Read.{readMany};
 ghost use Rattle.model.specs.Job.{readEntry, readPath};
 ghost use Rattle.model.specs.Registry.{getOrCreateProperty};
+ghost use Rattle.model.specs.Answer.{spanWidth};
 ghost use Rattle.registry.specs.Words.{countIn, registryOf, Held};
-ghost use Rattle.paths.specs.Enters.{onFrom, Enters};
+ghost use Rattle.paths.specs.Enters.{walkOwn, Enters};
 use entries::NodeId;
 use entries::Refusal;
 use fields::Passed;
@@ -30,7 +31,7 @@ fn enter_entries(
     from: NodeId,
 ) -> EnteredPath
     requires { ⌜ Held (now ws) (now optional) × (from .0 < countIn (now ws)) ⌝ }
-    ensures { λ r. ⌜ Enters (readMany count (readEntry 4) (now (s .entry)) start) (onFrom (registryOf (now (ws .entry))) from) r (now (ws .exit)) (now (optional .exit)) ⌝ }
+    ensures { λ r. ⌜ Enters (readMany count (readEntry spanWidth) (now (s .entry)) start) (walkOwn (registryOf (now (ws .entry))) from) r (now (ws .exit)) (now (optional .exit)) ⌝ }
 {
     let mut at = start;
     let mut left = count;
@@ -60,7 +61,7 @@ pub fn enter_path(
     optional: &mut [u64; 8],
 ) -> EnteredPath
     requires { ⌜ Held (now ws) (now optional) ⌝ }
-    ensures { λ r. ⌜ Enters (readPath 4 mark (now (s .entry)) at) (getOrCreateProperty (registryOf (now (ws .entry)))) r (now (ws .exit)) (now (optional .exit)) ⌝ }
+    ensures { λ r. ⌜ Enters (readPath spanWidth mark (now (s .entry)) at) (getOrCreateProperty (registryOf (now (ws .entry)))) r (now (ws .exit)) (now (optional .exit)) ⌝ }
 {
     let marked = fields::mark_at(s, at, mark);
     let Passed::To(head_at) = marked else {

@@ -17,7 +17,7 @@ use Rattle.registry.specs.declared.Entered.the-variants.{At, Full}
 use Rattle.registry.specs.Nodes.{originOf}
 use Rattle.registry.specs.Words.{nodeAt, countIn, registryOf, Held, Arrives}
 use Rattle.registry.proofs.View.{registry-length, origin-at}
-use Rattle.model.specs.Registry.{nodeLimit, PropertyPathRegistry, Reached, Origin, root, childOf, fullPathOf, remarked, getOrCreatePropertyEntry, isChildBy, childNode, walkPath}
+use Rattle.model.specs.Registry.{nodeLimit, PropertyPathRegistry, Reached, Origin, root, childOf, fullPathOf, withOptional, getOrCreatePropertyEntry, isChildBy, childNode, walkPath}
 use Rattle.model.specs.RegistryLaws.{Sound, Proper, Extends, extends-length, find-extends, ensure-extends, path-extends, path-proper, found, stepFrom, again-root, again-child, child-after, child-found}
 use Rattle.model.specs.Reduction.{reducedMark}
 use Rattle.reduction.specs.Reduces.{ChildAt}
@@ -36,11 +36,11 @@ module _ (mark : NodeId → DependencyPathEntry → Bool) (reg : PropertyPathReg
   -- the parent is where it was and the mark stays: the node is found
   pub step-same : ChildAt reg p e k → q .0 ≡ p .0 → o ≡ e .optional → stepFrom mark (record { registry = reg; node = q }) e ≡ record { registry = reg; node = k }
   step-same c here kept =
-      ap (λ b. getOrCreatePropertyEntry reg q (remarked e b)) (sym own ∙ kept)
+      ap (λ b. getOrCreatePropertyEntry reg q (withOptional e b)) (sym own ∙ kept)
       ∙ ap (λ (i : ℕ). getOrCreatePropertyEntry reg (record { 0 = i }) e) here ∙ found (isChildBy p e) (childNode p (fullPathOf reg p) e) reg k (c .inside) (c .first)
 
-  pub step-made : (r : Entered) (ws os : List ℕ) → Arrives (getOrCreatePropertyEntry reg q (remarked e o)) r ws os → Arrives (stepFrom mark (record { registry = reg; node = q }) e) r ws os
-  step-made r ws os a = subst (λ b. Arrives (getOrCreatePropertyEntry reg q (remarked e b)) r ws os) own a
+  pub step-made : (r : Entered) (ws os : List ℕ) → Arrives (getOrCreatePropertyEntry reg q (withOptional e o)) r ws os → Arrives (stepFrom mark (record { registry = reg; node = q }) e) r ws os
+  step-made r ws os a = subst (λ b. Arrives (getOrCreatePropertyEntry reg q (withOptional e b)) r ws os) own a
 
 -- One node more.
 
@@ -76,7 +76,7 @@ module _ (mark : NodeId → DependencyPathEntry → Bool) {ws : List ℕ} {k : N
     -- the parent's walk has no room: nor has this one
     pub walk-full : nodeLimit < length (again p .registry) → nodeLimit < length (again k .registry)
     walk-full full =
-        let o = remarked e (mark (again p .node) e) in
+        let o = withOptional e (mark (again p .node) e) in
         let longer = extends-length (ensure-extends (isChildBy (again p .node) o) (childNode (again p .node) (fullPathOf (again p .registry) (again p .node)) o) (again p .registry)) in
         let same = ap (λ (y : Reached). length (y .registry)) on in
         omega arith

@@ -26,5 +26,6 @@ abbrev pub ReducesBy : Bool → Reduced → ReducedSet → List ℕ → List ℕ
 ReducesBy true want r ws os = nodeLimit < length (want .registry)
 ReducesBy false want r ws os = Held ws os × (want ≡ reducedOf (registryOf ws) r)
 
+-- The same, by whether the code says that there was no room.
 abbrev pub Reduces : Reduced → ReducedSet → List ℕ → List ℕ → Type 0
 Reduces want r ws os = ReducesBy (r .full) want r ws os

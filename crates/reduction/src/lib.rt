@@ -77,7 +77,7 @@ pub fn walk_again(
     requires { ⌜ Held (now ws) (now optional) × (k .0 < countIn (now ws)) ⌝ }
     ensures { λ r. ⌜ Arrives (walkPath (reducedMark (membersOf (set .words))) (registryOf (now (ws .entry))) (fullPathOf (registryOf (now (ws .entry))) k)) r (now (ws .exit)) (now (optional .exit)) ⌝ }
 {
-    let n = load(ws, k.0);
+    let n = load(ws, k);
     match n {
         Node::Root(_, _, _) => Entered::At(k),
         Node::Child(p, e) => {

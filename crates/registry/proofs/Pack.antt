@@ -15,7 +15,7 @@ use Rattle.entries.specs.Property.{propertyOf, isNumber, valueOf}
 use Rattle.model.specs.Answer.{flag}
 use Rattle.registry.specs.declared.Node.{Node}
 use Rattle.registry.specs.declared.Node.the-variants.{Root, Child}
-use Rattle.registry.specs.Words.{Packs, unpack}
+use Rattle.registry.specs.Words.{ParentFits, unpack}
 
 flag-back : (b : Bool) → eqb (flag b) 1 ≡ b
 flag-back true = refl
@@ -63,5 +63,5 @@ packed-child p e o k p< eo o< ek k< =
     let no-root : eqb (p .0) rootMark ≡ false = eqb-apart (p .0) rootMark (λ same. omega arith) in
     rw (same, at-parent 0 (p .0) o k 0 i< q< o< k< z<, no-root, at-parent 0 (p .0) o k 0 i< q< o< k< z<, at-optional 0 (p .0) o k 0 i< q< o< k< z<, at-number 0 (p .0) o k 0 i< q< o< k< z<, eo, ek, flag-back, flag-back, property-back)
 
-pub packs-child : {n : Node} {p : NodeId} {e : DependencyPathEntry} → Packs n → n ≡ Child p e → p .0 < rootMark
-packs-child h e = subst Packs e h
+pub packs-child : {n : Node} {p : NodeId} {e : DependencyPathEntry} → ParentFits n → n ≡ Child p e → p .0 < rootMark
+packs-child h e = subst ParentFits e h

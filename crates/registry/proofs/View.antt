@@ -15,7 +15,7 @@ use Rattle.model.specs.RegistryLaws as Placed
 use Rattle.registry.specs.declared.Node.{Node}
 use Rattle.registry.specs.declared.Node.the-variants.{Root, Child}
 use Rattle.registry.specs.Nodes.{sameKey, findNode, originOf, nodeOver, nodesOver, registryFrom, testFor, madeFor, Inside}
-use Rattle.registry.specs.Words.{Packs, nodeAt, countIn, nodesOf, registryOf}
+use Rattle.registry.specs.Words.{ParentFits, nodeAt, countIn, nodesOf, registryOf}
 use Rattle.registry.proofs.Stored.{nodesOf-length, nodesOf-at}
 
 over-length : (before : PropertyPathRegistry) (ns : List Node) → length (nodesOver before ns) ≡ length ns
@@ -115,7 +115,7 @@ arrived-sound ws vs n k h inside e = subst (λ (x : Reached). Sound (x .registry
     go (Child p f) l = child-reached (registryOf ws) p f h l .proper .sound
 
 -- a parent among the nodes fits its bits
-pub inside-packs : (n : Node) (m : ℕ) → m ≤ 512 → Inside n m → Packs n
+pub inside-packs : (n : Node) (m : ℕ) → m ≤ 512 → Inside n m → ParentFits n
 inside-packs (Root i r s) m l h = tt
 inside-packs (Child p e) m l h = omega arith
 

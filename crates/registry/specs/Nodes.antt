@@ -33,6 +33,7 @@ abbrev pub nodeOver : PropertyPathRegistry → Node → PropertyPathNode
 nodeOver before (Root i r s) = rootNode i r s
 nodeOver before (Child p e) = childNode p (fullPathOf before p) e
 
+-- Nodes one after the other, each over those before it.
 abbrev pub nodesOver : PropertyPathRegistry → List Node → PropertyPathRegistry
 nodesOver before [] = []
 nodesOver before (n ∷ ns) = let m = nodeOver before n in m ∷ nodesOver (before ++ (m ∷ [])) ns
@@ -60,5 +61,6 @@ abbrev pub optionalOver : NodeSet → Node → Bool
 optionalOver optional (Root i r s) = false
 optionalOver optional (Child p e) = e .optional || contains optional p
 
+-- The nodes that have an optional entry, once node k, which is n, is among the nodes.
 abbrev pub notedWith : NodeSet → Node → NodeId → NodeSet
 notedWith optional n k = cond (optionalOver optional n) (insert k optional) optional

@@ -19,31 +19,53 @@ use Rattle.registry.specs.declared.Node.the-variants.{Root, Child}
 use Rattle.registry.specs.Nodes.{registryFrom}
 
 -- a parent's number fits its bits, and is no root's mark
-abbrev pub Packs : Node → Type 0
-Packs (Root i r s) = Unit {0}
-Packs (Child p e) = p .0 < rootMark
+abbrev pub ParentFits : Node → Type 0
+ParentFits (Root i r s) = Unit {0}
+ParentFits (Child p e) = p .0 < rootMark
 
+-- The second word of a node: the value of a child's property.
 abbrev pub valueIn : Node → ℕ
 valueIn (Root i r s) = 0
 valueIn (Child p e) = valueOf (e .property)
 
+-- The third word of a node: its span.
 abbrev pub spanIn : Node → ℕ
 spanIn (Root i r s) = s
 spanIn (Child p e) = e .span
 
--- the first word has identifier (32 bits, of a root), parent (16 bits), optional and number (of a child), reactive (of a root)
+-- The first word of a node: identifier (32 bits, of a root), parent (16 bits), optional and number (a bit each, of a child), reactive (a bit, of a root);
+-- what a one in each part is worth.
+abbrev pub parentUnit : ℕ
+parentUnit = 4294967296
+
+-- the bit of an optional entry
+abbrev pub optionalUnit : ℕ
+optionalUnit = 281474976710656
+
+-- the bit of an entry whose property is a number
+abbrev pub numberUnit : ℕ
+numberUnit = 562949953421312
+
+-- the bit of a reactive root
+abbrev pub reactiveUnit : ℕ
+reactiveUnit = 1125899906842624
+
+-- the node that three words hold, a root or a child
 abbrev pub unpackBy : Bool → ℕ → ℕ → ℕ → Node
-unpackBy true head value span = Root (record { 0 = head % 4294967296 }) (eqb (head / 1125899906842624 % 2) 1) span
+unpackBy true head value span = Root (record { 0 = head % parentUnit }) (eqb (head / reactiveUnit % 2) 1) span
 unpackBy false head value span =
-    Child (record { 0 = head / 4294967296 % 65536 })
-    (record { property = propertyOf (eqb (head / 562949953421312 % 2) 1) value; optional = eqb (head / 281474976710656 % 2) 1; span = span })
+    Child (record { 0 = head / parentUnit % 65536 })
+    (record { property = propertyOf (eqb (head / numberUnit % 2) 1) value; optional = eqb (head / optionalUnit % 2) 1; span = span })
 
+-- The node that three words hold: a root where the parent's bits are the root's mark.
 unfoldable pub unpack : ℕ → ℕ → ℕ → Node
-unpack head value span = unpackBy (eqb (head / 4294967296 % 65536) rootMark) head value span
+unpack head value span = unpackBy (eqb (head / parentUnit % 65536) rootMark) head value span
 
+-- Node k of the words.
 abbrev pub nodeAt : List ℕ → ℕ → Node
 nodeAt ws k = unpack (getD ws (k * 3) 0) (getD ws (k * 3 + 1) 0) (getD ws (k * 3 + 2) 0)
 
+-- How many nodes the words hold.
 abbrev pub countIn : List ℕ → ℕ
 countIn ws = getD ws 1536 0
 
@@ -52,6 +74,7 @@ abbrev pub nodesFrom : List ℕ → ℕ → ℕ → List Node
 nodesFrom ws k zero = []
 nodesFrom ws k (suc n) = nodeAt ws k ∷ nodesFrom ws (suc k) n
 
+-- All nodes of the words.
 unfoldable pub nodesOf : List ℕ → List Node
 nodesOf ws = nodesFrom ws 0 (countIn ws)
 

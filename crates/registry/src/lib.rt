@@ -9,7 +9,7 @@ ghost use lib.ListN.{length};
 ghost use Rattle.registry.specs.declared.Node.the-variants.{Root, Child};
 ghost use Rattle.rows.specs.Members.{membersOf};
 ghost use Rattle.registry.specs.Nodes.{sameKey, findNode, madeFor, Inside, optionalOver, notedWith};
-ghost use Rattle.registry.specs.Words.{valueIn, spanIn, Packs, unpack, nodeAt, countIn, nodesOf, registryOf, Sized, Held, Arrives};
+ghost use Rattle.registry.specs.Words.{valueIn, spanIn, ParentFits, unpack, nodeAt, countIn, nodesOf, registryOf, Sized, Held, Arrives};
 use entries::DependencyPathEntry;
 use entries::IdentifierId;
 use entries::NodeId;
@@ -64,23 +64,31 @@ fn bit(b: bool) -> u64
     if b { 1 } else { 0 }
 }
 
-// A node as three words, and back.
+// A node as three words, and back. The first word has the identifier (of a root) below the parent, and three marks above it, of which the second
+// is worth two of the first and the third four.
+const PARENT: u64 = 4294967296;
+
+const OPTIONAL: u64 = 281474976710656;
+
+const NUMBER: u64 = 562949953421312;
+
+const REACTIVE: u64 = 1125899906842624;
 
 impl Node {
     pub fn head(self) -> u64
-        requires { ⌜ Packs self ⌝ }
+        requires { ⌜ ParentFits self ⌝ }
         ensures { λ r. ⌜ unpack r (valueIn self) (spanIn self) ≡ self ⌝ }
     {
         match self {
             Node::Root(identifier, reactive, _) => {
                 let mark = bit(reactive);
-                identifier.0 as u64 + Node::ROOT * 4294967296 + mark * 4 * 281474976710656
+                identifier.0 as u64 + Node::ROOT * PARENT + mark * 4 * OPTIONAL
             }
             Node::Child(parent, entry) => {
                 let property = entry.property;
                 let number = bit(property.is_number());
                 let optional = bit(entry.optional);
-                parent.0 as u64 * 4294967296 + (optional + number * 2) * 281474976710656
+                parent.0 as u64 * PARENT + (optional + number * 2) * OPTIONAL
             }
         }
     }
@@ -109,14 +117,14 @@ impl Node {
     pub fn unpack(head: u64, value: u64, span: u64) -> Node
         ensures { λ r. ⌜ r ≡ unpack head value span ⌝ }
     {
-        let parent = head / 4294967296 % 65536;
+        let parent = head / PARENT % 65536;
         if parent == Node::ROOT {
-            let identifier = IdentifierId((head % 4294967296) as u32);
-            let reactive = head / 1125899906842624 % 2 == 1;
+            let identifier = IdentifierId((head % PARENT) as u32);
+            let reactive = head / REACTIVE % 2 == 1;
             Node::Root(identifier, reactive, span)
         } else {
-            let property = PropertyLiteral::of(head / 562949953421312 % 2 == 1, value);
-            let optional = head / 281474976710656 % 2 == 1;
+            let property = PropertyLiteral::of(head / NUMBER % 2 == 1, value);
+            let optional = head / OPTIONAL % 2 == 1;
             Node::Child(
                 NodeId(parent as usize),
                 DependencyPathEntry {
@@ -137,11 +145,11 @@ pub fn count(ws: &[u64; 1537]) -> usize
     ws[1536] as usize
 }
 
-pub fn load(ws: &[u64; 1537], k: usize) -> Node
-    requires { ⌜ k < 512 ⌝ }
-    ensures { λ r. ⌜ r ≡ nodeAt (now (ws .entry)) k ⌝ }
+pub fn load(ws: &[u64; 1537], k: NodeId) -> Node
+    requires { ⌜ k .0 < 512 ⌝ }
+    ensures { λ r. ⌜ r ≡ nodeAt (now (ws .entry)) (k .0) ⌝ }
 {
-    let at = k * 3;
+    let at = k.0 * 3;
     Node::unpack(ws[at], ws[at + 1], ws[at + 2])
 }
 
@@ -158,7 +166,7 @@ pub fn clear(ws: &mut [u64; 1537], optional: &mut [u64; 8])
 
 // One node more.
 fn push(ws: &mut [u64; 1537], n: Node)
-    requires { ⌜ Sized (now ws) × (countIn (now ws) < 512) × Packs n ⌝ }
+    requires { ⌜ Sized (now ws) × (countIn (now ws) < 512) × ParentFits n ⌝ }
     ensures { λ _. ⌜ Sized (now (ws .exit)) × (nodesOf (now (ws .exit)) ≡ nodesOf (now (ws .entry)) ++ (n ∷ [])) ⌝ }
 {
     let k = ws[1536] as usize;
@@ -177,7 +185,7 @@ pub fn find(ws: &[u64; 1537], n: Node) -> usize
     let end = count(ws);
     let mut i: usize = 0;
     while i < end {
-        let m = load(ws, i);
+        let m = load(ws, NodeId(i));
         if m.same(n) {
             return i;
         }

@@ -14,6 +14,7 @@ use Rattle.rows.specs.declared.Next.the-variants.{At, Nothing}
 abbrev pub bit : ℕ → ℕ → Bool
 bit w m = eqb (w / 2 ^ m % 2) 1
 
+-- Node k is in a set: bit k % 64 of word k / 64.
 unfoldable pub hasBit : List ℕ → ℕ → Bool
 hasBit ws k = bit (getD ws (k / 64) 0) (k % 64)
 
@@ -26,9 +27,11 @@ nodesFrom k (suc n) = record { 0 = k } ∷ nodesFrom (suc k) n
 unfoldable pub membersFrom : List ℕ → ℕ → NodeSet
 membersFrom ws k = select (λ (j : NodeId). hasBit ws (j .0)) (nodesFrom k (512 - k))
 
+-- All members of a set, ascending.
 abbrev pub membersOf : List ℕ → NodeSet
 membersOf ws = membersFrom ws 0
 
+-- The first of an ascending list, where there is one.
 abbrev pub firstOf : NodeSet → Next
 firstOf [] = Nothing
 firstOf (k ∷ ks) = At k

@@ -10,6 +10,7 @@ use Rattle.rows.specs.Members.{membersOf}
 pub record Lent (ws : List ℕ) : Type 0 where
   pub long : length ws ≡ 1024
 
+-- Row b: the set in the eight words from b * 8 on.
 unfoldable pub rowOf : List ℕ → ℕ → NodeSet
 rowOf ws b = membersOf (drop (b * 8) ws)
 

@@ -8,7 +8,7 @@ use Rattle.entries.specs.declared.NodeId.{NodeId}
 use Rattle.entries.specs.declared.DependencyPathEntry.{DependencyPathEntry}
 use Rattle.entries.specs.Path.{ReactiveScopeDependency}
 use Rattle.model.specs.Reading.{Value, null, undefined, value, Store, readFrom, NonNullish}
-use Rattle.model.specs.Registry.{PropertyPathRegistry, Reached, fullPathOf, remarked, walkFrom, walkPath, getOrCreateIdentifier, getOrCreatePropertyEntry}
+use Rattle.model.specs.Registry.{PropertyPathRegistry, Reached, fullPathOf, withOptional, walkFrom, walkPath, getOrCreateIdentifier, getOrCreatePropertyEntry}
 use Rattle.model.specs.RegistryLaws.{Extends, extends-path, extends-length, Sound, Proper, root-reached, child-reached, entry-property}
 use Rattle.model.specs.Sets.{NodeSet}
 use Rattle.model.specs.ListLaws.{All, all-map}
@@ -36,7 +36,7 @@ module _ {X : Type 0} (S : Store X) where
   walk-safe mark at (e ∷ es) null p r h = absurd (nullish-not S e h)
   walk-safe mark at (e ∷ es) undefined p r h = absurd (nullish-not S e h)
   walk-safe mark at (e ∷ es) (value x) p r h =
-      let e′ = remarked e (mark (at .node) e) in
+      let e′ = withOptional e (mark (at .node) e) in
       let next = getOrCreatePropertyEntry (at .registry) (at .node) e′ in
       let c = child-reached (at .registry) (at .node) e′ (p .sound) (p .inside) in
       walk-safe mark next es (S .ofProperty x (e .property)) (c .proper)

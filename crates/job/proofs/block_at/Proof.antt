@@ -39,8 +39,8 @@ returns c =
     let told = c .before .enum-told .given .1 in
     rw (block-by-head, seen gotBlockHead (c .before .before .before .block-head-at .ensures) told, c .refusal .ensures, told)
 
-ids-from-requires : tie.Need-ids-from-requires
-ids-from-requires c κs = search needs
+past-ids-requires : tie.Need-past-ids-requires
+past-ids-requires c κs = search needs
 
 enum-known-ids : tie.Need-enum-known-ids
 enum-known-ids c = search needs
@@ -60,16 +60,16 @@ returns-2 c =
       block-by-head,
       seen gotBlockHead (head-field .before .before .block-head-at .ensures) (head-field .head-field .given .1),
       id-is,
-      seen gotPlace (call .ids-from .ensures) told,
+      seen gotPlace (call .past-ids .ensures) told,
       c .refusal2 .ensures,
       told,
     )
 
-cast-paths-from : tie.Need-cast-paths-from
-cast-paths-from c = search needs
+cast-past-paths : tie.Need-cast-past-paths
+cast-past-paths c = search needs
 
-paths-from-requires : tie.Need-paths-from-requires
-paths-from-requires c κs = search needs
+past-paths-requires : tie.Need-past-paths-requires
+past-paths-requires c κs = search needs
 
 enum-known-paths : tie.Need-enum-known-paths
 enum-known-paths c = search needs
@@ -90,8 +90,8 @@ returns-3 c =
       block-by-head,
       seen gotBlockHead (head-field .before .before .block-head-at .ensures) (head-field .head-field .given .1),
       id-is,
-      seen gotPlace (ids .before .before .ids-from .ensures) (ids .ids .given .1),
-      seen gotPlace (call .paths-from .ensures) told,
+      seen gotPlace (ids .before .before .past-ids .ensures) (ids .ids .given .1),
+      seen gotPlace (call .past-paths .ensures) told,
       c .refusal3 .ensures,
       told,
     )
@@ -105,8 +105,8 @@ returns-4 c =
       block-by-head,
       seen gotBlockHead (head-field .before .before .block-head-at .ensures) (head-field .head-field .given .1),
       id-is,
-      seen gotPlace (ids .before .before .ids-from .ensures) (ids .ids .given .1),
-      seen gotPlace (paths .before .before .paths-from .ensures) (paths .paths .given .1),
+      seen gotPlace (ids .before .before .past-ids .ensures) (ids .ids .given .1),
+      seen gotPlace (paths .before .before .past-paths .ensures) (paths .paths .given .1),
     )
 
 pub block-at-spec : {M : Type 1} → statement M
@@ -118,13 +118,13 @@ block-at-spec =
     enum-told
     refusal-requires
     returns
-    ids-from-requires
+    past-ids-requires
     enum-known-ids
     enum-told-2
     refusal-requires-2
     returns-2
-    cast-paths-from
-    paths-from-requires
+    cast-past-paths
+    past-paths-requires
     enum-known-paths
     enum-told-3
     refusal-requires-3

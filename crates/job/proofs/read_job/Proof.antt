@@ -2,7 +2,7 @@
 use borrow.Author.Needs.{needs}
 use native.Mathlib.Omega.{arith}
 use mathlib.Core.Path.{sym, _∙_}
-use Rattle.job.specs.Kept.{placeOf, numberOf}
+use Rattle.job.specs.Kept.{notePlace, noteNumber}
 use Rattle.job.proofs.Answers.{job-refused, blocks-few, blocks-stored-in, job-checked}
 use Rattle.job.proofs.read_job.Statement.{statement}
 use Rattle.job.proofs.read_job.Tie as tie
@@ -37,8 +37,8 @@ returns-2 c =
     let read = c .before .before .before .before .before .before in
     let call = read .before .before in
     let value = sym (read .read .given .1) ∙ call .records-of .ensures .0 in
-    let ids = blocks-stored-in _ value numberOf _ _ (c .before .before .before .checked-by-arg2 .given .0) (call .records-of .ensures .1 .0) .front in
-    let places = blocks-stored-in _ value placeOf _ _ (c .before .checked-by-arg4 .given .0) (call .records-of .ensures .1 .1) .front in (
+    let ids = blocks-stored-in _ value noteNumber _ _ (c .before .before .before .checked-by-arg2 .given .0) (call .records-of .ensures .1 .0) .front in
+    let places = blocks-stored-in _ value notePlace _ _ (c .before .checked-by-arg4 .given .0) (call .records-of .ensures .1 .1) .front in (
       c .checked-by .ensures ∙ rw (ids, places) (job-checked _ value),
       call .records-of .ensures .1,
     )

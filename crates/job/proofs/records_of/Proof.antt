@@ -31,8 +31,8 @@ returns c =
     let head = seen gotHeader (c .before .before .before .header-at .ensures) told in
     (rw (records-fields, head, c .refusal .ensures, told), (rw head, rw head))
 
-blocks-from-requires : tie.Need-blocks-from-requires
-blocks-from-requires c κs =
+note-blocks-requires : tie.Need-note-blocks-requires
+note-blocks-requires c κs =
     let header = c .before .before .before in
     let head = seen gotHeader (header .before .before .header-at .ensures) (header .header-field .given .1) in
     held (λ (h : Header). h .blocks ≤ 128) head (blocks-most HD _ 0)
@@ -53,12 +53,12 @@ returns-2 c =
     let header = blocks-call .before .before .before .before in
     let head = seen gotHeader (header .before .before .header-at .ensures) (header .header-field .given .1) in
     let told = c .before .enum-told2 .given .1 in (
-      rw (blocks-refused _ head (seen gotPlace (blocks-call .blocks-from .ensures .0) told), c .refusal2 .ensures, told),
-      (rw head (blocks-call .blocks-from .ensures .1 .0), rw head (blocks-call .blocks-from .ensures .1 .1)),
+      rw (blocks-refused _ head (seen gotPlace (blocks-call .note-blocks .ensures .0) told), c .refusal2 .ensures, told),
+      (rw head (blocks-call .note-blocks .ensures .1 .0), rw head (blocks-call .note-blocks .ensures .1 .1)),
     )
 
-paths-from-requires : tie.Need-paths-from-requires
-paths-from-requires c κs = search needs
+past-paths-requires : tie.Need-past-paths-requires
+past-paths-requires c κs = search needs
 
 enum-known-past-candidates : tie.Need-enum-known-past-candidates
 enum-known-past-candidates c = search needs
@@ -77,10 +77,10 @@ returns-3 c =
     let blocks-call = blocks .before .before in
     let header = blocks-call .before .before .before .before in
     let head = seen gotHeader (header .before .before .header-at .ensures) (header .header-field .given .1) in
-    let past = seen gotPlace (blocks-call .blocks-from .ensures .0) (blocks .past-blocks .given .1) in
+    let past = seen gotPlace (blocks-call .note-blocks .ensures .0) (blocks .past-blocks .given .1) in
     let told = c .before .enum-told3 .given .1 in (
-      rw (candidates-refused _ head past (seen gotPlace (call .paths-from .ensures) told), c .refusal3 .ensures, told),
-      (rw head (blocks-call .blocks-from .ensures .1 .0), rw head (blocks-call .blocks-from .ensures .1 .1)),
+      rw (candidates-refused _ head past (seen gotPlace (call .past-paths .ensures) told), c .refusal3 .ensures, told),
+      (rw head (blocks-call .note-blocks .ensures .1 .0), rw head (blocks-call .note-blocks .ensures .1 .1)),
     )
 
 returns-4 : tie.Need-returns-4
@@ -92,10 +92,10 @@ returns-4 c =
     let blocks-call = blocks .before .before in
     let header = blocks-call .before .before .before .before in
     let head = seen gotHeader (header .before .before .header-at .ensures) (header .header-field .given .1) in
-    let past = seen gotPlace (blocks-call .blocks-from .ensures .0) (blocks .past-blocks .given .1) in
-    let last = seen gotPlace (call .paths-from .ensures) (candidates .past-candidates .given .1) in (
+    let past = seen gotPlace (blocks-call .note-blocks .ensures .0) (blocks .past-blocks .given .1) in
+    let last = seen gotPlace (call .past-paths .ensures) (candidates .past-candidates .given .1) in (
       rw (byte-extra _ head past last (c .if1 .taken)),
-      (rw head (blocks-call .blocks-from .ensures .1 .0), rw head (blocks-call .blocks-from .ensures .1 .1)),
+      (rw head (blocks-call .note-blocks .ensures .1 .0), rw head (blocks-call .note-blocks .ensures .1 .1)),
     )
 
 cast-t17 : tie.Need-cast-t17
@@ -114,10 +114,10 @@ returns-5 c =
     let blocks-call = blocks .before .before in
     let header = blocks-call .before .before .before .before in
     let head = seen gotHeader (header .before .before .header-at .ensures) (header .header-field .given .1) in
-    let past = seen gotPlace (blocks-call .blocks-from .ensures .0) (blocks .past-blocks .given .1) in
-    let last = seen gotPlace (call .paths-from .ensures) (candidates .past-candidates .given .1) in (
+    let past = seen gotPlace (blocks-call .note-blocks .ensures .0) (blocks .past-blocks .given .1) in
+    let last = seen gotPlace (call .past-paths .ensures) (candidates .past-candidates .given .1) in (
       sym (all-read _ head past last (test .if1 .left)),
-      (rw head (blocks-call .blocks-from .ensures .1 .0), rw head (blocks-call .blocks-from .ensures .1 .1)),
+      (rw head (blocks-call .note-blocks .ensures .1 .0), rw head (blocks-call .note-blocks .ensures .1 .1)),
     )
 
 pub records-of-spec : {M : Type 1} → statement M
@@ -129,12 +129,12 @@ records-of-spec =
     enum-told
     refusal-requires
     returns
-    blocks-from-requires
+    note-blocks-requires
     enum-known-past-blocks
     enum-told-2
     refusal-requires-2
     returns-2
-    paths-from-requires
+    past-paths-requires
     enum-known-past-candidates
     enum-told-3
     refusal-requires-3

@@ -8,13 +8,13 @@ use Rattle.model.specs.Job.{readEntry}
 use Rattle.registry.specs.Words.{registryOf}
 use Rattle.fields.proofs.Reading.{seen}
 use Rattle.job.specs.Answer.{gotEntry}
-use Rattle.paths.specs.Enters.{onFrom}
+use Rattle.paths.specs.Enters.{walkOwn}
 use Rattle.paths.proofs.Entering.{Entering, child-made-at, made-full, entering-end, entering-refused, entering-full, entering-more}
 use Rattle.paths.proofs.enter_entries.Statement.{statement}
 use Rattle.paths.proofs.enter_entries.Tie as tie
 
 abbrev Inv-loop : tie.InvT-loop
-Inv-loop s start count ws₀ optional₀ at₀ left₀ node₀ ws optional at left node = Entering (readMany count (readEntry 4) s start) (onFrom (registryOf ws₀) node₀) s ws optional node at left
+Inv-loop s start count ws₀ optional₀ at₀ left₀ node₀ ws optional at left node = Entering (readMany count (readEntry 4) s start) (walkOwn (registryOf ws₀) node₀) s ws optional node at left
 
 abbrev μ-loop : tie.MeasureT-loop
 μ-loop s start count ws₀ optional₀ at₀ left₀ node₀ ws optional at left node = left

@@ -8,15 +8,15 @@ use lib.Seq.{sets}
 use Rattle.model.specs.Read.{readNumber}
 use Rattle.fields.specs.Answer.{gotU32}
 use Rattle.fields.proofs.Reading.{seen}
-use Rattle.job.specs.Passing.{notes, itself}
+use Rattle.job.specs.Passing.{notes, noteValue}
 use Rattle.job.proofs.Noting.{notes-end, notes-next, notes-stop, count-end, count-next, count-stop}
 use Rattle.job.proofs.ids.ids_into.Statement.{statement}
 use Rattle.job.proofs.ids.ids_into.Tie as tie
 
 abbrev Inv-loop : tie.InvT-loop
 Inv-loop s start count out₀ at₀ i₀ out at i =
-    (i + length (notes itself (count - i) (readNumber 4) s at) ≡ length (notes itself count (readNumber 4) s start))
-    × (sets out i (notes itself (count - i) (readNumber 4) s at) ≡ sets out₀ 0 (notes itself count (readNumber 4) s start))
+    (i + length (notes noteValue (count - i) (readNumber 4) s at) ≡ length (notes noteValue count (readNumber 4) s start))
+    × (sets out i (notes noteValue (count - i) (readNumber 4) s at) ≡ sets out₀ 0 (notes noteValue count (readNumber 4) s start))
     × (i ≤ count)
     × (count ≤ 64)
 

@@ -1,4 +1,4 @@
--- `job::blocks_from` meets its contract. The invariant: the rest from here ends where the whole does, and what is noted with what follows from here is the whole.
+-- `job::note_blocks` meets its contract. The invariant: the rest from here ends where the whole does, and what is noted with what follows from here is the whole.
 use borrow.Author.Needs.{needs}
 use Prim.Native.Nat.{_-_, _≤_}
 use native.Mathlib.Nat.{sub-zero}
@@ -10,17 +10,17 @@ use Rattle.model.specs.Job.{Block, readBlock}
 use Rattle.fields.proofs.Reading.{seen}
 use Rattle.job.specs.Passing.{passed, notes}
 use Rattle.job.specs.Answer.{gotBlockId}
-use Rattle.job.specs.Kept.{placeOf, numberOf}
+use Rattle.job.specs.Kept.{notePlace, noteNumber}
 use Rattle.job.proofs.Passing.{mapped-got, mapped-refused, many-done, many-next, many-halt}
 use Rattle.job.proofs.Noting.{notes-end, notes-next, notes-stop}
-use Rattle.job.proofs.blocks_from.Statement.{statement}
-use Rattle.job.proofs.blocks_from.Tie as tie
+use Rattle.job.proofs.note_blocks.Statement.{statement}
+use Rattle.job.proofs.note_blocks.Tie as tie
 
 abbrev Inv-loop : tie.InvT-loop
 Inv-loop s start count ids₀ places₀ at₀ i₀ ids places at i =
     (passed (readMany (count - i) (readBlock 4) s at) ≡ passed (readMany count (readBlock 4) s start))
-    × (sets ids i (notes numberOf (count - i) (readBlock 4) s at) ≡ sets ids₀ 0 (notes numberOf count (readBlock 4) s start))
-    × (sets places i (notes placeOf (count - i) (readBlock 4) s at) ≡ sets places₀ 0 (notes placeOf count (readBlock 4) s start))
+    × (sets ids i (notes noteNumber (count - i) (readBlock 4) s at) ≡ sets ids₀ 0 (notes noteNumber count (readBlock 4) s start))
+    × (sets places i (notes notePlace (count - i) (readBlock 4) s at) ≡ sets places₀ 0 (notes notePlace count (readBlock 4) s start))
     × (count ≤ 128)
 
 abbrev μ-loop : tie.MeasureT-loop
@@ -94,8 +94,8 @@ returns-2 c =
       (sym (notes-end _ _ _ _ _ _ _ over) ∙ inv .1, sym (notes-end _ _ _ _ _ _ _ over) ∙ inv .2),
     )
 
-pub blocks-from-spec : {M : Type 1} → statement M
-blocks-from-spec =
+pub note-blocks-spec : {M : Type 1} → statement M
+note-blocks-spec =
     tie.close
     (tie.spec
     Inv-loop

@@ -1,12 +1,12 @@
--- `job::path_at` meets its contract: mark, head and entries one after the other; the entries' values are no matter of the place.
+-- `job::past_path` meets its contract: mark, head and entries one after the other; the entries' values are no matter of the place.
 use borrow.Author.Needs.{needs}
 use Rattle.fields.specs.Answer.{gotPlace}
 use Rattle.fields.proofs.Reading.{seen}
 use Rattle.job.specs.Answer.{gotPathHead}
 use Rattle.job.proofs.Heads.{path-by-head}
 use Rattle.job.proofs.Passing.{passed-mapped}
-use Rattle.job.proofs.path_at.Statement.{statement}
-use Rattle.job.proofs.path_at.Tie as tie
+use Rattle.job.proofs.past_path.Statement.{statement}
+use Rattle.job.proofs.past_path.Tie as tie
 
 mark-at-requires : tie.Need-mark-at-requires
 mark-at-requires c κs = search needs
@@ -52,8 +52,8 @@ returns-2 c =
       told,
     )
 
-entries-from-requires : tie.Need-entries-from-requires
-entries-from-requires c κs = search needs
+past-entries-requires : tie.Need-past-entries-requires
+past-entries-requires c κs = search needs
 
 returns-3 : tie.Need-returns-3
 returns-3 c =
@@ -65,10 +65,10 @@ returns-3 c =
       seen gotPathHead (head-field .before .before .path-head-at .ensures) (head-field .head-field .given .1),
       passed-mapped,
     )
-    (c .entries-from .ensures)
+    (c .past-entries .ensures)
 
-pub path-at-spec : {M : Type 1} → statement M
-path-at-spec =
+pub past-path-spec : {M : Type 1} → statement M
+past-path-spec =
     tie.close
     (tie.spec
     mark-at-requires
@@ -80,5 +80,5 @@ path-at-spec =
     enum-told-2
     refusal-requires
     returns-2
-    entries-from-requires
+    past-entries-requires
     returns-3)

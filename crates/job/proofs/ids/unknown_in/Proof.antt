@@ -1,15 +1,15 @@
--- `job::ids::stray_in` meets its contract, as `contains_from` does: an id of the rest from here is none of the known ones if one of the whole is.
+-- `job::ids::unknown_in` meets its contract, as `contains_from` does: an id of the rest from here is none of the known ones if one of the whole is.
 use borrow.Author.Needs.{needs}
 use Prim.Native.Nat.{_-_}
 use mathlib.Core.Path.{_≡_, refl, sym, _∙_}
 use lib.ListN.{length, drop}
-use Rattle.job.specs.Ids.{blockIds, strays}
-use Rattle.job.proofs.IdLists.{strays-none, strays-here, strays-next}
-use Rattle.job.proofs.ids.stray_in.Statement.{statement}
-use Rattle.job.proofs.ids.stray_in.Tie as tie
+use Rattle.job.specs.Ids.{blockIds, anyUnknown}
+use Rattle.job.proofs.IdLists.{unknown-none, unknown-here, unknown-next}
+use Rattle.job.proofs.ids.unknown_in.Statement.{statement}
+use Rattle.job.proofs.ids.unknown_in.Tie as tie
 
 abbrev Inv-loop : tie.InvT-loop
-Inv-loop ids known i₀ i = strays (blockIds known) (blockIds (drop i ids)) ≡ strays (blockIds known) (blockIds ids)
+Inv-loop ids known i₀ i = anyUnknown (blockIds known) (blockIds (drop i ids)) ≡ anyUnknown (blockIds known) (blockIds ids)
 
 abbrev μ-loop : tie.MeasureT-loop
 μ-loop ids known i₀ i = length ids - i
@@ -37,22 +37,22 @@ loop-again c =
     let known = c .before .before .before .before .before .before .before .args .known .now in
     let turn = c .before .before .before in
     let found = sym (c .before .contains-from .ensures) ∙ c .if1 .taken in
-    sym (strays-next _ _ known (turn .loop-test .taken) found) ∙ turn .before .loop .inv
+    sym (unknown-next _ _ known (turn .loop-test .taken) found) ∙ turn .before .loop .inv
 
 returns : tie.Need-returns Inv-loop μ-loop
 returns c =
     let known = c .before .before .before .before .before .before .before .args .known .now in
     let turn = c .before .before .before in
     let found = sym (c .before .contains-from .ensures) ∙ c .if1 .left in
-    sym (strays-here _ _ known (turn .loop-test .taken) found) ∙ turn .before .loop .inv
+    sym (unknown-here _ _ known (turn .loop-test .taken) found) ∙ turn .before .loop .inv
 
 returns-2 : tie.Need-returns-2 Inv-loop μ-loop
 returns-2 c =
     let known = c .before .before .before .before .args .known .now in
-    sym (strays-none _ _ known (c .loop-test .left)) ∙ c .before .loop .inv
+    sym (unknown-none _ _ known (c .loop-test .left)) ∙ c .before .loop .inv
 
-pub stray-in-spec : {M : Type 1} → statement M
-stray-in-spec =
+pub unknown-in-spec : {M : Type 1} → statement M
+unknown-in-spec =
     tie.close
     (tie.spec
     Inv-loop

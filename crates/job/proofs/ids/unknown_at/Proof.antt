@@ -1,9 +1,9 @@
--- `job::ids::stray_at` meets its contract: the front of the array is the list of the predecessors.
+-- `job::ids::unknown_at` meets its contract: the front of the array is the list of the predecessors.
 use borrow.Author.Needs.{needs}
 use mathlib.Core.Path.{refl}
 use Rattle.job.proofs.Stored.{predecessors-stored}
-use Rattle.job.proofs.ids.stray_at.Statement.{statement}
-use Rattle.job.proofs.ids.stray_at.Tie as tie
+use Rattle.job.proofs.ids.unknown_at.Statement.{statement}
+use Rattle.job.proofs.ids.unknown_at.Tie as tie
 
 predecessors-at-requires : tie.Need-predecessors-at-requires
 predecessors-at-requires c κs = search needs
@@ -13,25 +13,25 @@ array-share-prefix-out c =
     let call = c in
     predecessors-stored _ _ _ _ _ refl (call .predecessors-at .ensures .0) (call .predecessors-at .ensures .1) .within
 
-slice-aggregate-stray-in : tie.Need-slice-aggregate-stray-in
-slice-aggregate-stray-in c =
+slice-aggregate-unknown-in : tie.Need-slice-aggregate-unknown-in
+slice-aggregate-unknown-in c =
     let call = c .before in
     predecessors-stored _ _ _ _ _ refl (call .predecessors-at .ensures .0) (call .predecessors-at .ensures .1) .count
 
-stray-in-requires : tie.Need-stray-in-requires
-stray-in-requires c κs = search needs
+unknown-in-requires : tie.Need-unknown-in-requires
+unknown-in-requires c κs = search needs
 
 returns : tie.Need-returns
 returns c =
     let call = c .before .before in
-    rw (← (predecessors-stored _ _ _ _ _ refl (call .predecessors-at .ensures .0) (call .predecessors-at .ensures .1) .front)) (c .stray-in .ensures)
+    rw (← (predecessors-stored _ _ _ _ _ refl (call .predecessors-at .ensures .0) (call .predecessors-at .ensures .1) .front)) (c .unknown-in .ensures)
 
-pub stray-at-spec : {M : Type 1} → statement M
-stray-at-spec =
+pub unknown-at-spec : {M : Type 1} → statement M
+unknown-at-spec =
     tie.close
     (tie.spec
     predecessors-at-requires
     array-share-prefix-out
-    slice-aggregate-stray-in
-    stray-in-requires
+    slice-aggregate-unknown-in
+    unknown-in-requires
     returns)

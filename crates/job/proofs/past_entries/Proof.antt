@@ -1,4 +1,4 @@
--- `job::entries_from` meets its contract. The invariant: the rest from here ends where the whole does.
+-- `job::past_entries` meets its contract. The invariant: the rest from here ends where the whole does.
 use borrow.Author.Needs.{needs}
 use mathlib.Core.Path.{_≡_, refl, sym, ap, _∙_}
 use Rattle.model.specs.Read.{readMany}
@@ -7,8 +7,8 @@ use Rattle.fields.proofs.Reading.{seen}
 use Rattle.job.specs.Passing.{passed}
 use Rattle.job.specs.Answer.{gotEntry}
 use Rattle.job.proofs.Passing.{many-end, many-step, many-stop}
-use Rattle.job.proofs.entries_from.Statement.{statement}
-use Rattle.job.proofs.entries_from.Tie as tie
+use Rattle.job.proofs.past_entries.Statement.{statement}
+use Rattle.job.proofs.past_entries.Tie as tie
 
 abbrev Inv-loop : tie.InvT-loop
 Inv-loop s start count at₀ left₀ at left = passed (readMany left (readEntry 4) s at) ≡ passed (readMany count (readEntry 4) s start)
@@ -53,8 +53,8 @@ loop-again c =
 returns-2 : tie.Need-returns-2 Inv-loop μ-loop
 returns-2 c = sym (many-end _ _ _ _ (c .loop-test .left)) ∙ c .before .loop .inv
 
-pub entries-from-spec : {M : Type 1} → statement M
-entries-from-spec =
+pub past-entries-spec : {M : Type 1} → statement M
+past-entries-spec =
     tie.close
     (tie.spec
     Inv-loop

@@ -1,4 +1,4 @@
--- `job::paths_from` meets its contract, as `entries_from` does: the rest from here ends where the whole does.
+-- `job::past_paths` meets its contract, as `past_entries` does: the rest from here ends where the whole does.
 use borrow.Author.Needs.{needs}
 use mathlib.Core.Path.{_≡_, refl, sym, _∙_}
 use Rattle.model.specs.Read.{readMany}
@@ -7,8 +7,8 @@ use Rattle.fields.specs.Answer.{gotPlace}
 use Rattle.fields.proofs.Reading.{seen}
 use Rattle.job.specs.Passing.{passed}
 use Rattle.job.proofs.Passing.{many-end, many-step, many-stop}
-use Rattle.job.proofs.paths_from.Statement.{statement}
-use Rattle.job.proofs.paths_from.Tie as tie
+use Rattle.job.proofs.past_paths.Statement.{statement}
+use Rattle.job.proofs.past_paths.Tie as tie
 
 abbrev Inv-loop : tie.InvT-loop
 Inv-loop s start count mark at₀ left₀ at left = passed (readMany left (readPath 4 mark) s at) ≡ passed (readMany count (readPath 4 mark) s start)
@@ -19,8 +19,8 @@ abbrev μ-loop : tie.MeasureT-loop
 loop-holds : tie.Need-loop-holds Inv-loop μ-loop
 loop-holds c = refl
 
-path-at-requires : tie.Need-path-at-requires Inv-loop μ-loop
-path-at-requires c κs = search needs
+past-path-requires : tie.Need-past-path-requires Inv-loop μ-loop
+past-path-requires c κs = search needs
 
 enum-known-path : tie.Need-enum-known-path Inv-loop μ-loop
 enum-known-path c = search needs
@@ -32,7 +32,7 @@ returns : tie.Need-returns Inv-loop μ-loop
 returns c =
     let call = c .before .before in
     let told = c .enum-told .given .1 in
-    let stop = many-stop _ _ _ _ (call .before .loop-test .taken) (seen gotPlace (call .path-at .ensures) told) in
+    let stop = many-stop _ _ _ _ (call .before .loop-test .taken) (seen gotPlace (call .past-path .ensures) told) in
     rw told (sym stop ∙ call .before .before .loop .inv)
 
 sub-left : tie.Need-sub-left Inv-loop μ-loop
@@ -44,20 +44,20 @@ loop-less c = search needs
 loop-again : tie.Need-loop-again Inv-loop μ-loop
 loop-again c =
     let call = c .before .before .before in
-    let step = many-step _ _ _ _ (call .before .loop-test .taken) (seen gotPlace (call .path-at .ensures) (c .before .path .given .1)) in
+    let step = many-step _ _ _ _ (call .before .loop-test .taken) (seen gotPlace (call .past-path .ensures) (c .before .path .given .1)) in
     sym step ∙ call .before .before .loop .inv
 
 returns-2 : tie.Need-returns-2 Inv-loop μ-loop
 returns-2 c = sym (many-end _ _ _ _ (c .loop-test .left)) ∙ c .before .loop .inv
 
-pub paths-from-spec : {M : Type 1} → statement M
-paths-from-spec =
+pub past-paths-spec : {M : Type 1} → statement M
+past-paths-spec =
     tie.close
     (tie.spec
     Inv-loop
     μ-loop
     loop-holds
-    path-at-requires
+    past-path-requires
     enum-known-path
     enum-told
     returns
