@@ -16,3 +16,4 @@ pub mod Answers
 -- what later stages go on from
 pub mod Accepted
 pub mod RecordParts
+pub mod BlocksAt

@@ -1,10 +1,11 @@
 -- What the reader keeps of a job: the header, the place of the candidates, and a note of each block.
-use Prim.Native.Nat.{ℕ}
+use Prim.Native.Nat.{ℕ, _<_}
+use mathlib.Core.Path.{_≡_}
 use mathlib.Core.List.{List}
-use lib.ListN.{length}
+use lib.ListN.{length, getD}
 use Rattle.model.specs.Read.{Read, got, refused, andThen, readMany}
 use Rattle.model.specs.Answer.{spanWidth}
-use Rattle.model.specs.Job.{HD, Header, Block, Job, readHeader, readBlock}
+use Rattle.model.specs.Job.{HD, Header, Block, Job, readHeader, readBlock, readJob}
 use Rattle.job.specs.Passing.{orNone, notes}
 use Rattle.job.specs.declared.JobHead.{JobHead}
 use Rattle.job.specs.declared.ReadJob.{ReadJob}
@@ -47,3 +48,10 @@ headOf s job = record { blocks = length (job .blocks); candidates = length (job 
 abbrev pub keptOf : List ℕ → Read Job → ReadJob
 keptOf s (got job end) = Value (headOf s job)
 keptOf s (refused r) = Refused r
+
+-- A job that the bytes read to, whose blocks are noted at these places.
+pub record BlocksAt (s : List ℕ) (n : ℕ) (places : List ℕ) (j : Job) : Type 0 where
+  pub end : ℕ
+  pub reads : readJob HD spanWidth s ≡ got j end
+  pub count : length (j .blocks) ≡ n
+  pub noted : (k : ℕ) → k < n → getD places k 0 ≡ getD (blockPlaces s) k 0

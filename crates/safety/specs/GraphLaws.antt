@@ -24,7 +24,7 @@ use Rattle.safety.specs.Places.{order-below, order-member}
 
 -- Ids.
 
-same-block : (a b : BlockId) → sameBlock a b ≡ true → a ≡ b
+pub same-block : (a b : BlockId) → sameBlock a b ≡ true → a ≡ b
 same-block a b e = let n : a .0 ≡ b .0 = eqb-true (a .0) (b .0) e in λ i. record { 0 = n i }
 
 pub contains-member : (ids : List BlockId) (i : BlockId) → containsId ids i ≡ true → Member i ids
@@ -68,7 +68,7 @@ place-member b bs d m =
     rw own (h, e)
 
 -- the place of a known id
-place-known : (bs : List Block) (i : BlockId) → Member i (idsOf bs) → (placeOf bs i < length bs) × (blockAt bs (placeOf bs i) .id ≡ i)
+pub place-known : (bs : List Block) (i : BlockId) → Member i (idsOf bs) → (placeOf bs i < length bs) × (blockAt bs (placeOf bs i) .id ≡ i)
 place-known (c ∷ cs) i (inl h) = rw (ap (λ k. sameBlock k i) h ∙ eqb-same (i .0)) (omega arith, h)
 place-known (c ∷ cs) i (inr m) =
     let rest = place-known cs i m in
@@ -126,7 +126,7 @@ proper-blocks j r u =
     }
 
 module _ (bs : List Block) (ok : ProperBlocks bs) where
-  known-at : (b : ℕ) → All (λ i. Member i (idsOf bs)) (blockAt bs b .predecessors)
+  pub known-at : (b : ℕ) → All (λ i. Member i (idsOf bs)) (blockAt bs b .predecessors)
   known-at b = all-getD (λ c. All (λ i. Member i (idsOf bs)) (c .predecessors)) bs b _ (ok .known) tt
 
   pub predecessors-inside : (b : ℕ) → All (λ c. c < length bs) (predecessorsOf bs b)

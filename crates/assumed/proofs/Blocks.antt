@@ -1,0 +1,158 @@
+-- A block's assumed paths by the parts of its record, and the blocks that are left: what starts from them after those before starts the whole.
+use Prim.Native.Nat.{ℕ, zero, suc, _+_, _*_, _≤_, _<_}
+use native.Mathlib.Omega.{arith}
+use native.Mathlib.Nat.{zero-add}
+use mathlib.Core.Path.{_≡_, refl, sym, ap, subst, _∙_}
+use mathlib.Core.Bool.{Bool, true, false}
+use mathlib.Core.List.{List, [], _∷_, _++_, append-assoc, append-nil}
+use lib.ListN.{length, getD, set, drop, drop-of-length-le}
+use lib.Seq.{getD-set-same}
+use Rattle.entries.specs.declared.BlockId.{BlockId}
+use Rattle.entries.specs.declared.Refusal.{Refusal}
+use Rattle.model.specs.Read.{Read, got, refused, readMany}
+use Rattle.model.specs.Job.{HD, PA, Block, Job, readBlockId, readPath, readBlock, readJob}
+use Rattle.model.specs.Sets.{NodeSet}
+use Rattle.model.specs.Registry.{nodeLimit, PropertyPathRegistry}
+use Rattle.model.specs.RegistryLaws.{Extends, extends-refl, extends-trans, extends-length}
+use Rattle.model.specs.Stage.{Entered, Started, enterBlock, enterBlocks}
+use Rattle.registry.specs.Words.{registryOf, Held}
+use Rattle.rows.specs.Members.{membersOf}
+use Rattle.rows.specs.Rows.{Lent, RowSet, rowOf, rowsFrom, rowsOf}
+use Rattle.rows.proofs.Rows.{row-at, rows-count}
+use Rattle.job.specs.Head.{readBlockHead}
+use Rattle.job.specs.Kept.{BlocksAt}
+use Rattle.job.specs.Passing.{passed}
+use Rattle.job.specs.declared.BlockHead.{BlockHead}
+use Rattle.job.proofs.Passing.{not-both}
+use Rattle.job.proofs.RecordParts.{BlockParts, block-parts}
+use Rattle.job.proofs.BlocksAt.{block-there}
+use Rattle.assumed.specs.declared.EnteredSet.{EnteredSet}
+use Rattle.assumed.specs.Start.{FillsBy, Fills, RoomHeld, EntersBlock, StartHeld}
+use Rattle.assumed.proofs.Filling.{paths-extend}
+
+-- The parts of a block's record.
+
+module _ (s : List ℕ) (at : ℕ) (b : Block) (end : ℕ) (read : readBlock 4 s at ≡ got b end) where
+  parts : BlockParts s at b end
+  parts = block-parts s at read
+
+  pub head-there : {r : Refusal} → readBlockHead s at ≡ refused r → ⊥
+  head-there e = not-both (parts .head-read) e
+
+  module _ {head : BlockHead} {idsAt : ℕ} (headed : readBlockHead s at ≡ got head idsAt) where
+    same-head : parts .head ≡ head
+    same-head = let e = sym (parts .head-read) ∙ headed in cc
+
+    same-place : at + 8 ≡ idsAt
+    same-place = let e = sym (parts .head-read) ∙ headed in cc
+
+    abbrev ids-end : ℕ
+    ids-end = at + 8 + 4 * parts .head .predecessors
+
+    ids-read : readMany (head .predecessors) readBlockId s idsAt ≡ got (b .predecessors) ids-end
+    ids-read =
+        subst (λ (h : BlockHead). readMany (h .predecessors) readBlockId s idsAt ≡ got (b .predecessors) ids-end) same-head
+        (subst (λ n. readMany (parts .head .predecessors) readBlockId s n ≡ got (b .predecessors) ids-end) same-place (parts .predecessors-read))
+
+    pub ids-there : {r : Refusal} → passed (readMany (head .predecessors) readBlockId s idsAt) ≡ refused r → ⊥
+    ids-there e = not-both (ap passed ids-read) e
+
+    pub paths-there : {pathsAt : ℕ} → passed (readMany (head .predecessors) readBlockId s idsAt) ≡ got tt pathsAt → readMany (head .assumed) (readPath 4 PA) s pathsAt ≡ got (b .assumed) end
+    paths-there {pathsAt} e =
+        let both : got tt pathsAt ≡ got tt ids-end = sym e ∙ ap passed ids-read in
+        let there : ids-end ≡ pathsAt = cc in
+        subst (λ (h : BlockHead). readMany (h .assumed) (readPath 4 PA) s pathsAt ≡ got (b .assumed) end) same-head
+        (subst (λ n. readMany (parts .head .assumed) (readPath 4 PA) s n ≡ got (b .assumed) end) there (parts .assumed-read))
+
+-- The blocks that are left.
+
+blocks-extend : (reg : PropertyPathRegistry) (bs : List Block) → Extends reg (enterBlocks reg bs .registry)
+unfolding enterBlocks
+blocks-extend reg [] = extends-refl reg
+blocks-extend reg (b ∷ bs) = extends-trans (paths-extend reg [] (b .assumed)) (blocks-extend (enterBlock reg b .registry) bs)
+
+-- sets in front of those with which the blocks that are left start
+abbrev after : List NodeSet → Started → Started
+after sets st = record { registry = st .registry; sets = sets ++ st .sets }
+
+set-behind : (l : List NodeSet) (i : ℕ) (x : NodeSet) → length l ≤ i → set l i x ≡ l
+set-behind [] i x h = refl
+set-behind (y ∷ l) zero x h = absurd (omega arith)
+set-behind (y ∷ l) (suc i) x h = ap (λ t. y ∷ t) (set-behind l i x (omega arith))
+
+rows-more : (ws : List ℕ) (k n : ℕ) → rowsFrom ws k (suc n) ≡ rowsFrom ws k n ++ (rowOf ws (k + n) ∷ [])
+rows-more ws k zero = ap (λ i. rowOf ws i ∷ []) (omega arith)
+rows-more ws k (suc n) = ap (λ t. rowOf ws k ∷ t) (rows-more ws (suc k) n ∙ ap (λ i. rowsFrom ws (suc k) n ++ (rowOf ws i ∷ [])) (omega arith))
+
+-- one row more is stored
+row-more : (entry exit : List ℕ) (b : ℕ) (s : NodeSet) → RowSet entry exit b s → rowsOf exit (b + 1) ≡ rowsOf entry b ++ (s ∷ [])
+unfolding rowsOf
+row-more entry exit b s x =
+    let one : b + 1 ≡ suc b = omega arith in
+    let size = rows-count entry b in
+    let wide = rows-count entry (suc b) in
+    let this : rowOf exit b ≡ s = sym (row-at exit (suc b) b (omega arith)) ∙ ap (λ (l : List NodeSet). getD l b []) (x .rows (suc b)) ∙ getD-set-same (rowsOf entry (suc b)) b s [] (omega arith) in
+    let others : rowsOf exit b ≡ rowsOf entry b = x .rows b ∙ set-behind (rowsOf entry b) b s (omega arith) in
+    ap (rowsOf exit) one ∙ rows-more exit 0 b ∙ ap (λ (l : List NodeSet). l ++ (rowOf exit (0 + b) ∷ [])) others ∙ ap (λ t. rowsOf entry b ++ (t ∷ [])) (ap (rowOf exit) (zero-add b) ∙ this)
+
+-- the first of the blocks that are left is entered, and its set stands last of those before
+one-more : (front more : List NodeSet) (e : Entered) (reg : PropertyPathRegistry) (s : NodeSet) (bs cs : List Block) → e ≡ record { registry = reg; set = s } → more ≡ front ++ (s ∷ []) → bs ≡ cs
+    → after front (record { registry = enterBlocks (e .registry) bs .registry; sets = e .set ∷ enterBlocks (e .registry) bs .sets }) ≡ after more (enterBlocks reg cs)
+one-more front more e reg s bs cs is stored same =
+    ap (λ (e : Entered). after front (record { registry = enterBlocks (e .registry) bs .registry; sets = e .set ∷ enterBlocks (e .registry) bs .sets })) is
+    ∙ ap (λ (l : List NodeSet). record { registry = enterBlocks reg bs .registry; sets = l }) (sym (append-assoc front (s ∷ []) (enterBlocks reg bs .sets)))
+    ∙ ap (λ (l : List NodeSet). after l (enterBlocks reg bs)) (sym stored)
+    ∙ ap (λ bs. after more (enterBlocks reg bs)) same
+
+pub record Starting (s : List ℕ) (n : ℕ) (places ws os sets : List ℕ) (b : ℕ) : Type 0 where
+  pub held : Held ws os
+  pub lent : Lent sets
+  pub below : b ≤ n
+  pub on : (j : Job) → BlocksAt s n places j → enterBlocks [] (j .blocks) ≡ after (rowsOf sets b) (enterBlocks (registryOf ws) (drop b (j .blocks)))
+
+pub starting : (s : List ℕ) (n : ℕ) (places ws os sets : List ℕ) → Held ws os → registryOf ws ≡ [] → Lent sets → Starting s n places ws os sets 0
+unfolding rowsOf
+starting s n places ws os sets held none lent =
+    record { held = held; lent = lent; below = omega arith; on = λ j at. ap (λ reg. enterBlocks reg (j .blocks)) (sym none) }
+
+module _ {s : List ℕ} {n : ℕ} {places ws os sets : List ℕ} {b : ℕ} (x : Starting s n places ws os sets b) where
+  pub starting-end : n ≤ b → (j : Job) → BlocksAt s n places j → StartHeld (enterBlocks [] (j .blocks)) n ws os sets
+  unfolding enterBlocks
+  starting-end none j at =
+      let all : b ≡ n = let l = x .below in omega arith in
+      let few : length (j .blocks) ≤ b = let size = at .count in omega arith in
+      let gone : drop b (j .blocks) ≡ [] = drop-of-length-le (j .blocks) few in
+      record {
+        held = x .held;
+        lent = x .lent;
+        same = x .on j at ∙ ap (λ bs. after (rowsOf sets b) (enterBlocks (registryOf ws) bs)) gone ∙ ap (λ (l : List NodeSet). record { registry = registryOf ws; sets = l }) (append-nil (rowsOf sets b) ∙ ap (rowsOf sets) all);
+      }
+
+  module _ (some : b < n) (r : EnteredSet) (us ps : List ℕ) (entered : EntersBlock s (getD places b 0) (registryOf ws) r us ps) where
+    -- what the block that is entered does to the whole
+    next-block : (j : Job) → BlocksAt s n places j → (a : Block)
+        × (enterBlocks [] (j .blocks) ≡ after (rowsOf sets b) (enterBlocks (registryOf ws) (a ∷ drop (suc b) (j .blocks)))) × Fills (enterBlock (registryOf ws) a) r us
+    next-block j at =
+        let t = block-there j at b some in
+        (t .0, x .on j at ∙ ap (λ bs. after (rowsOf sets b) (enterBlocks (registryOf ws) bs)) (t .3), entered .1 (t .0) (t .1) (t .2))
+
+    pub starting-full : r .full ≡ true → (j : Job) → BlocksAt s n places j → nodeLimit < length (enterBlocks [] (j .blocks) .registry)
+    unfolding enterBlocks
+    starting-full e j at =
+        let t = next-block j at in
+        let f : nodeLimit < length (enterBlock (registryOf ws) (t .0) .registry) = subst (λ f. FillsBy f (enterBlock (registryOf ws) (t .0)) r us) e (t .2) in
+        let longer = extends-length (blocks-extend (enterBlock (registryOf ws) (t .0) .registry) (drop (suc b) (j .blocks))) in
+        subst (λ (st : Started). nodeLimit < length (st .registry)) (sym (t .1)) (omega arith)
+
+    pub starting-more : r .full ≡ false → (more : List ℕ) → RowSet sets more b (membersOf (r .set .words)) → Starting s n places us ps more (b + 1)
+    unfolding enterBlocks
+    starting-more e more stored = record {
+      held = subst (λ f. RoomHeld f us ps) e (entered .0);
+      lent = stored .lent;
+      below = omega arith;
+      on = λ j at.
+          let t = next-block j at in
+          let is : enterBlock (registryOf ws) (t .0) ≡ record { registry = registryOf us; set = membersOf (r .set .words) } = subst (λ f. FillsBy f (enterBlock (registryOf ws) (t .0)) r us) e (t .2) in
+          t .1 ∙ one-more (rowsOf sets b) (rowsOf more (b + 1)) (enterBlock (registryOf ws) (t .0)) (registryOf us) (membersOf (r .set .words)) (drop (suc b) (j .blocks)) (drop (b + 1) (j .blocks)) is
+          (row-more sets more b (membersOf (r .set .words)) stored) (let next : suc b ≡ b + 1 = omega arith in ap (λ k. drop k (j .blocks)) next);
+    }

@@ -1,0 +1,114 @@
+-- The assumed paths that are left of a block: what enters them after those before enters them all.
+use Prim.Native.Nat.{ℕ, zero, suc, _-_, _≤_, _<_}
+use native.Mathlib.Omega.{arith}
+use mathlib.Core.Path.{_≡_, refl, sym, ap, subst, _∙_}
+use mathlib.Core.Bool.{Bool, true, false}
+use mathlib.Core.List.{List, [], _∷_}
+use lib.ListN.{length}
+use Rattle.entries.specs.declared.NodeId.{NodeId}
+use Rattle.entries.specs.declared.Refusal.{Refusal}
+use Rattle.entries.specs.Path.{ReactiveScopeDependency}
+use Rattle.model.specs.Read.{Read, got, refused, readMany}
+use Rattle.model.specs.Job.{PA, readPath}
+use Rattle.model.specs.Sets.{NodeSet, insert}
+use Rattle.model.specs.Registry.{nodeLimit, PropertyPathRegistry, Reached, ownMark, getOrCreateProperty}
+use Rattle.model.specs.RegistryLaws.{Extends, extends-refl, extends-trans, extends-length, path-extends, path-proper}
+use Rattle.model.specs.Stage.{Entered, enterPaths}
+use Rattle.registry.specs.Words.{countIn, registryOf, Held}
+use Rattle.registry.proofs.View.{registry-length}
+use Rattle.rows.specs.Members.{membersOf}
+use Rattle.job.proofs.Many.{many-first}
+use Rattle.paths.specs.declared.EnteredPath.{EnteredPath}
+use Rattle.paths.specs.declared.EnteredPath.the-variants as path
+use Rattle.paths.specs.Enters.{Enters}
+
+-- Entering paths only adds nodes.
+pub paths-extend : (reg : PropertyPathRegistry) (s : NodeSet) (ds : List ReactiveScopeDependency) → Extends reg (enterPaths reg s ds .registry)
+unfolding getOrCreateProperty
+paths-extend reg s [] = extends-refl reg
+paths-extend reg s (d ∷ ds) =
+    let at = getOrCreateProperty reg d in
+    extends-trans (path-extends ownMark reg d) (paths-extend (at .registry) (insert (at .node) s) ds)
+
+-- The answers of `enter_path` by their case.
+
+entered-at : {A : Type 0} (x : Read A) (reach : A → Reached) (k : NodeId) (n : ℕ) (ws os : List ℕ) → Enters x reach (path.At k n) ws os
+    → (a : A) × (x ≡ got a n) × Held ws os × (reach a ≡ record { registry = registryOf ws; node = k })
+entered-at (got a m) reach k n ws os h = (a, ap (got a) (sym (h .1)), h .0 .0, h .0 .1)
+entered-at (refused r) reach k n ws os h = absurd h
+
+entered-full : {A : Type 0} (x : Read A) (reach : A → Reached) (ws os : List ℕ) → Enters x reach path.Full ws os → {a : A} {n : ℕ} → x ≡ got a n → nodeLimit < length (reach a .registry)
+entered-full x reach ws os h {a} {n} e = subst (λ y. Enters y reach path.Full ws os) e h
+
+not-refused : {A : Type 0} (x : Read A) (reach : A → Reached) (r : Refusal) (ws os : List ℕ) → Enters x reach (path.Refused r) ws os → {a : A} {n : ℕ} → x ≡ got a n → ⊥
+not-refused x reach r ws os h {a} {n} e = subst (λ y. Enters y reach (path.Refused r) ws os) e h
+
+-- The paths that are left.
+
+next-path : (reg more : PropertyPathRegistry) (s t : NodeSet) (es rest : List ReactiveScopeDependency) (c d : ReactiveScopeDependency) (k : NodeId) → c ∷ rest ≡ es → c ≡ d
+    → getOrCreateProperty reg d ≡ record { registry = more; node = k } → t ≡ insert k s → enterPaths reg s es ≡ enterPaths more t rest
+next-path reg more s t es rest c d k all same reached inserted =
+    ap (enterPaths reg s) (sym all)
+    ∙ ap (λ (at : Reached). enterPaths (at .registry) (insert (at .node) s) rest) (ap (getOrCreateProperty reg) same ∙ reached)
+    ∙ ap (λ u. enterPaths more u rest) (sym inserted)
+
+pub record Filling (reg : PropertyPathRegistry) (s : List ℕ) (start count : ℕ) (ws os set : List ℕ) (at left : ℕ) : Type 0 where
+  pub held : Held ws os
+  pub on : (ds : List ReactiveScopeDependency) (end : ℕ) → readMany count (readPath 4 PA) s start ≡ got ds end
+      → (es : List ReactiveScopeDependency) × (readMany left (readPath 4 PA) s at ≡ got es end) × (enterPaths reg [] ds ≡ enterPaths (registryOf ws) (membersOf set) es)
+
+module _ {reg : PropertyPathRegistry} {s : List ℕ} {start count : ℕ} {ws os set : List ℕ} {at left : ℕ} (x : Filling reg s start count ws os set at left) where
+  pub filling-end : left ≤ 0 → (ds : List ReactiveScopeDependency) (end : ℕ) → readMany count (readPath 4 PA) s start ≡ got ds end
+      → enterPaths reg [] ds ≡ record { registry = registryOf ws; set = membersOf set }
+  filling-end none ds end e =
+      let rest = x .on ds end e in
+      let zero-left : left ≡ 0 = omega arith in
+      let nothing : got [] at ≡ got (rest .0) end = subst (λ n. readMany n (readPath 4 PA) s at ≡ got (rest .0) end) zero-left (rest .1) in
+      let no : [] ≡ rest .0 = cc in
+      rest .2 ∙ rw (← no) refl
+
+  module _ (some : 0 < left) (r : EnteredPath) (us ps : List ℕ) (entered : Enters (readPath 4 PA s at) (getOrCreateProperty (registryOf ws)) r us ps) where
+    -- no answer but a node says that the registry has room
+    pub filling-full : ((k : NodeId) (n : ℕ) → r ≡ path.At k n → ⊥) → (ds : List ReactiveScopeDependency) (end : ℕ) → readMany count (readPath 4 PA) s start ≡ got ds end
+        → nodeLimit < length (enterPaths reg [] ds .registry)
+    filling-full other ds end e =
+        let rest = x .on ds end e in
+        let first = many-first (readPath 4 PA) s left at some (rest .1) in
+        let d = first .0 in
+        let node = getOrCreateProperty (registryOf ws) d in
+        let longer = extends-length (paths-extend (node .registry) (insert (node .node) (membersOf set)) (first .2)) in
+        rw (rest .2, ← (first .5)) (go r refl entered (first .3) longer)
+      where
+        go : (q : EnteredPath) → r ≡ q → Enters (readPath 4 PA s at) (getOrCreateProperty (registryOf ws)) q us ps → {d : ReactiveScopeDependency} {n more : ℕ} → readPath 4 PA s at ≡ got d n
+            → length (getOrCreateProperty (registryOf ws) d .registry) ≤ more → nodeLimit < more
+        go (path.At k n) same h e l = absurd (other k n same)
+        go path.Full same h e l = let f = entered-full _ (getOrCreateProperty (registryOf ws)) us ps h e in omega arith
+        go (path.Refused q) same h e l = absurd (not-refused _ (getOrCreateProperty (registryOf ws)) q us ps h e)
+
+    module _ (k : NodeId) (n : ℕ) (same : r ≡ path.At k n) where
+      reached : (d : ReactiveScopeDependency) × (readPath 4 PA s at ≡ got d n) × Held us ps × (getOrCreateProperty (registryOf ws) d ≡ record { registry = registryOf us; node = k })
+      reached = entered-at (readPath 4 PA s at) (getOrCreateProperty (registryOf ws)) k n us ps (subst (λ q. Enters (readPath 4 PA s at) (getOrCreateProperty (registryOf ws)) q us ps) same entered)
+
+      pub node-inside : k .0 < 512
+      unfolding getOrCreateProperty
+      node-inside =
+          let p = path-proper ownMark (registryOf ws) (reached .0) (x .held .sound) .inside in
+          let l = subst (λ (y : Reached). y .node .0 < length (y .registry)) (reached .3) p in
+          let size = registry-length us in
+          let room = reached .2 .sized .room in
+          omega arith
+
+      pub filling-more : (more : List ℕ) → membersOf more ≡ insert k (membersOf set) → Filling reg s start count us ps more n (left - 1)
+      filling-more more inserted = record {
+        held = reached .2;
+        on = λ ds end e.
+            let rest = x .on ds end e in
+            let first = many-first (readPath 4 PA) s left at some (rest .1) in
+            let there : got (reached .0) n ≡ got (first .0) (first .1) = sym (reached .1) ∙ first .3 in
+            let d-same : first .0 ≡ reached .0 = cc in
+            let n-same : first .1 ≡ n = cc in (
+              first .2,
+              subst (λ m. readMany (left - 1) (readPath 4 PA) s m ≡ got (first .2) end) n-same (first .4),
+              rest .2 ∙ next-path (registryOf ws) (registryOf us) (membersOf set) (membersOf more) (rest .0) (first .2) (first .0) (reached .0) k (first .5) d-same (reached .3) inserted,
+            );
+      }

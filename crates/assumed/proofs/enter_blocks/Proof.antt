@@ -1,0 +1,59 @@
+-- The loop's invariant, `Starting`: the sets stored so far, with what the blocks that are left start with after them, are the whole. The measure is their number.
+use Prim.Native.Nat.{ℕ, _-_}
+use mathlib.Core.Path.{_≡_, refl, sym, ap, _∙_}
+use native.Mathlib.Omega.{arith}
+use denote.Ref.{now}
+use borrow.Author.Needs.{needs}
+use Rattle.assumed.proofs.Blocks.{Starting, starting, starting-end, starting-full, starting-more}
+use Rattle.assumed.proofs.enter_blocks.Statement.{statement}
+use Rattle.assumed.proofs.enter_blocks.Tie as tie
+
+abbrev Inv-loop : tie.InvT-loop
+Inv-loop s places blocks ws₀ optional₀ sets₀ b₀ ws optional sets b = Starting s blocks places ws optional sets b
+
+abbrev μ-loop : tie.MeasureT-loop
+μ-loop s places blocks ws₀ optional₀ sets₀ b₀ ws optional sets b = blocks - b
+
+loop-holds : tie.Need-loop-holds Inv-loop μ-loop
+loop-holds c = let e = c .clear .ensures in starting _ _ _ _ _ _ (e .0) (e .1) (c .before .before .before .before .pre .2)
+
+returns : tie.Need-returns Inv-loop μ-loop
+returns c =
+    let call = c .before in
+    let l = call .before .before .before .before in
+    starting-full (l .before .loop .inv) (l .loop-test .taken) (call .enter-block .result) _ _ (call .enter-block .ensures) (c .if1 .taken)
+
+set-row-requires : tie.Need-set-row-requires Inv-loop μ-loop
+set-row-requires c κs =
+    let l = c .before .before .before .before .before .before in
+    let few = l .before .before .before .before .before .before .pre .0 in
+    let below = l .loop-test .taken in
+    (omega arith, l .before .loop .inv .lent)
+
+loop-again : tie.Need-loop-again Inv-loop μ-loop
+loop-again c =
+    let i = c .before .before in
+    let call = i .before in
+    let l = call .before .before .before .before in
+    starting-more (l .before .loop .inv) (l .loop-test .taken) (call .enter-block .result) _ _ (call .enter-block .ensures) (i .if1 .left) _ (c .set-row .ensures)
+
+returns-2 : tie.Need-returns-2 Inv-loop μ-loop
+returns-2 c = starting-end (c .before .loop .inv) (c .loop-test .left)
+
+pub enter-blocks-spec : {M : Type 1} → statement M
+enter-blocks-spec =
+    tie.close
+    (tie.spec
+    Inv-loop
+    μ-loop
+    (λ c κs. search needs)
+    loop-holds
+    (λ c. search needs)
+    (λ c. search needs)
+    (λ c κs. search needs)
+    returns
+    set-row-requires
+    (λ c. search needs)
+    (λ c. search needs)
+    loop-again
+    returns-2)

@@ -1,0 +1,95 @@
+// All assumed paths of a job entered into the registry, straight from its bytes, and each block's set of them stored in its row.
+ghost use mathlib.Core.Path.{_≡_};
+ghost use Prim.Native.Nat.{_≤_};
+ghost use lib.ListN.{length};
+ghost use Rattle.rows.specs.Rows.{Lent};
+ghost use Rattle.registry.specs.Words.{registryOf, Held};
+ghost use Rattle.assumed.specs.Start.{EntersPaths, EntersBlock, EntersBlocks};
+use fields::Passed;
+use job::ReadBlockHead;
+use paths::EnteredPath;
+use rows::NodeBits;
+
+// The nodes of the paths entered, or that the registry had no room.
+pub struct EnteredSet {
+    pub set: NodeBits,
+    pub full: bool,
+}
+
+// `count` assumed paths from a place on.
+fn enter_paths(
+    s: &[u8],
+    start: usize,
+    count: u8,
+    ws: &mut [u64; 1537],
+    optional: &mut [u64; 8],
+) -> EnteredSet
+    requires { ⌜ Held (now ws) (now optional) ⌝ }
+    ensures { λ r. ⌜ EntersPaths (now (s .entry)) start count (registryOf (now (ws .entry))) r (now (ws .exit)) (now (optional .exit)) ⌝ }
+{
+    let mut set = NodeBits::empty();
+    let mut at = start;
+    let mut left = count;
+    while 0 < left {
+        let entered = paths::enter_path(s, at, job::PA, ws, optional);
+        let EnteredPath::At(node, next) = entered else {
+            return EnteredSet { set, full: true };
+        };
+        set = set.insert(node);
+        at = next;
+        left = left - 1;
+    }
+    EnteredSet { set, full: false }
+}
+
+// The assumed paths of the block at a place.
+fn enter_block(s: &[u8], at: usize, ws: &mut [u64; 1537], optional: &mut [u64; 8]) -> EnteredSet
+    requires { ⌜ Held (now ws) (now optional) ⌝ }
+    ensures { λ r. ⌜ EntersBlock (now (s .entry)) at (registryOf (now (ws .entry))) r (now (ws .exit)) (now (optional .exit)) ⌝ }
+{
+    let none = EnteredSet {
+        set: NodeBits::empty(),
+        full: true,
+    };
+    let head_field = job::block_head_at(s, at);
+    let ReadBlockHead::Value(head, ids_at) = head_field else {
+        return none;
+    };
+    let ids = job::past_ids(s, ids_at, head.predecessors);
+    let Passed::To(paths_at) = ids else {
+        return none;
+    };
+    enter_paths(s, paths_at, head.assumed, ws, optional)
+}
+
+// Whether all assumed paths were entered, or the registry had no room.
+pub enum Entered {
+    All,
+    Full,
+}
+
+// The assumed paths of all blocks, in job order, into a registry that starts with no node.
+pub fn enter_blocks(
+    s: &[u8],
+    places: &[usize; 128],
+    blocks: usize,
+    ws: &mut [u64; 1537],
+    optional: &mut [u64; 8],
+    sets: &mut [u64; 1024],
+) -> Entered
+    requires { ⌜ (blocks ≤ 128) × (length (now ws) ≡ 1537) × Lent (now sets) ⌝ }
+    ensures { λ r. ⌜ EntersBlocks (now (s .entry)) blocks (now (places .entry)) r (now (ws .exit)) (now (optional .exit)) (now (sets .exit)) ⌝ }
+{
+    registry::clear(ws, optional);
+    let mut b: usize = 0;
+    while b < blocks {
+        let at = places[b];
+        let entered = enter_block(s, at, ws, optional);
+        if entered.full {
+            return Entered::Full;
+        }
+        rows::set_row(sets, b, entered.set);
+        b += 1;
+    }
+    Entered::All
+}

@@ -1,0 +1,110 @@
+-- Rows of predecessors, one block after the other: a row that is stored leaves the rows before it and all behind the rows as they were.
+use Prim.Native.Nat.{ℕ, zero, suc, _+_, _*_, _≤_, _<_}
+use native.Mathlib.Omega.{arith}
+use native.Mathlib.Decide.{ℕ-discrete}
+use mathlib.Core.Path.{_≡_, refl, sym, ap, subst, _∙_}
+use mathlib.Core.Logic.{_⊎_, inl, inr}
+use mathlib.Core.List.{List, [], _∷_}
+use lib.ListN.{length, getD, set, length-set}
+use lib.Seq.{sets, length-sets, getD-set-same, getD-set-other}
+use lib.Dec.{eqb}
+use Rattle.model.specs.Tests.{by-cond}
+use Rattle.model.specs.ListLaws.{All}
+use Rattle.model.specs.Read.{Read, got, refused, readNumber}
+use Rattle.job.specs.Head.{readBlockHead}
+use Rattle.job.specs.Passing.{orNone, notes}
+use Rattle.job.specs.declared.BlockHead.{BlockHead}
+use Rattle.job.proofs.Bounds.{Holds, predecessors-most}
+use Rattle.job.proofs.Noting.{notes-few}
+use Rattle.graph.specs.Bytes.{degreeIn, predecessorIn}
+use Rattle.edges.specs.Rows.{placeFrom, placeIn, placesNoted, rowAt, withRow, RowsFilled}
+
+-- An element outside of a list that is stored, and one of it.
+
+pub sets-outside : (vs l : List ℕ) (i j : ℕ) → (j < i) ⊎ (i + length vs ≤ j) → getD (sets l i vs) j 0 ≡ getD l j 0
+sets-outside [] l i j h = refl
+sets-outside (v ∷ vs) l i j (inl h) = sets-outside vs (set l i v) (suc i) j (inl (omega arith)) ∙ getD-set-other l i j v 0 (λ e. omega arith)
+sets-outside (v ∷ vs) l i j (inr h) = sets-outside vs (set l i v) (suc i) j (inr (omega arith)) ∙ getD-set-other l i j v 0 (λ e. omega arith)
+
+pub sets-inside : (vs l : List ℕ) (i k : ℕ) → i + length vs ≤ length l → k < length vs → getD (sets l i vs) (i + k) 0 ≡ getD vs k 0
+sets-inside [] l i k room h = absurd (omega arith)
+sets-inside (v ∷ vs) l i zero room h =
+    let here : i + 0 ≡ i = omega arith in
+    ap (λ j. getD (sets l i (v ∷ vs)) j 0) here ∙ sets-outside vs (set l i v) (suc i) i (inl (omega arith)) ∙ getD-set-same l i v 0 (omega arith)
+sets-inside (v ∷ vs) l i (suc k) room h =
+    let there : i + suc k ≡ suc i + k = omega arith in
+    let wide = length-set l i v in
+    ap (λ j. getD (sets l i (v ∷ vs)) j 0) there ∙ sets-inside vs (set l i v) (suc i) k (omega arith) (omega arith)
+
+-- A row has at most 64 predecessors.
+
+few-of : (most : ℕ) (x : Read BlockHead) (list : BlockHead → ℕ → List ℕ) → Holds (λ (h : BlockHead). h .predecessors ≤ most) x
+    → ((a : BlockHead) (n : ℕ) → length (list a n) ≤ a .predecessors) → length (orNone x list) ≤ most
+few-of most (got a n) list h f = let l = f a n in omega arith
+few-of most (refused r) list h f = omega arith
+
+pub row-few : (s : List ℕ) (at : ℕ) (ids : List ℕ) (n : ℕ) → length (rowAt s at ids n) ≤ 64
+unfolding rowAt placesNoted
+row-few s at ids n = few-of 64 (readBlockHead s at) _ (predecessors-most s at) (λ head idsAt. notes-few (readNumber 4) s (λ _ x. placeIn ids n x) (head .predecessors) idsAt)
+
+-- Its predecessors are places below 128.
+
+place-small : (ids : List ℕ) (k n x : ℕ) → k + n ≤ 128 → placeFrom ids k n x < 128
+place-small ids k zero x l = omega arith
+place-small ids k (suc n) x l = by-cond (λ p. p < 128) (eqb (getD ids k 0) x) (λ e. omega arith) (λ e. place-small ids (suc k) n x (omega arith))
+
+notes-small : (f : ℕ → ℕ) (P : ℕ → Type 0) → ((x : ℕ) → P (f x)) → (s : List ℕ) (n at : ℕ) → All P (notes (λ _ x. f x) n (readNumber 4) s at)
+notes-small f P h s zero at = tt
+notes-small f P h s (suc n) at = go (notes-small f P h s n) (readNumber 4 s at)
+  where
+    go : ((next : ℕ) → All P (notes (λ _ x. f x) n (readNumber 4) s next)) → (x : Read ℕ) → All P (orNone x (λ a next. f a ∷ notes (λ _ x. f x) n (readNumber 4) s next))
+    go rest (got a next) = (h a, rest next)
+    go rest (refused r) = tt
+
+pub row-small : (s : List ℕ) (at : ℕ) (ids : List ℕ) (n : ℕ) → n ≤ 128 → All (λ x. x < 128) (rowAt s at ids n)
+unfolding rowAt placesNoted placeIn
+row-small s at ids n most = go (readBlockHead s at)
+  where
+    go : (x : Read BlockHead) → All (λ x. x < 128) (orNone x (λ (head : BlockHead) idsAt. notes (λ _ x. placeFrom ids 0 n x) (head .predecessors) (readNumber 4) s idsAt))
+    go (got head idsAt) = notes-small (placeFrom ids 0 n) (λ x. x < 128) (λ x. place-small ids 0 n x (omega arith)) s (head .predecessors) idsAt
+    go (refused r) = tt
+
+-- One row more.
+
+module _ (g : List ℕ) (b : ℕ) (row : List ℕ) (long : length g ≡ 10497) (below : b < 128) (few : length row ≤ 64) where
+  wide : length (sets g (b * 64) row) ≡ 10497
+  wide = length-sets g (b * 64) row ∙ long
+
+  pub with-long : length (withRow g b row) ≡ 10497
+  with-long = length-set (sets g (b * 64) row) (8192 + b) (length row) ∙ wide
+
+  pub with-degree : degreeIn (withRow g b row) b ≡ length row
+  with-degree = getD-set-same (sets g (b * 64) row) (8192 + b) (length row) 0 (let w = wide in omega arith)
+
+  pub with-predecessor : (i : ℕ) → i < length row → predecessorIn (withRow g b row) b i ≡ getD row i 0
+  with-predecessor i h =
+      getD-set-other (sets g (b * 64) row) (8192 + b) (b * 64 + i) (length row) 0 (λ e. omega arith)
+      ∙ sets-inside row g (b * 64) i (omega arith) h
+
+  pub with-other : (k : ℕ) → (k < b * 64) ⊎ (b * 64 + 64 ≤ k) → (k ≡ 8192 + b → ⊥) → getD (withRow g b row) k 0 ≡ getD g k 0
+  with-other k (inl h) n = getD-set-other (sets g (b * 64) row) (8192 + b) k (length row) 0 n ∙ sets-outside row g (b * 64) k (inl h)
+  with-other k (inr h) n = getD-set-other (sets g (b * 64) row) (8192 + b) k (length row) 0 n ∙ sets-outside row g (b * 64) k (inr (omega arith))
+
+-- The rows so far.
+
+pub no-rows : (rows : ℕ → List ℕ) (g : List ℕ) → length g ≡ 10497 → RowsFilled rows 0 g g
+no-rows rows g long = record { long = long; degree = λ b l. absurd (omega arith); predecessor = λ b i l h. absurd (omega arith); behind = λ k h. refl }
+
+pub one-row : (rows : ℕ → List ℕ) (b : ℕ) (g h k : List ℕ) → b < 128 → ((c : ℕ) → length (rows c) ≤ 64) → RowsFilled rows b g h → k ≡ withRow h b (rows b) → RowsFilled rows (b + 1) g k
+one-row rows b g h k below few x stored = subst (λ (l : List ℕ). RowsFilled rows (b + 1) g l) (sym stored) (record {
+  long = with-long h b (rows b) (x .long) below (few b);
+  degree = λ c l. elim (ℕ-discrete c b) [
+    | yes e ↦ rw e (with-degree h b (rows b) (x .long) below (few b))
+    | no n ↦ with-other h b (rows b) (x .long) below (few b) (8192 + c) (inr (omega arith)) (λ e. n (omega arith)) ∙ x .degree c (omega (arith, n))
+  ];
+  predecessor = λ c i l m. elim (ℕ-discrete c b) [
+    | yes e ↦ rw e (with-predecessor h b (rows b) (x .long) below (few b) i (subst (λ d. i < length (rows d)) e m))
+    | no n ↦ (let most = few c in let less : c < b = omega (arith, n) in with-other h b (rows b) (x .long) below (few b) (c * 64 + i) (inl (omega arith)) (λ e. omega arith) ∙ x .predecessor c i less m)
+  ];
+  behind = λ p l. with-other h b (rows b) (x .long) below (few b) p (inr (omega arith)) (λ e. omega arith) ∙ x .behind p l;
+})

@@ -1,0 +1,229 @@
+-- The graph of a job whose blocks were noted: the rows are its predecessors by place, and the order is that of ascending ids.
+use Prim.Native.Nat.{ℕ, zero, suc, _+_, _*_, _-_, _≤_, _<_}
+use native.Mathlib.Omega.{arith}
+use native.Mathlib.Nat.{zero-add}
+use native.Mathlib.Decide.{ℕ-discrete}
+use mathlib.Core.Path.{_≡_, refl, sym, ap, subst, _∙_}
+use mathlib.Core.Logic.{_⊎_, inl, inr}
+use mathlib.Core.Bool.{Bool, true, false, _&&_, _||_, cond}
+use mathlib.Core.List.{List, [], _∷_, map}
+use lib.ListN.{length, getD, set, drop, replicate}
+use lib.Seq.{getD-drop}
+use lib.Dec.{eqb, leb, ltb, leb→le, le→leb}
+use Rattle.entries.specs.declared.BlockId.{BlockId}
+use Rattle.model.specs.Lists.{select, anyOf}
+use Rattle.model.specs.ListLaws.{All, all-map, all-getD}
+use Rattle.model.specs.Tests.{decide, never, passes-test, test-passes, eqb-same, eqb-equal, eqb-apart, ltb-true, ltb-false}
+use Rattle.model.specs.Read.{Read, got, refused, readNumber, readMany, mapped}
+use Rattle.model.specs.Job.{HD, Block, Job, readBlockId, readBlock, readJob, sameBlock, containsId, idsOf}
+use Rattle.model.specs.Rounds.{placesFrom, jobOrder}
+use Rattle.model.specs.Stage.{blockAt, placeOf, predecessorsOf, insertById, sortById, byAscendingId, successorsOf}
+use Rattle.job.specs.Head.{readBlockHead}
+use Rattle.job.specs.Passing.{notes, orNone}
+use Rattle.job.specs.Kept.{BlocksAt}
+use Rattle.job.specs.declared.BlockHead.{BlockHead}
+use Rattle.job.proofs.Many.{many-all}
+use Rattle.job.proofs.Passing.{mapped-got}
+use Rattle.job.proofs.BlocksAt.{job-accepted, same-job, block-there}
+use Rattle.job.proofs.RecordParts.{BlockParts, block-parts}
+use Rattle.safety.specs.Lists.{Member, all-of-map}
+use Rattle.safety.specs.GraphLaws.{ProperBlocks, proper-blocks, place-own, place-known, known-at, same-block, predecessors-inside}
+use Rattle.edges.specs.Rows.{placeFrom, placeIn, placesNoted, rowAt, rowsAt, RowsFilled}
+use Rattle.edges.specs.Order.{insertByNumber, sortByNumber, Ordered}
+use Rattle.edges.specs.Successors.{RanksFit, AllMarked}
+use Rattle.edges.specs.Fills.{IdsAt, Holds}
+use Rattle.edges.proofs.Noting.{row-noted}
+use Rattle.edges.proofs.Filling.{row-few, row-small}
+use Rattle.edges.proofs.Ordering.{sort-all, places-below}
+use Rattle.edges.proofs.Graphs.{ranks-fit, ranked-inside, size-is, degree-is, predecessor-is, rank-is, predecessors-are, bit-below, successors-are}
+
+-- Places by the numbers noted.
+
+place-noted : (bs : List Block) (ids : List ℕ) (k : ℕ) (i : BlockId) → ((m : ℕ) → m < length bs → getD ids (k + m) 0 ≡ blockAt bs m .id .0) → Member i (idsOf bs)
+    → placeFrom ids k (length bs) (i .0) ≡ k + placeOf bs i
+place-noted (c ∷ cs) ids k i noted known =
+    let here : getD ids k 0 ≡ c .id .0 = ap (λ m. getD ids m 0) (let z : k ≡ k + 0 = omega arith in z) ∙ noted 0 (omega arith) in
+    elim (ℕ-discrete (c .id .0) (i .0)) [
+      | yes e ↦ rw (eqb-equal (getD ids k 0) (i .0) (here ∙ e), eqb-equal (c .id .0) (i .0) e) (let z : k ≡ k + 0 = omega arith in z)
+      | no n ↦
+          rw (eqb-apart (getD ids k 0) (i .0) (λ e. n (sym here ∙ e)), eqb-apart (c .id .0) (i .0) n)
+          (place-noted cs ids (suc k) i (λ m l. ap (λ m. getD ids m 0) (let z : suc k + m ≡ k + suc m = omega arith in z) ∙ noted (suc m) (omega arith)) (later known n)
+          ∙ (let z : suc k + placeOf cs i ≡ k + suc (placeOf cs i) = omega arith in z))
+    ]
+  where
+    later : Member i (idsOf (c ∷ cs)) → ¬ (c .id .0 ≡ i .0) → Member i (idsOf cs)
+    later (inl e) n = absurd (n (ap (λ (x : BlockId). x .0) e))
+    later (inr m) n = m
+
+-- Order by the numbers noted.
+
+module _ (bs : List Block) (ids : List ℕ) (noted : (k : ℕ) → k < length bs → getD ids k 0 ≡ blockAt bs k .id .0) where
+  insert-same : (k : ℕ) (js : List ℕ) → k < length bs → All (λ j. j < length bs) js → insertByNumber ids k js ≡ insertById bs k js
+  insert-same k [] l a = refl
+  insert-same k (j ∷ js) l a = rw (noted k l, noted j (a .0), insert-same k js l (a .1))
+
+  insert-inside : (k : ℕ) (js : List ℕ) → k < length bs → All (λ j. j < length bs) js → All (λ j. j < length bs) (insertById bs k js)
+  insert-inside k [] l a = (l, tt)
+  insert-inside k (j ∷ js) l a =
+      decide (ltb (blockAt bs k .id .0) (blockAt bs j .id .0)) (λ e. rw e (l, a)) (λ e. rw e (a .0, insert-inside k js l (a .1)))
+
+  sort-inside : (ks : List ℕ) → All (λ j. j < length bs) ks → All (λ j. j < length bs) (sortById bs ks)
+  sort-inside [] a = tt
+  sort-inside (k ∷ ks) a = insert-inside k (sortById bs ks) (a .0) (sort-inside ks (a .1))
+
+  sort-same : (ks : List ℕ) → All (λ j. j < length bs) ks → sortByNumber ids ks ≡ sortById bs ks
+  sort-same [] a = refl
+  sort-same (k ∷ ks) a = ap (insertByNumber ids k) (sort-same ks (a .1)) ∙ insert-same k (sortById bs ks) (a .0) (sort-inside ks (a .1))
+
+-- A list of ids read, and their places noted.
+
+notes-ids : (f : ℕ → ℕ) (s : List ℕ) (n at : ℕ) {all : List BlockId} {end : ℕ} → readMany n readBlockId s at ≡ got all end → notes (λ _ x. f x) n (readNumber 4) s at ≡ map (λ (i : BlockId). f (i .0)) all
+notes-ids f s =
+    many-all readBlockId s (λ n at all. notes (λ _ x. f x) n (readNumber 4) s at ≡ map (λ (i : BlockId). f (i .0)) all) (λ at. refl)
+    (λ n at next a rest e q. let m = mapped-got (λ i. record { 0 = i }) (readNumber 4 s at) e in rw (m .1) (first-same (m .0) a (notes (λ _ x. f x) n (readNumber 4) s next) (map (λ (i : BlockId). f (i .0)) rest) (m .2) q))
+  where
+    first-same : (x : ℕ) (a : BlockId) (l r : List ℕ) → record { 0 = x } ≡ a → l ≡ r → f x ∷ l ≡ f (a .0) ∷ r
+    first-same x a l r e q = rw q (ap (λ (i : BlockId). f (i .0) ∷ r) e)
+
+block-first : (l : List Block) (b : ℕ) (a : Block) (rest : List Block) (d : Block) → drop b l ≡ a ∷ rest → getD l b d ≡ a
+block-first l b a rest d e = let z : b ≡ b + 0 = omega arith in ap (λ k. getD l k d) z ∙ sym (getD-drop b l 0 d) ∙ ap (λ (l : List Block). getD l 0 d) e
+
+map-all : {A : Type 0} (f g : A → ℕ) (xs : List A) → All (λ x. f x ≡ g x) xs → map f xs ≡ map g xs
+map-all f g [] a = refl
+map-all f g (x ∷ xs) a = rw (a .0, map-all f g xs (a .1))
+
+any-map : {A : Type 0} (p : ℕ → Bool) (q : A → Bool) (f : A → ℕ) (xs : List A) → All (λ x. p (f x) ≡ q x) xs → anyOf p (map f xs) ≡ anyOf q xs
+any-map p q f [] a = refl
+any-map p q f (x ∷ xs) a = rw (a .0, any-map p q f xs (a .1))
+
+select-all : (p q : ℕ → Bool) (xs : List ℕ) → All (λ x. p x ≡ q x) xs → select p xs ≡ select q xs
+select-all p q [] a = refl
+select-all p q (x ∷ xs) a = rw (a .0, select-all p q xs (a .1))
+
+-- The job.
+
+module _ (s ids places : List ℕ) (n : ℕ) (j : Job) (at : BlocksAt s n places j) (noted : IdsAt ids j) where
+  abbrev bs : List Block
+  bs = j .blocks
+
+  pub proper : ProperBlocks bs
+  proper =
+      let a = job-accepted j at in
+      subst (λ (k : Job). ProperBlocks (k .blocks)) (same-job j at) (proper-blocks (a .job) (a .no-repeat) (a .no-unknown))
+
+  place-is : (i : BlockId) → Member i (idsOf bs) → placeIn ids n (i .0) ≡ placeOf bs i
+  unfolding placeIn
+  place-is i m =
+      ap (λ k. placeFrom ids 0 k (i .0)) (sym (at .count))
+      ∙ place-noted bs ids 0 i (λ k l. ap (λ k. getD ids k 0) (zero-add k) ∙ noted k l) m
+      ∙ zero-add (placeOf bs i)
+
+  pub row-is : (b : ℕ) → b < n → rowsAt s ids places n b ≡ predecessorsOf bs b
+  unfolding predecessorsOf placesNoted
+  row-is b l =
+      let t = block-there j at b l in
+      let p = block-parts s (getD places b 0) (t .2) in
+      let here : blockAt bs b ≡ t .0 = block-first bs b (t .0) (drop (suc b) bs) _ (t .3) in
+      row-noted s (getD places b 0) ids n (p .head-read)
+      ∙ notes-ids (placeIn ids n) s (p .head .predecessors) (getD places b 0 + 8) (p .predecessors-read)
+      ∙ ap (λ (c : Block). map (λ (i : BlockId). placeIn ids n (i .0)) (c .predecessors)) (sym here)
+      ∙ map-all (λ (i : BlockId). placeIn ids n (i .0)) (placeOf bs) (blockAt bs b .predecessors) (all-map (λ i. Member i (idsOf bs)) (λ i. placeIn ids n (i .0) ≡ placeOf bs i) place-is (blockAt bs b .predecessors) (known-at bs proper b))
+
+  places-inside : (k m : ℕ) → k + m ≤ length bs → All (λ i. i < length bs) (placesFrom k m)
+  unfolding placesFrom
+  places-inside k zero l = tt
+  places-inside k (suc m) l = (omega arith, places-inside (suc k) m (omega arith))
+
+  pub order-is : sortByNumber ids (placesFrom 0 n) ≡ byAscendingId bs
+  unfolding byAscendingId jobOrder
+  order-is = ap (λ m. sortByNumber ids (placesFrom 0 m)) (sym (at .count)) ∙ sort-same bs ids noted (placesFrom 0 (length bs)) (places-inside 0 (length bs) (omega arith))
+
+  -- block b is at the place of an id where it has that id
+  same-place : (b : ℕ) → b < length bs → (i : BlockId) → Member i (idsOf bs) → eqb b (placeOf bs i) ≡ sameBlock (blockAt bs b .id) i
+  same-place b l i m =
+      decide (sameBlock (blockAt bs b .id) i)
+      (λ t. eqb-equal b (placeOf bs i) (sym (place-own bs b (proper .distinct) l) ∙ ap (placeOf bs) (same-block (blockAt bs b .id) i t)) ∙ sym t)
+      (λ f. eqb-apart b (placeOf bs i) (λ e. never (rw (ap (λ k. blockAt bs k .id) e ∙ place-known bs i m .1) (eqb-same (i .0))) f) ∙ sym f)
+
+  names-same : (b c : ℕ) → b < length bs → anyOf (eqb b) (predecessorsOf bs c) ≡ containsId (blockAt bs c .predecessors) (blockAt bs b .id)
+  unfolding predecessorsOf
+  names-same b c l =
+      any-map (eqb b) (sameBlock (blockAt bs b .id)) (placeOf bs) (blockAt bs c .predecessors)
+      (all-map (λ i. Member i (idsOf bs)) (λ i. eqb b (placeOf bs i) ≡ sameBlock (blockAt bs b .id) i) (same-place b l) (blockAt bs c .predecessors) (known-at bs proper c))
+
+  pub sorted-inside : All (λ k. k < n) (byAscendingId bs)
+  unfolding byAscendingId jobOrder
+  sorted-inside = subst (λ m. All (λ k. k < m) (byAscendingId bs)) (at .count) (sort-inside bs ids noted (placesFrom 0 (length bs)) (places-inside 0 (length bs) (omega arith)))
+
+  pub successors-named : (b : ℕ) → b < length bs → select (λ c. anyOf (eqb b) (rowsAt s ids places n c)) (byAscendingId bs) ≡ successorsOf bs b
+  unfolding successorsOf
+  successors-named b l =
+      select-all (λ c. anyOf (eqb b) (rowsAt s ids places n c)) (λ c. containsId (blockAt bs c .predecessors) (blockAt bs b .id)) (byAscendingId bs)
+      (all-map (λ c. c < n) (λ c. anyOf (eqb b) (rowsAt s ids places n c) ≡ containsId (blockAt bs c .predecessors) (blockAt bs b .id))
+      (λ c h. ap (λ (r : List ℕ). anyOf (eqb b) r) (row-is c h) ∙ names-same b c l) (byAscendingId bs) sorted-inside)
+
+-- The filled bytes hold the job's graph.
+
+pub zeros-read : (n p : ℕ) → _≡_ {A = ℕ} (getD (replicate n 0) p 0) 0
+zeros-read zero p = refl
+zeros-read (suc n) zero = refl
+zeros-read (suc n) (suc p) = zeros-read n p
+
+-- the ranks that are read while successors are marked
+module _ (s ids places : List ℕ) (n : ℕ) (most : n ≤ 128) (g₀ g₁ g₂ : List ℕ)
+    (x₁ : RowsFilled (rowsAt s ids places n) n g₀ g₁) (x₂ : Ordered g₁ g₂ (128 - n) (sortByNumber ids (placesFrom 0 n))) where
+  pub graph-ranks : RanksFit g₂ n
+  graph-ranks =
+      ranks-fit (rowsAt s ids places n) n (sortByNumber ids (placesFrom 0 n)) g₀ g₁ g₂ most (λ b. row-few s (getD places b 0) ids n)
+      (λ b i. all-getD (λ x. x < 128) (rowsAt s ids places n b) i 0 (row-small s (getD places b 0) ids n most) (omega arith)) x₁ x₂
+      (sort-all (λ k. k < n) ids (placesFrom 0 n) (places-below n 0 n (omega arith)))
+
+module _ (s ids places : List ℕ) (n : ℕ) (most : n ≤ 128) (g₀ g₁ g₂ g₃ : List ℕ) (zeros : (p : ℕ) → 8448 ≤ p → getD g₀ p 0 ≡ 0)
+    (x₁ : RowsFilled (rowsAt s ids places n) n g₀ g₁) (x₂ : Ordered g₁ g₂ (128 - n) (sortByNumber ids (placesFrom 0 n))) (x₃ : AllMarked g₂ g₃ (128 - n) 128) where
+  few : (b : ℕ) → length (rowsAt s ids places n b) ≤ 64
+  few b = row-few s (getD places b 0) ids n
+
+  small : (b i : ℕ) → getD (rowsAt s ids places n b) i 0 < 128
+  small b i = all-getD (λ x. x < 128) (rowsAt s ids places n b) i 0 (row-small s (getD places b 0) ids n most) (omega arith)
+
+  inside : All (λ k. k < n) (sortByNumber ids (placesFrom 0 n))
+  inside = sort-all (λ k. k < n) ids (placesFrom 0 n) (places-below n 0 n (omega arith))
+
+  abbrev g : List ℕ
+  g = set g₃ 10496 n
+
+  pub graph-held : (j : Job) → BlocksAt s n places j → IdsAt ids j → Holds (j .blocks) g
+  graph-held j at noted =
+      let bs = j .blocks in
+      let count = at .count in
+      let size = size-is (rowsAt s ids places n) n (sortByNumber ids (placesFrom 0 n)) g₀ g₁ g₂ most few small x₁ x₂ inside g₃ zeros x₃ in
+      let degree = degree-is (rowsAt s ids places n) n (sortByNumber ids (placesFrom 0 n)) g₀ g₁ g₂ most few small x₁ x₂ inside g₃ zeros x₃ in
+      let predecessor = predecessor-is (rowsAt s ids places n) n (sortByNumber ids (placesFrom 0 n)) g₀ g₁ g₂ most few small x₁ x₂ inside g₃ zeros x₃ in
+      let rank = rank-is (rowsAt s ids places n) n (sortByNumber ids (placesFrom 0 n)) g₀ g₁ g₂ most few small x₁ x₂ inside g₃ zeros x₃ in
+      let row = row-is s ids places n j at noted in
+      record {
+        fits = record {
+          size = omega arith;
+          degree = λ b l. let f = few b in let d = degree b (omega arith) in omega arith;
+          predecessor = λ b i l h.
+              let b< : b < n = omega arith in
+              let d = degree b b< in
+              let member : All (λ c. c < n) (rowsAt s ids places n b) = subst (All (λ c. c < n)) (sym (row b b<)) (subst (λ m. All (λ c. c < m) (predecessorsOf bs b)) count (predecessors-inside bs (proper s ids places n j at noted) b)) in
+              rw (predecessor b i b< (omega arith), size) (all-below (rowsAt s ids places n b) i n member (omega arith));
+          successor = λ b r l r< e. rw size (decide (leb (128 - n) r) (λ t. rw (rank r r<) (ranked-inside (rowsAt s ids places n) n (sortByNumber ids (placesFrom 0 n)) g₀ g₁ g₂ most few small x₁ x₂ inside r (leb→le (128 - n) r (test-passes t)) r<))
+              (λ f. never e (bit-below (rowsAt s ids places n) n (sortByNumber ids (placesFrom 0 n)) g₀ g₁ g₂ most few small x₁ x₂ inside g₃ zeros x₃ b r (omega arith) (not-from (128 - n) r f))));
+        };
+        size = size ∙ sym count;
+        predecessors = λ b l. predecessors-are (rowsAt s ids places n) n (sortByNumber ids (placesFrom 0 n)) g₀ g₁ g₂ most few small x₁ x₂ inside g₃ zeros x₃ b (omega arith) ∙ row b (omega arith);
+        successors = λ b l.
+            successors-are (rowsAt s ids places n) n (sortByNumber ids (placesFrom 0 n)) g₀ g₁ g₂ most few small x₁ x₂ inside g₃ zeros x₃ b (omega arith)
+            ∙ ap (select (λ c. anyOf (eqb b) (rowsAt s ids places n c))) (order-is s ids places n j at noted)
+            ∙ successors-named s ids places n j at noted b l;
+      }
+    where
+      all-below : (l : List ℕ) (i m : ℕ) → All (λ c. c < m) l → i < length l → getD l i 0 < m
+      all-below (x ∷ l) zero m a h = a .0
+      all-below (x ∷ l) (suc i) m a h = all-below l i m (a .1) (omega arith)
+
+      not-from : (a r : ℕ) → leb a r ≡ false → r < a
+      not-from a r f = decide (ltb r a) (λ t. ltb-true r a t) (λ e. let l = ltb-false r a e in never (passes-test (le→leb a r l)) f)

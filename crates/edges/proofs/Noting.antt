@@ -1,0 +1,94 @@
+-- The places noted of predecessors: what is stored from here on with what follows is the whole.
+use Prim.Native.Nat.{ℕ, zero, suc, _+_, _*_, _-_, _≤_, _<_}
+use native.Mathlib.Omega.{arith}
+use native.Mathlib.Nat.{add-zero, zero-add}
+use mathlib.Core.Path.{_≡_, refl, sym, ap, subst, _∙_}
+use mathlib.Core.Bool.{Bool, true, false, cond}
+use mathlib.Core.List.{List, [], _∷_}
+use lib.ListN.{length, getD, set}
+use lib.Dec.{eqb}
+use lib.Seq.{sets}
+use Rattle.entries.specs.declared.Refusal.{Refusal}
+use Rattle.model.specs.Tests.{eqb-equal, eqb-apart}
+use Rattle.model.specs.Read.{got, refused, readNumber}
+use Rattle.job.specs.Passing.{notes}
+use Rattle.job.specs.Head.{readBlockHead}
+use Rattle.job.specs.declared.BlockHead.{BlockHead}
+use Rattle.job.proofs.Bounds.{held, predecessors-most}
+use Rattle.edges.specs.Rows.{placeFrom, placeIn, placesNoted, rowAt, withRow}
+
+-- The search for a place, from k on.
+
+module _ (ids : List ℕ) (n x k : ℕ) where
+  more : k < n → n - k ≡ suc (n - (k + 1))
+  more l = omega arith
+
+  pub place-here : k < n → getD ids k 0 ≡ x → placeFrom ids k (n - k) x ≡ k
+  place-here l e = ap (λ m. placeFrom ids k m x) (more l) ∙ rw (eqb-equal (getD ids k 0) x e)
+
+  pub place-later : k < n → ¬ (getD ids k 0 ≡ x) → placeFrom ids k (n - k) x ≡ placeFrom ids (k + 1) (n - (k + 1)) x
+  place-later l e =
+      let next : suc k ≡ k + 1 = omega arith in
+      ap (λ m. placeFrom ids k m x) (more l) ∙ rw (eqb-apart (getD ids k 0) x e) (ap (λ i. placeFrom ids i (n - (k + 1)) x) next)
+
+  pub place-none : n ≤ k → placeFrom ids k (n - k) x ≡ 0
+  place-none l = let none : n - k ≡ 0 = omega arith in ap (λ m. placeFrom ids k m x) none
+
+-- The places noted.
+
+module _ (s : List ℕ) (ids : List ℕ) (blocks : ℕ) where
+  module _ (count i at : ℕ) (some : i < count) where
+    again : count - i ≡ suc (count - (i + 1))
+    again = omega arith
+
+    pub noted-more : {x next : ℕ} → readNumber 4 s at ≡ got x next
+        → placesNoted s at (count - i) ids blocks ≡ placeIn ids blocks x ∷ placesNoted s next (count - (i + 1)) ids blocks
+    unfolding placesNoted
+    noted-more e = rw (again, e)
+
+    pub noted-stop : {r : Refusal} → readNumber 4 s at ≡ refused r → placesNoted s at (count - i) ids blocks ≡ []
+    unfolding placesNoted
+    noted-stop e = rw (again, e)
+
+  pub noted-end : (count i at : ℕ) → count ≤ i → placesNoted s at (count - i) ids blocks ≡ []
+  unfolding placesNoted
+  noted-end count i at l = let none : count - i ≡ 0 = omega arith in rw none
+
+-- A list that is left, stored from a place on.
+pub record Storing (whole : List ℕ) (from : ℕ) (before now′ left : List ℕ) (i : ℕ) : Type 0 where
+  pub count : i + length left ≡ length whole
+  pub same : sets now′ (from + i) left ≡ sets before from whole
+
+pub storing : (whole : List ℕ) (from : ℕ) (g left : List ℕ) → left ≡ whole → Storing whole from g g left 0
+storing whole from g left e = record { count = zero-add (length left) ∙ ap length e; same = ap (λ k. sets g k left) (add-zero from) ∙ ap (λ (l : List ℕ). sets g from l) e }
+
+module _ {whole : List ℕ} {from : ℕ} {before now′ left : List ℕ} {i : ℕ} (x : Storing whole from before now′ left i) where
+  pub storing-end : left ≡ [] → (i ≡ length whole) × (now′ ≡ sets before from whole)
+  storing-end e =
+      (sym (add-zero i) ∙ ap (λ (l : List ℕ). i + length l) (sym e) ∙ x .count, ap (λ (l : List ℕ). sets now′ (from + i) l) (sym e) ∙ x .same)
+
+  pub storing-more : {y z : ℕ} {rest : List ℕ} → left ≡ y ∷ rest → z ≡ y → Storing whole from before (set now′ (from + i) z) rest (i + 1)
+  storing-more {y} {z} {rest} e v =
+      let size = ap length e in
+      let next : suc (from + i) ≡ from + (i + 1) = omega arith in
+      record {
+        count = let c = x .count in omega (arith, size);
+        same = ap (λ k. sets (set now′ (from + i) z) k rest) (sym next) ∙ ap (λ z. sets (set now′ (from + i) z) (suc (from + i)) rest) v ∙ ap (λ (l : List ℕ). sets now′ (from + i) l) (sym e) ∙ x .same;
+      }
+
+-- The row of the block whose record stands at a place.
+
+pub row-none : (s : List ℕ) (at : ℕ) (ids : List ℕ) (n : ℕ) {r : Refusal} → readBlockHead s at ≡ refused r → rowAt s at ids n ≡ []
+unfolding rowAt
+row-none s at ids n e = rw e
+
+pub row-noted : (s : List ℕ) (at : ℕ) (ids : List ℕ) (n : ℕ) {head : BlockHead} {idsAt : ℕ} → readBlockHead s at ≡ got head idsAt → rowAt s at ids n ≡ placesNoted s idsAt (head .predecessors) ids n
+unfolding rowAt
+row-noted s at ids n e = rw e
+
+pub noted-few : (s : List ℕ) (at : ℕ) {head : BlockHead} {idsAt : ℕ} → readBlockHead s at ≡ got head idsAt → head .predecessors ≤ 64
+noted-few s at e = held (λ (h : BlockHead). h .predecessors ≤ 64) e (predecessors-most s at)
+
+pub row-stored : (g h : List ℕ) (b : ℕ) (row noted : List ℕ) (n : ℕ) → row ≡ noted → n ≡ length noted → h ≡ sets g (b * 64) noted → set h (8192 + b) n ≡ withRow g b row
+row-stored g h b row noted n same count kept =
+    ap (λ (l : List ℕ). set l (8192 + b) n) kept ∙ ap (λ m. set (sets g (b * 64) noted) (8192 + b) m) count ∙ ap (λ (l : List ℕ). withRow g b l) (sym same)

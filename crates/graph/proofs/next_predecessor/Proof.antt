@@ -1,0 +1,39 @@
+-- `next_predecessor` meets its contract: below the block's degree the byte of that number is the next, and from the degree on there is none.
+use Prim.Native.Nat.{_+_, _*_, _<_}
+use native.Mathlib.Omega.{arith}
+use borrow.Author.Needs.{needs}
+use Rattle.graph.proofs.Neighbours.{no-predecessor, predecessor-byte, predecessor-next}
+use Rattle.graph.proofs.next_predecessor.Statement.{statement}
+use Rattle.graph.proofs.next_predecessor.Tie as tie
+
+byte : (c : tie.Then1) → c .before .before .before .args .b * 64 + c .before .before .before .args .from < 8192
+byte c =
+    let s = c .before .before .before in
+    predecessor-byte (s .pre .0) (s .pre .1) (s .args .from) _ (c .before .wide .ensures) (c .if1 .taken)
+
+returns : tie.Need-returns
+returns c =
+    let t = c .before .before in
+    let s = t .before .before .before in
+    predecessor-next (s .pre .0) (s .pre .1) (s .args .from) _ _ (t .before .wide .ensures) (t .if1 .taken) (c .wide2 .ensures)
+
+returns-2 : tie.Need-returns-2
+returns-2 c =
+    let s = c .before .before .before in
+    let d = c .before .wide .ensures in
+    no-predecessor (s .args .graph .now) (s .args .b) (s .args .from) (omega arith)
+
+pub next-predecessor-spec : {M : Type 1} → statement M
+next-predecessor-spec =
+    tie.close
+    (tie.spec
+    (λ c. search needs)
+    (λ c. search needs)
+    (λ c κs. search needs)
+    (λ c. search needs)
+    (λ c. omega (arith, byte c))
+    (λ c. omega (arith, byte c))
+    (λ c κs. search needs)
+    (λ c. omega (arith, byte (c .before .before)))
+    returns
+    returns-2)

@@ -1,0 +1,82 @@
+// The graph of a job in lent bytes, read neighbour by neighbour. Byte b * 64 + i is the place of predecessor i of block b, byte 8192 + b how many it
+// has, byte 8320 + r the place of the block of rank r by ascending id. Of the 16 bytes from 8448 + b * 16 on, bit r % 8 of byte r / 8 says that the
+// block of rank r is a successor of block b. Byte 10496 is how many blocks there are.
+ghost use mathlib.Core.Path.{_≡_};
+ghost use mathlib.Core.Bool.{true, false};
+ghost use Prim.Native.Nat.{_<_};
+ghost use Rattle.graph.specs.Bytes.{sizeIn, GraphFits, Finds, Lowest};
+
+// The next neighbour of a block, and from where on the one after it is looked for.
+pub enum Near {
+    At(usize, usize),
+    Nothing,
+}
+
+// A byte as a number by which places are counted.
+pub fn wide(x: u8) -> usize
+    ensures { λ r. ⌜ r ≡ x ⌝ }
+{
+    x as usize
+}
+
+pub fn size(graph: &[u8; 10497]) -> usize
+    ensures { λ r. ⌜ r ≡ sizeIn (now (graph .entry)) ⌝ }
+{
+    wide(graph[10496])
+}
+
+fn lowest_bit(w: u8, from: usize) -> usize
+    requires { ⌜ from < 8 ⌝ }
+    ensures { λ r. ⌜ Lowest w from r ⌝ }
+{
+    let left = w >> from;
+    if left == 0 {
+        return 8;
+    }
+    let passed = u8::trailing_zeros(left) as usize;
+    from + passed
+}
+
+fn next_predecessor(graph: &[u8; 10497], b: usize, from: usize) -> Near
+    requires { ⌜ GraphFits (now graph) × (b < sizeIn (now graph)) ⌝ }
+    ensures { λ r. ⌜ Finds (now (graph .entry)) false b from r ⌝ }
+{
+    let degree = wide(graph[8192 + b]);
+    if from < degree {
+        let k = wide(graph[b * 64 + from]);
+        Near::At(k, from + 1)
+    } else {
+        Near::Nothing
+    }
+}
+
+// A byte with no bit left is passed in one test.
+fn next_successor(graph: &[u8; 10497], b: usize, from: usize) -> Near
+    requires { ⌜ GraphFits (now graph) × (b < sizeIn (now graph)) ⌝ }
+    ensures { λ r. ⌜ Finds (now (graph .entry)) true b from r ⌝ }
+{
+    let mut r = from;
+    while r < 128 {
+        let at = r / 8;
+        let bit = lowest_bit(graph[8448 + b * 16 + at], r % 8);
+        let rank = at * 8 + bit;
+        if bit < 8 {
+            let k = wide(graph[8320 + rank]);
+            return Near::At(k, rank + 1);
+        }
+        r = rank;
+    }
+    Near::Nothing
+}
+
+// Forward the predecessors in job order, backward the successors by ascending id.
+pub fn next_near(graph: &[u8; 10497], backward: bool, b: usize, from: usize) -> Near
+    requires { ⌜ GraphFits (now graph) × (b < sizeIn (now graph)) ⌝ }
+    ensures { λ r. ⌜ Finds (now (graph .entry)) backward b from r ⌝ }
+{
+    if backward {
+        next_successor(graph, b, from)
+    } else {
+        next_predecessor(graph, b, from)
+    }
+}

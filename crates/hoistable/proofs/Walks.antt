@@ -1,0 +1,63 @@
+-- A candidate's walk by the list of its levels is its walk down the hoistable tree; and what a caller reads of the list's number.
+use Prim.Native.Nat.{ℕ, zero, suc, _/_, _%_, _^_}
+use native.Mathlib.Omega.{arith}
+use native.Mathlib.Nat.{pow-succ', div-one, zero-div, div-div-eq-div-mul}
+use mathlib.Core.Path.{_≡_, refl, sym, ap, _∙_}
+use mathlib.Core.Bool.{Bool, true, false, _||_, cond}
+use mathlib.Core.List.{List, [], _∷_, map}
+use mathlib.Core.Option.{Option}
+use lib.ListN.{length, getD}
+use lib.Dec.{eqb}
+use Rattle.entries.specs.declared.DependencyPathEntry.{DependencyPathEntry}
+use Rattle.entries.specs.Path.{ReactiveScopeDependency}
+use Rattle.model.specs.Sets.{NodeSet}
+use Rattle.model.specs.Registry.{PropertyPathRegistry, fullPathOf}
+use Rattle.model.specs.Forest.{identifierKey, propertyKey, Found, findKey, childByKey}
+use Rattle.model.specs.Tree.{HoistablePosition, hoistableKey, hoistableTree, atNonNull, DependencyPosition, ended, stepTo, stepAccess, walkEntries, rootPosition, walkCandidate}
+use Rattle.hoistable.specs.Levels.{levelsOf, nonNullLevels, firstLevel, laterLevels, walkBy, numberOf}
+
+pub walk-by : (h : Option (Found HoistablePosition)) (p : DependencyPosition) (es : List DependencyPathEntry) → walkEntries h p es ≡ walkBy (levelsOf h es) p es
+unfolding walkEntries walkBy levelsOf
+walk-by h p [] = refl
+walk-by h p (e ∷ es) =
+    ap (λ rest. cond (atNonNull h || e .optional) (p ∷ rest) (ended p ∷ []))
+    (walk-by (childByKey hoistableKey h (propertyKey (e .property))) (stepTo e (stepAccess (atNonNull h))) es)
+
+pub levels-length : (h : Option (Found HoistablePosition)) (es : List DependencyPathEntry) → length (levelsOf h es) ≡ suc (length es)
+unfolding levelsOf
+levels-length h [] = refl
+levels-length h (e ∷ es) = ap suc (levels-length (childByKey hoistableKey h (propertyKey (e .property))) es)
+
+-- the walk of a whole candidate
+pub walk-candidate : (reg : PropertyPathRegistry) (set : NodeSet) (c : ReactiveScopeDependency)
+    → walkCandidate (hoistableTree (map (fullPathOf reg) set)) c ≡ walkBy (nonNullLevels reg set (c .identifier) (c .path)) (rootPosition c) (c .path)
+unfolding walkCandidate nonNullLevels
+walk-candidate reg set c = walk-by (findKey hoistableKey (hoistableTree (map (fullPathOf reg) set)) (identifierKey (c .identifier))) (rootPosition c) (c .path)
+
+-- The lowest bit of a list's number is the first element, and half of it is the number of the others.
+
+pub lowest-bit : (b : Bool) (bs : List Bool) → numberOf (b ∷ bs) % 2 ≡ cond b 1 0
+unfolding numberOf
+lowest-bit true bs = omega arith
+lowest-bit false bs = omega arith
+
+pub number-first : (bs : List Bool) → eqb (numberOf bs % 2) 1 ≡ firstLevel bs
+unfolding numberOf
+number-first [] = refl
+number-first (true ∷ bs) = rw (lowest-bit true bs)
+number-first (false ∷ bs) = rw (lowest-bit false bs)
+
+pub number-later : (bs : List Bool) → numberOf bs / 2 ≡ numberOf (laterLevels bs)
+unfolding numberOf
+number-later [] = refl
+number-later (true ∷ bs) = omega arith
+number-later (false ∷ bs) = omega arith
+
+-- bit j of the number is element j
+pub number-bit : (bs : List Bool) (j : ℕ) → eqb (numberOf bs / 2 ^ j % 2) 1 ≡ getD bs j false
+unfolding numberOf
+number-bit [] j = rw (zero-div (2 ^ j))
+number-bit (b ∷ bs) zero = rw (div-one (numberOf (b ∷ bs))) (number-first (b ∷ bs))
+number-bit (b ∷ bs) (suc j) =
+    ap (λ n. eqb (n % 2) 1) (ap (λ n. numberOf (b ∷ bs) / n) (pow-succ' 2 j) ∙ sym (div-div-eq-div-mul (numberOf (b ∷ bs)) 2 (2 ^ j)) ∙ ap (λ n. n / 2 ^ j) (number-later (b ∷ bs)))
+    ∙ number-bit bs j

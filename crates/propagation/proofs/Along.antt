@@ -1,0 +1,97 @@
+-- The laws of the visits here, and loops that visit one block after another.
+use Prim.Native.Nat.{ℕ, _≤_, _<_}
+use native.Mathlib.Nat.{le-refl, le-trans, lt-of-lt-of-le}
+use mathlib.Core.Path.{_≡_, sym, ap, subst, _∙_}
+use mathlib.Core.Bool.{Bool, true, false}
+use mathlib.Core.List.{List, [], _∷_}
+use lib.ListN.{length}
+use Rattle.model.specs.Registry.{nodeLimit}
+use Rattle.model.specs.RegistryLaws.{extends-length}
+use Rattle.model.specs.Visit.{TraversalState, Visited, unmarkedIn, marked, enter, leave, each}
+use Rattle.model.specs.VisitLaws.{Preorder, each-does, visit-does, visit-marks, visit-recurs}
+use Rattle.model.specs.Propagation.{Work, doneNeighbours, join}
+use Rattle.model.specs.PropagationLaws.{join-extends}
+use Rattle.graph.specs.Bytes.{sizeIn, neighbours}
+use Rattle.propagation.specs.declared.Progress.{Progress}
+use Rattle.propagation.specs.declared.Progress.the-variants.{Changed, Full}
+use Rattle.propagation.specs.Joins.{visitedOf, joinIn, visitIn, Stands, Holds, HoldsVisited, Joins, Visits}
+
+-- No step takes a node away.
+
+abbrev pub Adds : Work → Work → Type 0
+Adds u w = length (u .registry) ≤ length (w .registry)
+
+pub adds-order : Preorder Adds
+adds-order = record { none = λ w. le-refl _; after = λ u v w a b. le-trans a b }
+
+-- The laws of `visit`.
+
+module _ (g : List ℕ) (backward : Bool) where
+  pub join-adds : (b : ℕ) (ms : List TraversalState) (w : Work) → Adds w (joinIn g backward b ms w)
+  unfolding joinIn join
+  join-adds b ms w = extends-length (join-extends (doneNeighbours ms (neighbours g backward b)) b w)
+
+  visit-adds : (b : ℕ) (v : Visited Work) → Adds (v .work) (visitIn g backward b v .work)
+  unfolding visitIn
+  visit-adds = visit-does Adds adds-order (neighbours g backward) (joinIn g backward) join-adds
+
+  pub visits-add : (bs : List ℕ) (v : Visited Work) → Adds (v .work) (each (visitIn g backward) bs v .work)
+  visits-add = each-does Adds adds-order (visitIn g backward) visit-adds
+
+  pub visit-fewer : (b : ℕ) (v : Visited Work) → unmarkedIn (visitIn g backward b v .marks) ≤ unmarkedIn (v .marks)
+  unfolding visitIn
+  visit-fewer = visit-marks (neighbours g backward) (joinIn g backward)
+
+  pub visit-marked : (b : ℕ) (v : Visited Work) → marked b v ≡ true → visitIn g backward b v ≡ v
+  unfolding visitIn
+  visit-marked b v = visit-recurs (neighbours g backward) (joinIn g backward) b v .0
+
+  pub visit-unmarked : (b : ℕ) (v : Visited Work) → marked b v ≡ false
+      → visitIn g backward b v ≡ leave (joinIn g backward) b (each (visitIn g backward) (neighbours g backward b) (enter b v))
+  unfolding visitIn
+  visit-unmarked b v = visit-recurs (neighbours g backward) (joinIn g backward) b v .1
+
+-- An answer by its case.
+
+module _ (want : Visited Work) (n : ℕ) (r : Progress) (marks sets ws os : List ℕ) (h : Visits want n r marks sets ws os) where
+  pub visited-to : (c : Bool) → r ≡ Changed c → HoldsVisited want n c marks sets ws os
+  visited-to c e = subst (λ a. Visits want n a marks sets ws os) e h
+
+  visited-full : r ≡ Full → nodeLimit < length (want .work .registry)
+  visited-full e = subst (λ a. Visits want n a marks sets ws os) e h
+
+module _ (want : Work) (n : ℕ) (r : Progress) (sets ws os : List ℕ) (h : Joins want n r sets ws os) where
+  pub joined-to : (c : Bool) → r ≡ Changed c → Holds want n c sets ws os
+  joined-to c e = subst (λ a. Joins want n a sets ws os) e h
+
+  pub joined-full : r ≡ Full → nodeLimit < length (want .registry)
+  joined-full e = subst (λ a. Joins want n a sets ws os) e h
+
+-- A loop that visits blocks: the visits of the blocks of `order`, those still to come, lead from what the arrays hold to `end`.
+pub record Along (g : List ℕ) (backward : Bool) (order : List ℕ) (end : Visited Work) (marks sets ws os : List ℕ) (c : Bool) : Type 0 where
+  pub long : length marks ≡ 128
+  pub stands : Stands (sizeIn g) sets ws os
+  pub rest : each (visitIn g backward) order (visitedOf (sizeIn g) marks sets ws c) ≡ end
+
+module _ {g : List ℕ} {backward : Bool} {end : Visited Work} {marks sets ws os : List ℕ} {c : Bool} where
+  -- the same with the blocks to come in another form
+  pub along-by : {order order′ : List ℕ} → order ≡ order′ → Along g backward order end marks sets ws os c → Along g backward order′ end marks sets ws os c
+  along-by e a = subst (λ (bs : List ℕ). Along g backward bs end marks sets ws os c) e a
+
+  pub along-end : Along g backward [] end marks sets ws os c → visitedOf (sizeIn g) marks sets ws c ≡ end
+  unfolding each
+  along-end a = a .rest
+
+  module _ {b : ℕ} {order : List ℕ} (a : Along g backward (b ∷ order) end marks sets ws os c) where
+    module _ (r : Progress) (marks′ sets′ ws′ os′ : List ℕ) (h : Visits (visitIn g backward b (visitedOf (sizeIn g) marks sets ws c)) (sizeIn g) r marks′ sets′ ws′ os′) where
+      pub along-more : (c′ : Bool) → r ≡ Changed c′ → Along g backward order end marks′ sets′ ws′ os′ c′
+      unfolding each
+      along-more c′ e =
+          let to = visited-to _ _ r marks′ sets′ ws′ os′ h c′ e in
+          record { long = to .long; stands = to .stands; rest = ap (each (visitIn g backward) order) (sym (to .same)) ∙ a .rest }
+
+      pub along-full : r ≡ Full → nodeLimit < length (end .work .registry)
+      unfolding each
+      along-full e =
+          subst (λ (v : Visited Work). nodeLimit < length (v .work .registry)) (a .rest)
+          (lt-of-lt-of-le (visited-full _ _ r marks′ sets′ ws′ os′ h e) (visits-add g backward order (visitIn g backward b (visitedOf (sizeIn g) marks sets ws c))))

@@ -1,0 +1,73 @@
+-- The marks that the bytes hold: read, stored and cleared.
+use Prim.Native.Nat.{ℕ, zero, suc, _≤_, _<_}
+use native.Mathlib.Omega.{arith}
+use mathlib.Core.Path.{_≡_, refl, ap, _∙_}
+use mathlib.Core.Bool.{true, false}
+use mathlib.Core.List.{List, [], _∷_, map}
+use lib.ListN.{length, getD, set, take, replicate, List·getD-map}
+use lib.Seq.{take-set-lt, getD-take}
+use Rattle.model.specs.Visit.{TraversalState, Unmarked, Done, isMarked, isDone}
+use Rattle.propagation.specs.Joins.{markOf, marksOf}
+
+map-set : (f : ℕ → TraversalState) (l : List ℕ) (i v : ℕ) → map f (set l i v) ≡ set (map f l) i (f v)
+map-set f [] i v = refl
+map-set f (x ∷ l) zero v = refl
+map-set f (x ∷ l) (suc i) v = ap (λ (r : List TraversalState). f x ∷ r) (map-set f l i v)
+
+getD-any : (l : List ℕ) (i d e : ℕ) → i < length l → getD l i d ≡ getD l i e
+getD-any [] i d e h = omega arith
+getD-any (x ∷ l) zero d e h = refl
+getD-any (x ∷ l) (suc i) d e h = getD-any l i d e (omega arith)
+
+take-replicate : {A : Type 0} (n m : ℕ) (a : A) → n ≤ m → take n (replicate m a) ≡ replicate n a
+take-replicate zero m a h = refl
+take-replicate (suc n) zero a h = absurd (omega arith)
+take-replicate {A} (suc n) (suc m) a h = ap (λ (l : List A). a ∷ l) (take-replicate n m a (omega arith))
+
+map-replicate : (n : ℕ) → map markOf (replicate n 0) ≡ replicate n Unmarked
+map-replicate zero = refl
+map-replicate (suc n) = ap (λ (l : List TraversalState). Unmarked ∷ l) (map-replicate n)
+
+pub marks-cleared : (n : ℕ) → n ≤ 128 → marksOf n (replicate 128 0) ≡ replicate n Unmarked
+unfolding marksOf
+marks-cleared n h = ap (map markOf) (take-replicate n 128 0 h) ∙ map-replicate n
+
+module _ (n : ℕ) (marks : List ℕ) (b : ℕ) (inside : b < n) where
+  pub mark-set : (v : ℕ) → marksOf n (set marks b v) ≡ set (marksOf n marks) b (markOf v)
+  unfolding marksOf
+  mark-set v = ap (map markOf) (take-set-lt n marks b v inside) ∙ map-set markOf (take n marks) b v
+
+  mark-at : b < length marks → getD (marksOf n marks) b Done ≡ markOf (getD marks b 0)
+  unfolding marksOf
+  mark-at room = List·getD-map markOf (take n marks) b 2 ∙ ap markOf (getD-take n marks b 2 inside ∙ getD-any marks b 2 0 room)
+
+  pub zero-unmarked : b < length marks → getD marks b 0 ≡ 0 → isMarked (getD (marksOf n marks) b Done) ≡ false
+  zero-unmarked room e = ap isMarked (mark-at room ∙ ap markOf e)
+
+  pub more-marked : b < length marks → (getD marks b 0 ≡ 0 → ⊥) → isMarked (getD (marksOf n marks) b Done) ≡ true
+  more-marked room h = ap isMarked (mark-at room) ∙ above (getD marks b 0) h
+    where
+      above : (m : ℕ) → (m ≡ 0 → ⊥) → isMarked (markOf m) ≡ true
+      above zero d = absurd (d refl)
+      above (suc zero) d = refl
+      above (suc (suc m)) d = refl
+
+  done-at : isDone (getD (marksOf n marks) b Unmarked) ≡ isDone (markOf (getD marks b 0))
+  unfolding marksOf
+  done-at = ap isDone (List·getD-map markOf (take n marks) b 0 ∙ ap markOf (getD-take n marks b 0 inside))
+
+  pub below-done : getD marks b 0 < 2 → isDone (getD (marksOf n marks) b Unmarked) ≡ false
+  below-done h = done-at ∙ low (getD marks b 0) h
+    where
+      low : (m : ℕ) → m < 2 → isDone (markOf m) ≡ false
+      low zero l = refl
+      low (suc zero) l = refl
+      low (suc (suc m)) l = absurd (omega arith)
+
+  pub is-done : 2 ≤ getD marks b 0 → isDone (getD (marksOf n marks) b Unmarked) ≡ true
+  is-done h = done-at ∙ high (getD marks b 0) h
+    where
+      high : (m : ℕ) → 2 ≤ m → isDone (markOf m) ≡ true
+      high zero l = absurd (omega arith)
+      high (suc zero) l = absurd (omega arith)
+      high (suc (suc m)) l = refl

@@ -1,0 +1,68 @@
+-- `propagate_non_null` meets its contract. The loop's invariant, `Rounding`: the rounds still allowed lead to the definition's end.
+use Prim.Native.Nat.{_-_}
+use native.Mathlib.Omega.{arith}
+use borrow.Author.Tests.{not-true, not-false}
+use borrow.Author.Needs.{needs}
+use Rattle.model.specs.Propagation.{doneNeighbours, propagateNonNull}
+use Rattle.rows.specs.Rows.{rowsOf}
+use Rattle.registry.specs.Words.{registryOf}
+use Rattle.graph.specs.Bytes.{sizeIn, graphIn}
+use Rattle.propagation.proofs.Rounding.{Rounding, rounds-start, rounds-over, rounds-full, rounds-more, rounds-settled}
+use Rattle.propagation.proofs.propagate_non_null.Statement.{statement}
+use Rattle.propagation.proofs.propagate_non_null.Tie as tie
+
+abbrev Inv-loop : tie.InvT-loop
+Inv-loop graph sets₀ ws₀ optional₀ marks₀ rounds₀ sets ws optional marks rounds =
+    Rounding graph (propagateNonNull doneNeighbours (graphIn graph) (registryOf ws₀) (rowsOf sets₀ (sizeIn graph))) sets ws optional rounds
+
+abbrev μ-loop : tie.MeasureT-loop
+μ-loop graph sets₀ ws₀ optional₀ marks₀ rounds₀ sets ws optional marks rounds = 100 - rounds
+
+abbrev to-round : tie.After-round-arg3 Inv-loop μ-loop → tie.In-loop Inv-loop μ-loop
+to-round a = a .before .before .before .before
+
+loop-holds : tie.Need-loop-holds Inv-loop μ-loop
+loop-holds c = let a = c .args in rounds-start (a .graph .now) (a .sets .now) (a .ws .now) (a .optional .now) (c .pre .stands)
+
+round-requires : tie.Need-round-requires Inv-loop μ-loop
+round-requires c κs = let l = to-round c .before in record { fits = l .before .pre .fits; stands = l .loop .inv .stands }
+
+returns : tie.Need-returns Inv-loop μ-loop
+returns c =
+    let r = c .before .before in
+    let i = to-round (r .before) in
+    rounds-full (i .before .loop .inv) (omega arith) (r .round .result) _ _ _ (r .round .ensures) (c .enum-told .given .1)
+
+returns-2 : tie.Need-returns-2 Inv-loop μ-loop
+returns-2 c =
+    let k = c .before .before in
+    let r = k .before .before in
+    let i = to-round (r .before) in
+    rounds-settled (i .before .loop .inv) (omega arith) (r .round .result) _ _ _ (r .round .ensures) _ (k .changed .given .1) (not-true _ (c .if1 .taken))
+
+loop-again : tie.Need-loop-again Inv-loop μ-loop
+loop-again c =
+    let k = c .before .before in
+    let r = k .before .before in
+    let i = to-round (r .before) in
+    rounds-more (i .before .loop .inv) (omega arith) (r .round .result) _ _ _ (r .round .ensures) _ (k .changed .given .1) (not-false _ (c .if1 .left))
+
+returns-3 : tie.Need-returns-3 Inv-loop μ-loop
+returns-3 c = rounds-over (c .before .loop .inv) (omega arith)
+
+pub propagate-non-null-spec : {M : Type 1} → statement M
+propagate-non-null-spec =
+    tie.close
+    (tie.spec
+    Inv-loop
+    μ-loop
+    loop-holds
+    round-requires
+    (λ c. search needs)
+    (λ c. search needs)
+    returns
+    (λ c. search needs)
+    returns-2
+    (λ c. search needs)
+    loop-again
+    returns-3)

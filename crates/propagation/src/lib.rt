@@ -1,0 +1,287 @@
+// `propagate_non_null`: rounds of a forward and a backward walk over the blocks, until one changes nothing. Mark 0 is an unmarked block, 1 an Active
+// one, 2 a Done one.
+ghost use mathlib.Core.Path.{_≡_};
+ghost use mathlib.Core.Bool.{true, false};
+ghost use mathlib.Core.List.{[]};
+ghost use Prim.Native.Nat.{_<_};
+ghost use lib.ListN.{length};
+ghost use Rattle.model.specs.Visit.{leave};
+ghost use Rattle.model.specs.Propagation.{doneNeighbours, intersectionOf, round, propagateNonNull};
+ghost use Rattle.rows.specs.Members.{membersOf};
+ghost use Rattle.rows.specs.Rows.{rowsOf};
+ghost use Rattle.registry.specs.Words.{registryOf};
+ghost use Rattle.graph.specs.Bytes.{sizeIn, neighbours, GraphFits, graphIn};
+ghost use Rattle.propagation.specs.Joins.{marksOf, workOf, visitedOf, joinIn, visitIn, doneSets, intersectionWith, Intersects, Ready, Joins, Visits};
+ghost use Rattle.propagation.specs.Propagates.{inOrder, walkIn, Propagates};
+use graph::Near;
+use rows::NodeBits;
+
+// The intersection of some sets, where there are any.
+struct Intersection {
+    any: bool,
+    set: NodeBits,
+}
+
+// Whether a set has changed since the round's start; or the registry has no room.
+enum Progress {
+    Changed(bool),
+    Full,
+}
+
+// How many rounds were run, and whether the last one changed nothing.
+pub struct Run {
+    pub rounds: usize,
+    pub settled: bool,
+}
+
+// The rounds that were run; or the registry has no room.
+pub enum Propagated {
+    Ran(Run),
+    Full,
+}
+
+impl Intersection {
+    fn of_none() -> Intersection
+        ensures { λ r. ⌜ r .any ≡ false ⌝ }
+    {
+        Intersection {
+            any: false,
+            set: NodeBits::empty(),
+        }
+    }
+
+    // The empty set where there are none, so that nothing joins.
+    fn or_empty(self) -> NodeBits
+        ensures { λ r. ⌜ membersOf (r .words) ≡ intersectionWith self [] ⌝ }
+    {
+        if self.any {
+            self.set
+        } else {
+            NodeBits::empty()
+        }
+    }
+}
+
+// The intersection with the set of neighbour k as well, where it is Done.
+fn with_neighbour(
+    marks: &[u8; 128],
+    sets: &[u64; 1024],
+    k: usize,
+    before: Intersection,
+) -> Intersection
+    requires { ⌜ k < 128 ⌝ }
+    ensures { λ r. ⌜ Intersects (now (marks .entry)) (now (sets .entry)) k before r ⌝ }
+{
+    if marks[k] < 2 {
+        return before;
+    }
+    let s = rows::row(sets, k);
+    if before.any {
+        let t = before.set;
+        Intersection {
+            any: true,
+            set: t.intersection(s),
+        }
+    } else {
+        Intersection { any: true, set: s }
+    }
+}
+
+// The intersection of the sets of a block's Done neighbours.
+fn intersection_of_done(
+    graph: &[u8; 10497],
+    backward: bool,
+    b: usize,
+    marks: &[u8; 128],
+    sets: &[u64; 1024],
+) -> NodeBits
+    requires { ⌜ GraphFits (now graph) × (b < sizeIn (now graph)) ⌝ }
+    ensures { λ r. ⌜ membersOf (r .words) ≡ intersectionOf (doneSets (sizeIn (now (graph .entry))) (now (marks .entry)) (now (sets .entry)) (neighbours (now (graph .entry)) backward b)) ⌝ }
+{
+    let mut found = Intersection::of_none();
+    let mut from = 0;
+    loop {
+        let Near::At(k, next) = graph::next_near(graph, backward, b, from) else {
+            return found.or_empty();
+        };
+        found = with_neighbour(marks, sets, k, found);
+        from = next;
+    }
+}
+
+// The block's set is joined with that intersection and reduced.
+fn join(
+    graph: &[u8; 10497],
+    backward: bool,
+    b: usize,
+    marks: &[u8; 128],
+    sets: &mut [u64; 1024],
+    ws: &mut [u64; 1537],
+    optional: &mut [u64; 8],
+    changed: bool,
+) -> Progress
+    requires { ⌜ Ready (now graph) (now sets) (now ws) (now optional) × (b < sizeIn (now graph)) ⌝ }
+    ensures { λ r. ⌜ (let n = sizeIn (now (graph .entry)) in
+        Joins (joinIn (now (graph .entry)) backward b (marksOf n (now (marks .entry))) (workOf n (now (sets .entry)) (now (ws .entry)) changed))
+        n r (now (sets .exit)) (now (ws .exit)) (now (optional .exit))) ⌝ }
+{
+    let own = rows::row(sets, b);
+    let found = intersection_of_done(graph, backward, b, marks, sets);
+    let all = own.union(found);
+    let r = reduction::reduce_maybe_optional_chains(ws, optional, all);
+    if r.full {
+        return Progress::Full;
+    }
+    let set = r.set;
+    let same = own.same_set(set);
+    rows::set_row(sets, b, set);
+    Progress::Changed(changed | !same)
+}
+
+// A block's neighbours are visited: it joins, and is Done.
+fn leave(
+    graph: &[u8; 10497],
+    backward: bool,
+    b: usize,
+    marks: &mut [u8; 128],
+    sets: &mut [u64; 1024],
+    ws: &mut [u64; 1537],
+    optional: &mut [u64; 8],
+    changed: bool,
+) -> Progress
+    requires { ⌜ Ready (now graph) (now sets) (now ws) (now optional) × (b < sizeIn (now graph)) × (length (now marks) ≡ 128) ⌝ }
+    ensures { λ r. ⌜ (let n = sizeIn (now (graph .entry)) in
+        Visits (leave (joinIn (now (graph .entry)) backward) b (visitedOf n (now (marks .entry)) (now (sets .entry)) (now (ws .entry)) changed))
+        n r (now (marks .exit)) (now (sets .exit)) (now (ws .exit)) (now (optional .exit))) ⌝ }
+{
+    let joined = join(graph, backward, b, marks, sets, ws, optional, changed);
+    marks[b] = 2;
+    joined
+}
+
+// `recursively_propagate_non_null`: a block that is unmarked is Active while its neighbours are visited. The work after them is `leave`'s, called at
+// two places, so that its locals are in no frame of the recursion.
+fn visit(
+    graph: &[u8; 10497],
+    backward: bool,
+    b: usize,
+    marks: &mut [u8; 128],
+    sets: &mut [u64; 1024],
+    ws: &mut [u64; 1537],
+    optional: &mut [u64; 8],
+    changed: bool,
+) -> Progress
+    requires { ⌜ Ready (now graph) (now sets) (now ws) (now optional) × (b < sizeIn (now graph)) × (length (now marks) ≡ 128) ⌝ }
+    ensures { λ r. ⌜ (let n = sizeIn (now (graph .entry)) in
+        Visits (visitIn (now (graph .entry)) backward b (visitedOf n (now (marks .entry)) (now (sets .entry)) (now (ws .entry)) changed))
+        n r (now (marks .exit)) (now (sets .exit)) (now (ws .exit)) (now (optional .exit))) ⌝ }
+{
+    if marks[b] != 0 {
+        return Progress::Changed(changed);
+    }
+    marks[b] = 1;
+    let mut so_far = changed;
+    let mut from = 0;
+    while from < 128 {
+        let Near::At(k, next) = graph::next_near(graph, backward, b, from) else {
+            return leave(graph, backward, b, marks, sets, ws, optional, so_far);
+        };
+        let Progress::Changed(c) = visit(graph, backward, k, marks, sets, ws, optional, so_far)
+        else {
+            return Progress::Full;
+        };
+        so_far = c;
+        from = next;
+    }
+    leave(graph, backward, b, marks, sets, ws, optional, so_far)
+}
+
+// Block i of a walk over n.
+fn in_order(backward: bool, n: usize, i: usize) -> usize
+    requires { ⌜ i < n ⌝ }
+    ensures { λ r. ⌜ (r ≡ inOrder backward n i) × (r < n) ⌝ }
+{
+    if backward { n - 1 - i } else { i }
+}
+
+// A visit of each block in turn, with the marks cleared.
+fn walk(
+    graph: &[u8; 10497],
+    backward: bool,
+    marks: &mut [u8; 128],
+    sets: &mut [u64; 1024],
+    ws: &mut [u64; 1537],
+    optional: &mut [u64; 8],
+    changed: bool,
+) -> Progress
+    requires { ⌜ Ready (now graph) (now sets) (now ws) (now optional) ⌝ }
+    ensures { λ r. ⌜ (let n = sizeIn (now (graph .entry)) in
+        Joins (walkIn (now (graph .entry)) backward (workOf n (now (sets .entry)) (now (ws .entry)) changed))
+        n r (now (sets .exit)) (now (ws .exit)) (now (optional .exit))) ⌝ }
+{
+    let n = graph::size(graph);
+    *marks = [0; 128];
+    let mut so_far = changed;
+    let mut i = 0;
+    while i < n {
+        let b = in_order(backward, n, i);
+        let Progress::Changed(c) = visit(graph, backward, b, marks, sets, ws, optional, so_far)
+        else {
+            return Progress::Full;
+        };
+        so_far = c;
+        i += 1;
+    }
+    Progress::Changed(so_far)
+}
+
+// A forward and a backward walk, from no set changed.
+fn round(
+    graph: &[u8; 10497],
+    marks: &mut [u8; 128],
+    sets: &mut [u64; 1024],
+    ws: &mut [u64; 1537],
+    optional: &mut [u64; 8],
+) -> Progress
+    requires { ⌜ Ready (now graph) (now sets) (now ws) (now optional) ⌝ }
+    ensures { λ r. ⌜ (let n = sizeIn (now (graph .entry)) in
+        Joins (round doneNeighbours (graphIn (now (graph .entry))) (workOf n (now (sets .entry)) (now (ws .entry)) true))
+        n r (now (sets .exit)) (now (ws .exit)) (now (optional .exit))) ⌝ }
+{
+    let Progress::Changed(c) = walk(graph, false, marks, sets, ws, optional, false) else {
+        return Progress::Full;
+    };
+    walk(graph, true, marks, sets, ws, optional, c)
+}
+
+// At most 100 rounds; the one that changes nothing is the last.
+pub fn propagate_non_null(
+    graph: &[u8; 10497],
+    sets: &mut [u64; 1024],
+    ws: &mut [u64; 1537],
+    optional: &mut [u64; 8],
+) -> Propagated
+    requires { ⌜ Ready (now graph) (now sets) (now ws) (now optional) ⌝ }
+    ensures { λ r. ⌜ (let n = sizeIn (now (graph .entry)) in
+        Propagates (propagateNonNull doneNeighbours (graphIn (now (graph .entry))) (registryOf (now (ws .entry))) (rowsOf (now (sets .entry)) n))
+        n r (now (sets .exit)) (now (ws .exit)) (now (optional .exit))) ⌝ }
+{
+    let mut marks = [0u8; 128];
+    let mut rounds = 0;
+    while rounds < 100 {
+        let Progress::Changed(changed) = round(graph, &mut marks, sets, ws, optional) else {
+            return Propagated::Full;
+        };
+        rounds += 1;
+        if !changed {
+            return Propagated::Ran(Run {
+                rounds,
+                settled: true,
+            });
+        }
+    }
+    Propagated::Ran(Run {
+        rounds,
+        settled: false,
+    })
+}
