@@ -111,7 +111,7 @@ module _ (s ids places : List ℕ) (n : ℕ) (j : Job) (at : BlocksAt s n places
       let a = job-accepted j at in
       subst (λ (k : Job). ProperBlocks (k .blocks)) (same-job j at) (proper-blocks (a .job) (a .no-repeat) (a .no-unknown))
 
-  place-is : (i : BlockId) → Member i (idsOf bs) → placeIn ids n (i .0) ≡ placeOf bs i
+  pub place-is : (i : BlockId) → Member i (idsOf bs) → placeIn ids n (i .0) ≡ placeOf bs i
   unfolding placeIn
   place-is i m =
       ap (λ k. placeFrom ids 0 k (i .0)) (sym (at .count))

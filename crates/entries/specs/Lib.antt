@@ -1,4 +1,5 @@
 pub mod Path
 pub mod Property
+pub mod Access
 pub mod Refusals
 pub mod Examples

@@ -2,6 +2,7 @@
 ghost use mathlib.Core.Path.{_≡_};
 ghost use Rattle.entries.specs.Path.{sameProperty, sameEntry};
 ghost use Rattle.entries.specs.Property.{propertyOf, isNumber, valueOf};
+ghost use Rattle.entries.specs.Access.{isOptionalAccess, isDependencyAccess, accessOf, mergeAccess};
 ghost use Rattle.entries.specs.Refusals.{refusalNumber};
 
 // A variable of the compiled function (`IdentifierId` of the Rust).
@@ -95,6 +96,66 @@ pub enum PropertyAccessType {
     UnconditionalAccess,
     OptionalDependency,
     UnconditionalDependency,
+}
+
+impl PropertyAccessType {
+    // The kind that is optional or not, and a dependency or not.
+    pub fn of(optional: bool, dependency: bool) -> PropertyAccessType
+        ensures { λ r. ⌜ r ≡ accessOf optional dependency ⌝ }
+    {
+        if optional {
+            if dependency {
+                PropertyAccessType::OptionalDependency
+            } else {
+                PropertyAccessType::OptionalAccess
+            }
+        } else {
+            if dependency {
+                PropertyAccessType::UnconditionalDependency
+            } else {
+                PropertyAccessType::UnconditionalAccess
+            }
+        }
+    }
+
+    pub fn is_optional(self) -> bool
+        ensures { λ r. ⌜ r ≡ isOptionalAccess self ⌝ }
+    {
+        match self {
+            PropertyAccessType::OptionalAccess => true,
+            PropertyAccessType::UnconditionalAccess => false,
+            PropertyAccessType::OptionalDependency => true,
+            PropertyAccessType::UnconditionalDependency => false,
+        }
+    }
+
+    pub fn is_dependency(self) -> bool
+        ensures { λ r. ⌜ r ≡ isDependencyAccess self ⌝ }
+    {
+        match self {
+            PropertyAccessType::OptionalAccess => false,
+            PropertyAccessType::UnconditionalAccess => false,
+            PropertyAccessType::OptionalDependency => true,
+            PropertyAccessType::UnconditionalDependency => true,
+        }
+    }
+
+    // `merge_access` of the Rust: optional only if both are, a dependency if either is.
+    pub fn merge(self, other: PropertyAccessType) -> PropertyAccessType
+        ensures { λ r. ⌜ r ≡ mergeAccess self other ⌝ }
+    {
+        let dependency = if self.is_dependency() {
+            true
+        } else {
+            other.is_dependency()
+        };
+        let optional = if self.is_optional() {
+            other.is_optional()
+        } else {
+            false
+        };
+        PropertyAccessType::of(optional, dependency)
+    }
 }
 
 // What is known of the value at a position of the hoistable tree.

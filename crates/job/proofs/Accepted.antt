@@ -8,8 +8,8 @@ use lib.ListN.{length, getD}
 use lib.Seq.{sets, getD-take}
 use Rattle.entries.specs.declared.Refusal.the-variants.{RepeatedId, UnknownBlock}
 use Rattle.model.specs.Read.{got, refused, readMany}
-use Rattle.model.specs.Job.{HD, CA, Header, Job, readPath, readBlock, readRecords, hasRepeat, hasUnknown, acceptIds, readJob}
-use Rattle.job.specs.Kept.{notePlace, blockNotes, blockPlaces, candidatesAt, headOf, keptOf}
+use Rattle.model.specs.Job.{HD, CA, Header, Job, idsOf, readPath, readBlock, readRecords, hasRepeat, hasUnknown, acceptIds, readJob}
+use Rattle.job.specs.Kept.{notePlace, noteNumber, blockNotes, blockPlaces, blockNumbers, candidatesAt, headOf, keptOf}
 use Rattle.job.specs.declared.JobHead.{JobHead}
 use Rattle.job.specs.declared.ReadJob.the-variants.{Value}
 use Rattle.job.proofs.Bounds.{held, blocks-most, candidates-most}
@@ -17,6 +17,8 @@ use Rattle.job.proofs.Many.{many-length, Again, read-again}
 use Rattle.job.proofs.Passing.{not-both, then-got}
 use Rattle.job.proofs.Records.{Parts, parts, answer-value}
 use Rattle.job.proofs.Stored.{stored}
+use Rattle.job.specs.Ids.{blockIds}
+use Rattle.job.proofs.Noted.{ids-are}
 use Rattle.job.proofs.Answers.{job-fields, block-count, note-count}
 
 -- the job behind an answer, which keeps the lengths of its lists, its scope and the place of its candidates
@@ -30,6 +32,9 @@ pub record Accepted (s : List ℕ) (h : JobHead) : Type 0 where
   pub candidates-few : h .candidates ≤ 64
   -- block k is read again at the k-th place noted
   pub places-count : length (blockPlaces s) ≡ h .blocks
+  -- the numbers noted are those of the blocks' ids
+  pub numbers-count : length (blockNumbers s) ≡ h .blocks
+  pub numbers-are : blockIds (blockNumbers s) ≡ idsOf (job .blocks)
   pub block-again : (k : ℕ) → k < h .blocks → Again (readBlock 4) s (blockPlaces s) (job .blocks) k
   pub candidates-read : readMany (h .candidates) (readPath 4 CA) s (h .«candidates_at») ≡ got (job .candidates) (length s)
 
@@ -63,6 +68,8 @@ module _ (s : List ℕ) (j : Job) (p : Parts s j) where
     blocks-few = omega (arith, block-count s j p, held (λ (h : Header). h .blocks ≤ 128) (p .header-read) (blocks-most HD s 0));
     candidates-few = omega (arith, candidate-count, held (λ (h : Header). h .candidates ≤ 64) (p .header-read) (candidates-most HD s 0));
     places-count = note-count s j p notePlace ∙ sym (block-count s j p);
+    numbers-count = note-count s j p noteNumber ∙ sym (block-count s j p);
+    numbers-are = ids-are s j p;
     block-again = again;
     candidates-read = rw candidate-count (p .candidates-read);
   }

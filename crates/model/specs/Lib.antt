@@ -7,7 +7,6 @@ pub mod Reduction
 pub mod Visit
 pub mod Rounds
 pub mod Propagation
-pub mod Access
 pub mod Forest
 pub mod Tree
 pub mod Read

@@ -14,7 +14,7 @@ use Rattle.entries.specs.declared.HoistableAccessType.{HoistableAccessType}
 use Rattle.entries.specs.declared.HoistableAccessType.the-variants.{Optional, NonNull}
 use Rattle.entries.specs.Path.{ReactiveScopeDependency}
 use Rattle.model.specs.Lists.{select}
-use Rattle.model.specs.Access.{isOptionalAccess, isDependencyAccess, mergeAccess}
+use Rattle.entries.specs.Access.{isOptionalAccess, isDependencyAccess, mergeAccess}
 use Rattle.model.specs.Forest.{Key, identifierKey, propertyKey, Forest, empty, Found, findKey, childByKey, addAll, firsts}
 
 -- The hoistable tree.

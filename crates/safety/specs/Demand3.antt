@@ -75,7 +75,7 @@ verdict-written rule bytes job out written e =
 abbrev pub answered : JoiningRule → Job → Answered
 answered rule j = let p = propagated rule (j .blocks) in record { paths = returnedPaths j (p .work); rounds = p .rounds; settled = p .settled }
 
-rounds-fit : (rule : JoiningRule) (j : Job) → propagated rule (j .blocks) .rounds < 256
+pub rounds-fit : (rule : JoiningRule) (j : Job) → propagated rule (j .blocks) .rounds < 256
 unfolding propagated propagateNonNull
 rounds-fit rule j =
     let start = enterBlocks [] (j .blocks) in

@@ -11,7 +11,7 @@ use Rattle.entries.specs.Path.{sameProperty, ReactiveScopeDependency, prefixOfN
 use Rattle.model.specs.Lists.{anyOf, countOf}
 use Rattle.model.specs.Tests.{by-cond}
 use Rattle.model.specs.ListLaws.{All, all-map}
-use Rattle.model.specs.Access.{isOptionalAccess, isDependencyAccess, accessOf}
+use Rattle.entries.specs.Access.{isOptionalAccess, isDependencyAccess, accessOf}
 use Rattle.model.specs.Forest.{Key, identifierKey, propertyKey, sameKey, Forest, empty, Found, findKey, childByKey, addAll, firsts}
 use Rattle.model.specs.Tree.{HoistablePosition, hoistableKey, hoistableTree, DependencyPosition, dependencyKey, isDependency, mergePosition, ended, atNonNull, stepAccess, stepTo, walkEntries, rootPosition, walkCandidate, dependencyTree, keyIdentifier, keyProperty, entryOf, dependencyOf, deriveMinimalDependencies}
 use Rattle.safety.specs.Lists.{all-of, all-of-map, all-unmap}

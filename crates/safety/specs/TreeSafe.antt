@@ -10,7 +10,7 @@ use Rattle.entries.specs.Path.{ReactiveScopeDependency}
 use Rattle.model.specs.Tests.{by-cond, never}
 use Rattle.model.specs.ListLaws.{All, all-map, all-both, all-select, all-append}
 use Rattle.model.specs.Reading.{Value, null, undefined, value, Store, throws, readsTo, atNullish, readFrom, read, Throws, NonNullish}
-use Rattle.model.specs.Access.{isOptionalAccess}
+use Rattle.entries.specs.Access.{isOptionalAccess}
 use Rattle.model.specs.Forest.{Key, identifierKey, propertyKey, sameKey, Forest, empty, position, Found, findKey, childByKey, addAll, firsts}
 use Rattle.model.specs.Tree.{startsOptional, ordered, HoistablePosition, hoistableKey, hoistableEntries, hoistablePath, firstMade, hoistableTree, DependencyPosition, dependencyKey, isDependency, mergePosition, ended, atNonNull, stepAccess, stepTo, walkEntries, rootPosition, walkCandidate, dependencyTree, keyIdentifier, keyProperty, entryOf, dependencyOf, deriveMinimalDependencies}
 use Rattle.safety.specs.Lists.{all-of, all-of-map}

@@ -1,0 +1,78 @@
+// The answer's bytes: each candidate walks and is added to the dependency tree, and the returned paths are written behind the answer's head.
+ghost use mathlib.Core.Path.{_≡_};
+ghost use Prim.Native.Nat.{_≤_, _<_};
+ghost use lib.ListN.{length};
+ghost use Rattle.model.specs.ReductionLaws.{Members};
+ghost use Rattle.model.specs.Answer.{leastBuffer};
+ghost use Rattle.rows.specs.Members.{membersOf};
+ghost use Rattle.registry.specs.Words.{registryOf};
+ghost use Rattle.writer.specs.Writes.{Writes};
+ghost use Rattle.answer_bytes.specs.Answers.{HoldsRegistry, CandidatesAt, AddsCandidates, headBytes, WritesAnswer};
+use job::ReadPathHead;
+use rows::NodeBits;
+use writer::flag;
+use writer::put_number;
+
+// The mark of an answer.
+pub const AN: u64 = 0x4E41;
+
+// The dependency tree of the candidates from a place on, whatever the words were; `set` is the scope block's.
+fn add_candidates(
+    tree: &mut [u64; 1089],
+    s: &[u8],
+    ws: &[u64; 1537],
+    set: NodeBits,
+    start: usize,
+    count: usize,
+)
+    requires { ⌜ (length (now tree) ≡ 1089) × HoldsRegistry (now ws) × Members (registryOf (now ws)) (membersOf (set .words)) × CandidatesAt (now s) start count ⌝ }
+    ensures { λ _. ⌜ AddsCandidates (now (s .entry)) start count (registryOf (now (ws .entry))) (membersOf (set .words)) (now (tree .exit)) ⌝ }
+{
+    tree::clear(tree);
+    let mut at = start;
+    let mut left = count;
+    while 0 < left {
+        let fields_at = at + 2;
+        let head_field = job::path_head_at(s, fields_at);
+        let ReadPathHead::Value(head, entries_at) = head_field else {
+            return;
+        };
+        let identifier = head.identifier;
+        let levels = hoistable::nonnull_levels(ws, set, s, identifier, entries_at, head.entries);
+        tree::add_candidate(tree, s, fields_at, levels);
+        at = entries_at + 14 * (head.entries as usize);
+        left = left - 1;
+    }
+}
+
+// What stands before the returned paths.
+fn put_head(out: &mut [u8], count: usize, rounds: u8, settled: bool) -> usize
+    requires { ⌜ 6 ≤ length (now out) ⌝ }
+    ensures { λ r. ⌜ Writes (now (out .entry)) (now (out .exit)) 0 (headBytes count rounds settled) r ⌝ }
+{
+    let count_at = put_number(out, 0, 2, AN);
+    let rounds_at = put_number(out, count_at, 2, count as u64);
+    let settled_at = put_number(out, rounds_at, 1, rounds as u64);
+    put_number(out, settled_at, 1, flag(settled))
+}
+
+// The whole answer, from the buffer's start on. The head is written last, since it has the number of returned paths.
+pub fn put_answer(
+    s: &[u8],
+    ws: &[u64; 1537],
+    set: NodeBits,
+    start: usize,
+    count: usize,
+    rounds: u8,
+    settled: bool,
+    out: &mut [u8],
+) -> usize
+    requires { ⌜ HoldsRegistry (now ws) × Members (registryOf (now ws)) (membersOf (set .words)) × CandidatesAt (now s) start count × (leastBuffer ≤ length (now out)) ⌝ }
+    ensures { λ r. ⌜ WritesAnswer (now (s .entry)) start count (registryOf (now (ws .entry))) (membersOf (set .words)) rounds settled (now (out .entry)) (now (out .exit)) r ⌝ }
+{
+    let mut tree = [0u64; 1089];
+    add_candidates(&mut tree, s, ws, set, start, count);
+    let written = tree::derive_minimal_dependencies(&tree, s, out, 6);
+    put_head(out, written.count, rounds, settled);
+    written.at
+}

@@ -1,0 +1,5 @@
+pub mod Coming
+pub mod Bits
+pub mod Nodes
+pub mod Blocks
+pub mod Whole

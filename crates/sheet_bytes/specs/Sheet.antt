@@ -1,0 +1,58 @@
+-- The parts of a sheet over the lent words, and the sheet that is written.
+use Prim.Native.Nat.{ℕ, zero, suc}
+use mathlib.Core.Path.{_≡_}
+use mathlib.Core.Bool.{Bool}
+use mathlib.Core.List.{List, [], _++_, map}
+use lib.ListN.{length, getD, take}
+use Rattle.entries.specs.declared.BlockId.{BlockId}
+use Rattle.entries.specs.Path.{ReactiveScopeDependency}
+use Rattle.model.specs.Job.{Job, idsOf}
+use Rattle.model.specs.Rounds.{Rounds}
+use Rattle.model.specs.Propagation.{Work}
+use Rattle.model.specs.Sets.{NodeSet}
+use Rattle.model.specs.RegistryLaws.{Sound}
+use Rattle.model.specs.Answer.{u8, u16, u32, flag, SH, SE, rowBytes, spanWidth, sheetBytes}
+use Rattle.rows.specs.Rows.{rowOf, rowsOf}
+use Rattle.registry.specs.Words.{registryOf, Sized}
+use Rattle.writer.specs.Writes.{Writes}
+use Rattle.sheet_bytes.specs.declared.PathRoot.{PathRoot}
+
+-- The words hold a registry as its operations make it.
+pub record HoldsRegistry (ws : List ℕ) : Type 0 where
+  pub sized : Sized ws
+  pub sound : Sound (registryOf ws)
+
+-- what a path has of its root
+abbrev pub rootOf : ReactiveScopeDependency → PathRoot
+rootOf d = record { identifier = d .identifier; reactive = d .reactive }
+
+-- "SH, nodes u16, blocks u16, rounds u8, settled u8."
+abbrev pub headBytes : ℕ → ℕ → ℕ → Bool → List ℕ
+headBytes nodes blocks rounds settled = u16 SH ++ u16 nodes ++ u16 blocks ++ u8 rounds ++ u8 (flag settled)
+
+-- the id of a block from its number
+abbrev pub blockId : ℕ → BlockId
+blockId i = record { 0 = i }
+
+-- "Per block .. SE, id u32, 64 bytes where node k is bit k mod 8 of byte k div 8."
+abbrev pub blockBytes : BlockId → NodeSet → List ℕ
+blockBytes id s = u16 SE ++ u32 (id .0) ++ rowBytes s 0 64
+
+-- n blocks from block b on, by their numbers and rows
+unfoldable pub blocksBytes : List ℕ → List ℕ → ℕ → ℕ → List ℕ
+blocksBytes numbers rows b zero = []
+blocksBytes numbers rows b (suc n) = blockBytes (blockId (getD numbers b 0)) (rowOf rows b) ++ blocksBytes numbers rows (suc b) n
+
+-- The job has n blocks, whose ids have these numbers; its propagation leaves the registry and the sets that the words hold, after so many rounds, settled or not.
+pub record Propagated (ws rows numbers : List ℕ) (n ran : ℕ) (last : Bool) (j : Job) (p : Rounds Work) : Type 0 where
+  pub count : length (j .blocks) ≡ n
+  pub ids : map blockId (take n numbers) ≡ idsOf (j .blocks)
+  pub registry : p .work .registry ≡ registryOf ws
+  pub sets : p .work .sets ≡ rowsOf rows n
+  pub rounds : p .rounds ≡ ran
+  pub settled : p .settled ≡ last
+
+-- The sheet of that job stands in the buffer from its start on.
+abbrev pub WritesSheet : List ℕ → List ℕ → List ℕ → ℕ → ℕ → Bool → List ℕ → List ℕ → ℕ → Type 0
+WritesSheet ws sets ids blocks rounds settled before after next =
+    (j : Job) (p : Rounds Work) → Propagated ws sets ids blocks rounds settled j p → Writes before after 0 (sheetBytes spanWidth j p) next

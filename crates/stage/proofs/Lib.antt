@@ -1,0 +1,5 @@
+pub mod Propagating
+pub mod Putting
+pub mod Performing
+pub mod Accepting
+pub mod Numbers

@@ -1,0 +1,97 @@
+-- The outcome of an operation by its verdict: refusals 1 and 2 by the lengths, 3 to 8 by the reader, 9 by the registry, and the bytes.
+use Prim.Native.Nat.{ℕ, _≤_, _<_}
+use native.Mathlib.Omega.{arith}
+use native.Mathlib.Nat.{zero-add}
+use mathlib.Core.Path.{_≡_, refl, sym, ap, subst, _∙_}
+use mathlib.Core.Bool.{true, false, cond}
+use mathlib.Core.List.{List, [], _++_}
+use lib.ListN.{length, drop}
+use lib.Seq.{sets, sets-eq}
+use lib.Dec.{ltb, lt→ltb}
+use Rattle.entries.specs.declared.Refusal.{Refusal}
+use Rattle.entries.specs.declared.Refusal.the-variants.{ShortBuffer, LongJob, ManyNodes}
+use Rattle.model.specs.Tests.{decide, passes-test, ltb-true}
+use Rattle.model.specs.Read.{Read, got, refused}
+use Rattle.model.specs.Registry.{nodeLimit}
+use Rattle.model.specs.Rounds.{Rounds}
+use Rattle.model.specs.Propagation.{Work, doneNeighbours}
+use Rattle.model.specs.Job.{HD, Job, readJob}
+use Rattle.model.specs.Stage.{propagated}
+use Rattle.model.specs.Answer.{Verdict, writes, turnsBack, withinNodes, onJob, leastBuffer, longestJob, spanWidth, verdict, answerBytes, answerOf, sheetBytes, sheetOf, bufferAfter}
+use Rattle.registry.specs.Words.{registryOf, Held}
+use Rattle.registry.proofs.View.{registry-length}
+use Rattle.writer.specs.Writes.{Writes}
+use Rattle.propagation.specs.declared.Run.{Run}
+use Rattle.propagation.specs.Propagates.{HoldsRounds}
+use Rattle.propagation.proofs.Answers.{propagated-registry}
+use Rattle.stage.specs.declared.Operation.{Operation}
+use Rattle.stage.specs.declared.Operation.the-variants as operation
+use Rattle.stage.specs.declared.Outcome.{Outcome}
+use Rattle.stage.specs.declared.Outcome.the-variants.{Written, Refused}
+use Rattle.stage.specs.Jobs.{operationBytes, outcomeOf, Meets, verdictOf, jobVerdict}
+
+-- a verdict that turns back leaves the buffer
+pub refuses : {v : Verdict} {r : Refusal} {out : List ℕ} → v ≡ turnsBack r → Meets v (Refused r) out out
+refuses {out = out} e = record { outcome = sym (ap outcomeOf e); buffer = sym (ap (λ v. bufferAfter v out) e) }
+
+less : (a b : ℕ) → a < b → ltb a b ≡ true
+less a b h = passes-test (lt→ltb a b h)
+
+not-less : (a b : ℕ) → b ≤ a → ltb a b ≡ false
+not-less a b h = decide (ltb a b) (λ e. let l = ltb-true a b e in absurd (omega arith)) (λ e. e)
+
+-- bytes that stand in the buffer from its start on are written before the rest of it
+pub stands-written : {v : Verdict} {bytes before after : List ℕ} {next : ℕ} → v ≡ writes bytes → Writes before after 0 bytes next → length bytes ≤ length before → Meets v (Written next) before after
+stands-written {v} {bytes} {before} {after} {next} e w fits = record {
+  outcome = ap Written (w .ends ∙ zero-add (length bytes)) ∙ sym (ap outcomeOf e);
+  buffer = w .is ∙ sets-eq bytes before 0 (omega arith) ∙ ap (λ n. bytes ++ drop n before) (zero-add (length bytes)) ∙ sym (ap (λ v. bufferAfter v before) e);
+}
+
+-- A job that was read.
+
+module _ (op : Operation) (s : List ℕ) (j : Job) (end : ℕ) (reads : readJob HD spanWidth s ≡ got j end) where
+  abbrev p : Rounds Work
+  p = propagated doneNeighbours (j .blocks)
+
+  read-verdict : jobVerdict op s ≡ withinNodes p (operationBytes op spanWidth j p)
+  unfolding jobVerdict
+  read-verdict = ap (onJob doneNeighbours (operationBytes op spanWidth)) reads
+
+  pub full-refused : nodeLimit < length (p .work .registry) → jobVerdict op s ≡ turnsBack ManyNodes
+  full-refused h = read-verdict ∙ ap (λ b. cond b (turnsBack ManyNodes) (writes (operationBytes op spanWidth j p))) (less nodeLimit (length (p .work .registry)) h)
+
+  pub room-written : {n : ℕ} {run : Run} {sets ws os : List ℕ} → HoldsRounds p n run sets ws os → jobVerdict op s ≡ writes (operationBytes op spanWidth j p)
+  room-written {ws = ws} x =
+      let size = ap length (propagated-registry x) ∙ registry-length ws in
+      let room = x .stands .held .sized .room in
+      read-verdict ∙ ap (λ b. cond b (turnsBack ManyNodes) (writes (operationBytes op spanWidth j p))) (not-less nodeLimit (length (p .work .registry)) (omega arith))
+
+-- Any bytes and any buffer.
+
+module _ (op : Operation) (s out : List ℕ) where
+  pub short-refused : length out < leastBuffer → verdictOf op s out ≡ turnsBack ShortBuffer
+  unfolding verdictOf
+  short-refused h = rw (less (length out) leastBuffer h)
+
+  module _ (wide : leastBuffer ≤ length out) where
+    pub long-refused : longestJob < length s → verdictOf op s out ≡ turnsBack LongJob
+    unfolding verdictOf
+    long-refused h = rw (not-less (length out) leastBuffer wide, less longestJob (length s) h)
+
+    pub by-job : length s ≤ longestJob → verdictOf op s out ≡ jobVerdict op s
+    unfolding verdictOf jobVerdict
+    by-job h = rw (not-less (length out) leastBuffer wide, not-less longestJob (length s) h)
+
+pub read-refused : (op : Operation) (s : List ℕ) {r : Refusal} → readJob HD spanWidth s ≡ refused r → jobVerdict op s ≡ turnsBack r
+unfolding jobVerdict
+read-refused op s e = ap (onJob doneNeighbours (operationBytes op spanWidth)) e
+
+-- The two operations.
+
+pub answer-verdict : (s out : List ℕ) → verdictOf operation.Answer s out ≡ answerOf s out
+unfolding verdictOf answerOf
+answer-verdict s out = refl
+
+pub sheet-verdict : (s out : List ℕ) → verdictOf operation.Sheet s out ≡ sheetOf s out
+unfolding verdictOf sheetOf
+sheet-verdict s out = refl

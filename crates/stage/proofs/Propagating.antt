@@ -1,0 +1,76 @@
+-- The propagation of a job: its assumed paths entered and its graph filled are what the definition starts from.
+use Prim.Native.Nat.{ℕ, _≤_, _<_}
+use native.Mathlib.Omega.{arith}
+use mathlib.Core.Path.{_≡_, refl, sym, ap, subst, _∙_}
+use mathlib.Core.Bool.{true, false}
+use mathlib.Core.List.{List, []}
+use lib.ListN.{length}
+use Rattle.model.specs.ListLaws.{All}
+use Rattle.model.specs.Sets.{NodeSet}
+use Rattle.model.specs.Registry.{nodeLimit, PropertyPathRegistry}
+use Rattle.model.specs.RegistryLaws.{extends-length}
+use Rattle.model.specs.ReductionLaws.{Members}
+use Rattle.model.specs.Rounds.{Rounds}
+use Rattle.model.specs.Propagation.{Work, Graph, doneNeighbours, propagateNonNull, unchanged}
+use Rattle.model.specs.PropagationLaws.{propagation-extends, start-proper}
+use Rattle.model.specs.Job.{Block, Job}
+use Rattle.model.specs.Stage.{Started, graphOf, enterBlocks, propagated}
+use Rattle.rows.specs.Rows.{rowsOf}
+use Rattle.registry.specs.Words.{registryOf}
+use Rattle.job.specs.Kept.{BlocksAt}
+use Rattle.assumed.specs.declared.Entered.{Entered}
+use Rattle.assumed.specs.declared.Entered.the-variants as entered
+use Rattle.assumed.specs.Start.{StartHeld, EntersBlocks}
+use Rattle.graph.specs.Bytes.{sizeIn, graphIn}
+use Rattle.graph.proofs.Agree.{Agree, propagation-agrees}
+use Rattle.edges.specs.Fills.{IdsAt, Holds, FillsGraph}
+use Rattle.propagation.specs.Joins.{Stands, Ready}
+use Rattle.propagation.specs.Propagates.{Propagates}
+use Rattle.propagation.specs.declared.Propagated.{Propagated}
+use Rattle.propagation.specs.declared.Propagated.the-variants.{Full}
+
+-- a registry that has passed the limit before propagation stays beyond it
+pub full-start : (bs : List Block) → nodeLimit < length (enterBlocks [] bs .registry) → nodeLimit < length (propagated doneNeighbours bs .work .registry)
+unfolding propagated
+full-start bs h =
+    let start = enterBlocks [] bs in
+    let longer = extends-length (propagation-extends doneNeighbours (graphOf bs) (start .registry) (start .sets)) in
+    omega arith
+
+module _ {bs : List Block} {n : ℕ} {ws os sets g : List ℕ} (count : length bs ≡ n) (x : StartHeld (enterBlocks [] bs) n ws os sets) (y : Holds bs g) where
+  size-same : sizeIn g ≡ n
+  size-same = y .size ∙ count
+
+  pub ready : Ready g sets ws os
+  ready = record {
+    fits = y .fits;
+    stands = subst (λ m. Stands m sets ws os) (sym size-same) (record {
+      lent = x .lent;
+      held = x .held;
+      members = subst (λ (st : Started). All (Members (st .registry)) (st .sets)) (x .same) (start-proper bs .members);
+    });
+  }
+
+  agrees : Agree (graphIn g) (graphOf bs)
+  unfolding graphIn graphOf
+  agrees = record { size = y .size; predecessors = λ b l. y .predecessors b (let s = y .size in omega arith); successors = λ b l. y .successors b (let s = y .size in omega arith) }
+
+  want-same : propagateNonNull doneNeighbours (graphIn g) (registryOf ws) (rowsOf sets (sizeIn g)) ≡ propagated doneNeighbours bs
+  unfolding propagated
+  want-same =
+      ap (λ m. propagateNonNull doneNeighbours (graphIn g) (registryOf ws) (rowsOf sets m)) size-same
+      ∙ propagation-agrees doneNeighbours agrees (registryOf ws) (rowsOf sets n)
+      ∙ ap (λ (st : Started). propagateNonNull doneNeighbours (graphOf bs) (st .registry) (st .sets)) (sym (x .same))
+
+  pub propagates : (r : Propagated) (sets′ ws′ os′ : List ℕ) → Propagates (propagateNonNull doneNeighbours (graphIn g) (registryOf ws) (rowsOf sets (sizeIn g))) (sizeIn g) r sets′ ws′ os′
+      → Propagates (propagated doneNeighbours bs) n r sets′ ws′ os′
+  propagates r sets′ ws′ os′ h =
+      subst (λ m. Propagates (propagated doneNeighbours bs) m r sets′ ws′ os′) size-same (subst (λ (w : Rounds Work). Propagates w (sizeIn g) r sets′ ws′ os′) want-same h)
+
+-- the answer of `enter_blocks` by its case
+module _ {s : List ℕ} {n : ℕ} {places : List ℕ} (r : Entered) (ws os sets : List ℕ) (h : EntersBlocks s n places r ws os sets) where
+  pub entered-all : r ≡ entered.All → (j : Job) → BlocksAt s n places j → StartHeld (enterBlocks [] (j .blocks)) n ws os sets
+  entered-all e = subst (λ q. EntersBlocks s n places q ws os sets) e h
+
+  pub entered-full : r ≡ entered.Full → (j : Job) → BlocksAt s n places j → nodeLimit < length (enterBlocks [] (j .blocks) .registry)
+  entered-full e = subst (λ q. EntersBlocks s n places q ws os sets) e h

@@ -1,0 +1,97 @@
+-- The operations on a job, and what their parts leave in the lent words and in the buffer.
+use Prim.Native.Nat.{ℕ, _^_, _≤_, _<_}
+use mathlib.Core.Path.{_≡_}
+use mathlib.Core.List.{List, map}
+use lib.ListN.{length, take}
+use lib.IntN.{ℤ, pos, negℤ}
+use Rattle.entries.specs.Refusals.{refusalNumber}
+use Rattle.model.specs.ListLaws.{All}
+use Rattle.model.specs.Read.{got}
+use Rattle.model.specs.Job.{HD, Job, idsOf, readJob}
+use Rattle.model.specs.RegistryLaws.{Sound}
+use Rattle.model.specs.ReductionLaws.{Members}
+use Rattle.model.specs.Rounds.{Rounds}
+use Rattle.model.specs.Propagation.{Work, doneNeighbours}
+use Rattle.model.specs.Stage.{propagated}
+use Rattle.model.specs.Answer.{Verdict, writes, turnsBack, onJob, verdict, spanWidth, longestJob, answerBytes, sheetBytes, bufferAfter}
+use Rattle.rows.specs.Rows.{rowsOf}
+use Rattle.registry.specs.Words.{registryOf, Sized}
+use Rattle.writer.specs.Writes.{Writes}
+use Rattle.job.specs.Kept.{BlocksAt, headOf}
+use Rattle.job.specs.declared.JobHead.{JobHead}
+use Rattle.edges.specs.Fills.{IdsAt}
+use Rattle.propagation.specs.Propagates.{roundsOf, Propagates}
+use Rattle.propagation.specs.declared.Run.{Run}
+use Rattle.propagation.specs.declared.Propagated.{Propagated}
+use Rattle.answer_bytes.specs.Answers.{CandidatesAt}
+use Rattle.sheet_bytes.specs.Sheet.{blockId}
+use Rattle.stage.specs.declared.Operation.{Operation}
+use Rattle.stage.specs.declared.Operation.the-variants as operation
+use Rattle.stage.specs.declared.Outcome.{Outcome}
+use Rattle.stage.specs.declared.Outcome.the-variants.{Written, Refused}
+
+-- What each operation writes of a job and its propagation.
+abbrev pub operationBytes : Operation → ℕ → Job → Rounds Work → List ℕ
+operationBytes operation.Answer = answerBytes
+operationBytes operation.Sheet = sheetBytes
+
+-- For each verdict, the outcome that stands for it.
+abbrev pub outcomeOf : Verdict → Outcome
+outcomeOf (writes bytes) = Written (length bytes)
+outcomeOf (turnsBack r) = Refused r
+
+-- "The length or minus the refusal number": document 01's number of each outcome.
+abbrev pub outcomeNumber : Outcome → ℤ
+outcomeNumber (Written n) = pos n
+outcomeNumber (Refused r) = negℤ (pos (refusalNumber r))
+
+-- A length that the number has room for.
+abbrev pub FitsNumber : Outcome → Type 0
+FitsNumber (Written n) = n < 2 ^ 63
+FitsNumber (Refused r) = Unit
+
+-- The outcome and every byte of the buffer afterwards, by the verdict.
+pub record Meets (v : Verdict) (r : Outcome) (before after : List ℕ) : Type 0 where
+  pub outcome : r ≡ outcomeOf v
+  pub buffer : after ≡ bufferAfter v before
+
+-- The verdict of an operation on any bytes and any buffer (`answerOf`, `sheetOf`).
+unfoldable pub verdictOf : Operation → List ℕ → List ℕ → Verdict
+unfolding verdict
+verdictOf op s out = verdict doneNeighbours (operationBytes op) s out
+
+-- 3 to 9: the verdict where 1 and 2 turn nothing back.
+unfoldable pub jobVerdict : Operation → List ℕ → Verdict
+unfolding readJob propagated
+jobVerdict op s = onJob doneNeighbours (operationBytes op spanWidth) (readJob HD spanWidth s)
+
+-- A job is read, and its n blocks are noted by id and place.
+pub record NotedJob (s ids places : List ℕ) (n : ℕ) : Type 0 where
+  pub job : Job
+  pub blocks : BlocksAt s n places job
+  pub numbers : IdsAt ids job
+  pub few : n ≤ 128
+
+-- What the reader kept of a job that it accepted.
+pub record AcceptedJob (s ids places : List ℕ) (head : JobHead) : Type 0 where
+  pub noted : NotedJob s ids places (head .blocks)
+  pub keeps : head ≡ headOf s (noted .job)
+  pub listed : map blockId (take (head .blocks) ids) ≡ idsOf (noted .job .blocks)
+  pub candidates : CandidatesAt s (head .«candidates_at») (head .candidates)
+
+-- The words hold a registry, and each of the first n rows a set of its nodes.
+pub record Standing (n : ℕ) (sets ws : List ℕ) : Type 0 where
+  pub sized : Sized ws
+  pub sound : Sound (registryOf ws)
+  pub members : All (Members (registryOf ws)) (rowsOf sets n)
+
+-- The job that is read is propagated.
+abbrev pub PropagatesJob : List ℕ → List ℕ → List ℕ → ℕ → Propagated → List ℕ → List ℕ → List ℕ → Type 0
+PropagatesJob s ids places n r sets ws os = (j : Job) → BlocksAt s n places j → IdsAt ids j → Propagates (propagated doneNeighbours (j .blocks)) n r sets ws os
+
+-- The operation's bytes of the job that is read, where its propagation left these words after this run, stand in the buffer from its start on, and have
+-- their room there.
+abbrev pub PutsJob : Operation → List ℕ → JobHead → List ℕ → List ℕ → Run → List ℕ → List ℕ → ℕ → Type 0
+PutsJob op s head sets ws run before after next =
+    (j : Job) (end : ℕ) → readJob HD spanWidth s ≡ got j end → (p : Rounds Work) → p ≡ roundsOf (head .blocks) sets ws run
+    → Writes before after 0 (operationBytes op spanWidth j p) next × (length (operationBytes op spanWidth j p) ≤ length before)

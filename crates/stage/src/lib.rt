@@ -1,0 +1,200 @@
+// The two operations on a job's bytes: its answer and its sheet, written into an out buffer, or the refusal.
+ghost use mathlib.Core.Path.{_≡_};
+ghost use Prim.Native.Nat.{_≤_, _<_};
+ghost use lib.ListN.{length};
+ghost use Rattle.model.specs.Answer.{leastBuffer, answerOf, sheetOf, bufferAfter, numberReturned};
+ghost use Rattle.rows.specs.Rows.{Lent};
+ghost use Rattle.stage.specs.declared.Operation.the-variants.{Answer};
+ghost use Rattle.stage.specs.Jobs.{NotedJob, AcceptedJob, Standing, PropagatesJob, PutsJob, verdictOf, jobVerdict, Meets, FitsNumber, outcomeNumber};
+use entries::Refusal;
+use job::JobHead;
+use job::ReadJob;
+use propagation::Propagated;
+use propagation::Run;
+
+// What is written of a job.
+pub enum Operation {
+    Answer,
+    Sheet,
+}
+
+// How many bytes were written, or why none.
+pub enum Outcome {
+    Written(usize),
+    Refused(Refusal),
+}
+
+// Enters the assumed paths, fills the graph and propagates.
+fn propagate(
+    s: &[u8],
+    ids: &[u32; 128],
+    places: &[usize; 128],
+    blocks: usize,
+    ws: &mut [u64; 1537],
+    optional: &mut [u64; 8],
+    sets: &mut [u64; 1024],
+) -> Propagated
+    requires { ⌜ NotedJob (now s) (now ids) (now places) blocks × (length (now ws) ≡ 1537) × Lent (now sets) ⌝ }
+    ensures { λ r. ⌜ PropagatesJob (now (s .entry)) (now (ids .entry)) (now (places .entry)) blocks r (now (sets .exit)) (now (ws .exit)) (now (optional .exit)) ⌝ }
+{
+    let entered = assumed::enter_blocks(s, places, blocks, ws, optional, sets);
+    let assumed::Entered::All = entered else {
+        return Propagated::Full;
+    };
+    let mut graph = [0u8; 10497];
+    edges::fill_graph(s, ids, places, blocks, &mut graph);
+    propagation::propagate_non_null(&graph, sets, ws, optional)
+}
+
+// The answer of a job that was propagated: the scope block's set is found by the block's place.
+fn put_answer(
+    s: &[u8],
+    ids: &[u32; 128],
+    places: &[usize; 128],
+    head: JobHead,
+    ws: &[u64; 1537],
+    sets: &[u64; 1024],
+    run: Run,
+    out: &mut [u8],
+) -> usize
+    requires { ⌜ AcceptedJob (now s) (now ids) (now places) head × Standing (head .blocks) (now sets) (now ws) × (run .rounds < 256) × (leastBuffer ≤ length (now out)) ⌝ }
+    ensures { λ r. ⌜ PutsJob Answer (now (s .entry)) head (now (sets .entry)) (now (ws .entry)) run (now (out .entry)) (now (out .exit)) r ⌝ }
+{
+    let scope = head.scope;
+    let place = edges::place_of(ids, head.blocks, scope.0);
+    let set = rows::row(sets, place);
+    answer_bytes::put_answer(
+        s,
+        ws,
+        set,
+        head.candidates_at,
+        head.candidates,
+        run.rounds as u8,
+        run.settled,
+        out,
+    )
+}
+
+// The bytes of the operation, from the buffer's start on.
+fn put(
+    operation: Operation,
+    s: &[u8],
+    ids: &[u32; 128],
+    places: &[usize; 128],
+    head: JobHead,
+    ws: &[u64; 1537],
+    sets: &[u64; 1024],
+    run: Run,
+    out: &mut [u8],
+) -> usize
+    requires { ⌜ AcceptedJob (now s) (now ids) (now places) head × Standing (head .blocks) (now sets) (now ws) × (run .rounds < 256) × (leastBuffer ≤ length (now out)) ⌝ }
+    ensures { λ r. ⌜ PutsJob operation (now (s .entry)) head (now (sets .entry)) (now (ws .entry)) run (now (out .entry)) (now (out .exit)) r ⌝ }
+{
+    match operation {
+        Operation::Answer => put_answer(s, ids, places, head, ws, sets, run, out),
+        Operation::Sheet => sheet_bytes::put_sheet(
+            ws,
+            sets,
+            ids,
+            head.blocks,
+            run.rounds as u8,
+            run.settled,
+            out,
+        ),
+    }
+}
+
+// The operation on a job that was read: refusal 9, or its bytes.
+fn perform_read(
+    operation: Operation,
+    s: &[u8],
+    ids: &[u32; 128],
+    places: &[usize; 128],
+    head: JobHead,
+    out: &mut [u8],
+) -> Outcome
+    requires { ⌜ AcceptedJob (now s) (now ids) (now places) head × (leastBuffer ≤ length (now out)) ⌝ }
+    ensures { λ r. ⌜ Meets (jobVerdict operation (now (s .entry))) r (now (out .entry)) (now (out .exit)) ⌝ }
+{
+    let mut ws = [0u64; 1537];
+    let mut optional = [0u64; 8];
+    let mut sets = [0u64; 1024];
+    let propagated = propagate(
+        s,
+        ids,
+        places,
+        head.blocks,
+        &mut ws,
+        &mut optional,
+        &mut sets,
+    );
+    let Propagated::Ran(run) = propagated else {
+        return Outcome::Refused(Refusal::ManyNodes);
+    };
+    let length = put(operation, s, ids, places, head, &ws, &sets, run, out);
+    Outcome::Written(length)
+}
+
+// The operation on any bytes and any buffer.
+fn perform(operation: Operation, s: &[u8], out: &mut [u8]) -> Outcome
+    ensures { λ r. ⌜ Meets (verdictOf operation (now (s .entry)) (now (out .entry))) r (now (out .entry)) (now (out .exit)) ⌝ }
+{
+    if out.len() < 24576 {
+        return Outcome::Refused(Refusal::ShortBuffer);
+    }
+    if 32768 < s.len() {
+        return Outcome::Refused(Refusal::LongJob);
+    }
+    let mut ids = [0u32; 128];
+    let mut places = [0usize; 128];
+    let read = job::read_job(s, &mut ids, &mut places);
+    match read {
+        ReadJob::Value(head) => perform_read(operation, s, &ids, &places, head, out),
+        ReadJob::Refused(refusal) => Outcome::Refused(refusal),
+    }
+}
+
+// The answer of a job, in the out buffer, or the refusal.
+pub fn answer(s: &[u8], out: &mut [u8]) -> Outcome
+    ensures { λ r. ⌜ Meets (answerOf (now (s .entry)) (now (out .entry))) r (now (out .entry)) (now (out .exit)) ⌝ }
+{
+    perform(Operation::Answer, s, out)
+}
+
+// The sheet of a job, in the out buffer, or the refusal.
+pub fn sheet(s: &[u8], out: &mut [u8]) -> Outcome
+    ensures { λ r. ⌜ Meets (sheetOf (now (s .entry)) (now (out .entry))) r (now (out .entry)) (now (out .exit)) ⌝ }
+{
+    perform(Operation::Sheet, s, out)
+}
+
+impl Outcome {
+    // Document 01's number: the length, or minus the refusal.
+    fn number(self) -> i64
+        requires { ⌜ FitsNumber self ⌝ }
+        ensures { λ r. ⌜ r ≡ outcomeNumber self ⌝ }
+    {
+        match self {
+            Outcome::Written(length) => length as i64,
+            Outcome::Refused(refusal) => 0 - (refusal.number() as i64),
+        }
+    }
+}
+
+// The C interface: a slice is a pointer and a length.
+
+#[no_mangle]
+pub extern "C" fn scope_deps_answer(job: &[u8], out: &mut [u8]) -> i64
+    ensures { λ r. ⌜ (r ≡ numberReturned (answerOf (now (job .entry)) (now (out .entry)))) × (now (out .exit) ≡ bufferAfter (answerOf (now (job .entry)) (now (out .entry))) (now (out .entry))) ⌝ }
+{
+    let outcome = answer(job, out);
+    outcome.number()
+}
+
+#[no_mangle]
+pub extern "C" fn scope_deps_sheet(job: &[u8], out: &mut [u8]) -> i64
+    ensures { λ r. ⌜ (r ≡ numberReturned (sheetOf (now (job .entry)) (now (out .entry)))) × (now (out .exit) ≡ bufferAfter (sheetOf (now (job .entry)) (now (out .entry))) (now (out .entry))) ⌝ }
+{
+    let outcome = sheet(job, out);
+    outcome.number()
+}

@@ -1,0 +1,8 @@
+pub mod FlatLaws
+pub mod Packed
+pub mod Walking
+pub mod Entering
+pub mod Adding
+pub mod Putting
+pub mod Deriving
+pub mod Caller

@@ -1,0 +1,29 @@
+-- The two marks of the access are the two bits; parent and place have 16 bits each, so that nothing is lost.
+use borrow.Author.Needs.{needs}
+use Rattle.model.specs.Answer.{flag}
+use Rattle.tree.specs.Words.{pack}
+use Rattle.tree.proofs.pack.Statement.{statement}
+use Rattle.tree.proofs.pack.Tie as tie
+
+returns : tie.Need-returns
+unfolding pack
+returns c =
+    let d = c .before in
+    let o = d .before in
+    rw (c .flag2 .ensures .0, d .is-dependency .ensures, o .flag .ensures .0, o .before .is-optional .ensures)
+
+pub pack-spec : {M : Type 1} → statement M
+pack-spec =
+    tie.close
+    (tie.spec
+    (λ c κs. search needs)
+    (λ c κs. search needs)
+    (λ c κs. search needs)
+    (λ c κs. search needs)
+    (λ c. search needs)
+    (λ c. search needs)
+    (λ c. search needs)
+    (λ c. search needs)
+    (λ c. search needs)
+    (λ c. search needs)
+    returns)

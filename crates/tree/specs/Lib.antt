@@ -1,0 +1,4 @@
+pub mod Flat
+pub mod Words
+pub mod Walk
+pub mod Tree

@@ -1,0 +1,61 @@
+-- The walk of a candidate by flags that say at which levels the hoistable tree is NonNull.
+use Prim.Native.Nat.{ℕ, zero, suc, _+_, _/_, _%_, _≤_, _<_}
+use mathlib.Core.Path.{_≡_}
+use mathlib.Core.Bool.{Bool, false, _||_, cond}
+use mathlib.Core.List.{List, [], _∷_}
+use lib.ListN.{getD, set}
+use lib.Dec.{eqb}
+use Rattle.entries.specs.declared.DependencyPathEntry.{DependencyPathEntry}
+use Rattle.entries.specs.declared.PropertyAccessType.{PropertyAccessType}
+use Rattle.entries.specs.Path.{ReactiveScopeDependency}
+use Rattle.model.specs.Tree.{DependencyPosition, ended, stepTo, stepAccess}
+use Rattle.tree.specs.declared.Way.{Way}
+use Rattle.tree.specs.Words.{headAt, entryAt, parentIn, pack, positionsFrom}
+
+-- The flag of the next level: beyond the list it is false.
+abbrev pub firstFlag : List Bool → Bool
+firstFlag [] = false
+firstFlag (f ∷ fs) = f
+
+-- the flags of the levels behind it
+abbrev pub restFlags : List Bool → List Bool
+restFlags [] = []
+restFlags (f ∷ fs) = fs
+
+-- `walkEntries` with a flag for each level in the place of the hoistable tree
+abbrev pub walkBy : List Bool → DependencyPosition → List DependencyPathEntry → List DependencyPosition
+walkBy fs p [] = ended p ∷ []
+walkBy fs p (e ∷ es) = cond (firstFlag fs || e .optional) (p ∷ walkBy (restFlags fs) (stepTo e (stepAccess (firstFlag fs))) es) (ended p ∷ [])
+
+-- the n lowest bits of a number, the lowest first
+abbrev pub bitsOf : ℕ → ℕ → List Bool
+bitsOf zero x = []
+bitsOf (suc n) x = eqb (x % 2) 1 ∷ bitsOf n (x / 2)
+
+-- n entries from a place on, of 14 bytes each
+abbrev pub entriesFrom : List ℕ → ℕ → ℕ → List DependencyPathEntry
+entriesFrom s at zero = []
+entriesFrom s at (suc n) = entryAt s at ∷ entriesFrom s (at + 14) n
+
+-- the path whose fields stand at a place, after the mark; its head has 10 bytes
+unfoldable pub pathAt : List ℕ → ℕ → ReactiveScopeDependency
+pathAt s at = let head = headAt s at in record {
+  identifier = head .identifier;
+  reactive = head .reactive;
+  path = entriesFrom s (at + 10) (head .entries);
+  span = head .span;
+}
+
+-- the positions of a way down
+abbrev pub wayPositions : List ℕ → Way → List DependencyPosition
+wayPositions s way = positionsFrom s (way .words) 0 (way .depth)
+
+-- one position more, where its key and span stand at a place
+abbrev pub steppedTo : Way → ℕ → PropertyAccessType → Way
+steppedTo way place a = record { words = set (way .words) (way .depth) (pack (way .depth) place a); depth = way .depth + 1 }
+
+-- A way down of these positions, each with the number of the one before as its parent's.
+pub record Walks (s : List ℕ) (way : Way) (ss : List DependencyPosition) : Type 0 where
+  pub few : way .depth ≤ 17
+  pub is : wayPositions s way ≡ ss
+  pub parents : (j : ℕ) → j < way .depth → parentIn (getD (way .words) j 0) ≡ j
