@@ -10,17 +10,10 @@ use Rattle.model.specs.Read.{got, readMany}
 use Rattle.model.specs.Job.{CA, readPath}
 use Rattle.model.specs.Sets.{NodeSet}
 use Rattle.model.specs.Registry.{PropertyPathRegistry, fullPathOf}
-use Rattle.model.specs.RegistryLaws.{Sound}
 use Rattle.model.specs.Tree.{dependencyTree, deriveMinimalDependencies}
 use Rattle.model.specs.Answer.{u8, u16, flag, AN, DE, pathBytes, spanWidth, longestJob}
-use Rattle.registry.specs.Words.{registryOf, Sized}
 use Rattle.writer.specs.Writes.{Writes}
 use Rattle.tree.specs.Tree.{Held, forestOf}
-
--- The words hold a registry as its operations make it.
-pub record HoldsRegistry (ws : List ℕ) : Type 0 where
-  pub sized : Sized ws
-  pub sound : Sound (registryOf ws)
 
 -- These many candidates are read from a place on, and end within the longest length of a job.
 pub record CandidatesAt (s : List ℕ) (start count : ℕ) : Type 0 where

@@ -1,38 +1,22 @@
--- A candidate's walk by the list of its levels is its walk down the hoistable tree; and what a caller reads of the list's number.
+-- How many levels there are, and what a caller reads of their number.
 use Prim.Native.Nat.{ℕ, zero, suc, _/_, _%_, _^_}
 use native.Mathlib.Omega.{arith}
 use native.Mathlib.Nat.{pow-succ', div-one, zero-div, div-div-eq-div-mul}
 use mathlib.Core.Path.{_≡_, refl, sym, ap, _∙_}
-use mathlib.Core.Bool.{Bool, true, false, _||_, cond}
-use mathlib.Core.List.{List, [], _∷_, map}
+use mathlib.Core.Bool.{Bool, true, false, cond}
+use mathlib.Core.List.{List, [], _∷_}
 use mathlib.Core.Option.{Option}
 use lib.ListN.{length, getD}
 use lib.Dec.{eqb}
 use Rattle.entries.specs.declared.DependencyPathEntry.{DependencyPathEntry}
-use Rattle.entries.specs.Path.{ReactiveScopeDependency}
-use Rattle.model.specs.Sets.{NodeSet}
-use Rattle.model.specs.Registry.{PropertyPathRegistry, fullPathOf}
-use Rattle.model.specs.Forest.{identifierKey, propertyKey, Found, findKey, childByKey}
-use Rattle.model.specs.Tree.{HoistablePosition, hoistableKey, hoistableTree, atNonNull, DependencyPosition, ended, stepTo, stepAccess, walkEntries, rootPosition, walkCandidate}
-use Rattle.hoistable.specs.Levels.{levelsOf, nonNullLevels, firstLevel, laterLevels, walkBy, numberOf}
-
-pub walk-by : (h : Option (Found HoistablePosition)) (p : DependencyPosition) (es : List DependencyPathEntry) → walkEntries h p es ≡ walkBy (levelsOf h es) p es
-unfolding walkEntries walkBy levelsOf
-walk-by h p [] = refl
-walk-by h p (e ∷ es) =
-    ap (λ rest. cond (atNonNull h || e .optional) (p ∷ rest) (ended p ∷ []))
-    (walk-by (childByKey hoistableKey h (propertyKey (e .property))) (stepTo e (stepAccess (atNonNull h))) es)
+use Rattle.model.specs.Forest.{propertyKey, Found, childByKey}
+use Rattle.model.specs.Tree.{HoistablePosition, hoistableKey}
+use Rattle.hoistable.specs.Levels.{levelsOf, firstLevel, laterLevels, numberOf}
 
 pub levels-length : (h : Option (Found HoistablePosition)) (es : List DependencyPathEntry) → length (levelsOf h es) ≡ suc (length es)
 unfolding levelsOf
 levels-length h [] = refl
 levels-length h (e ∷ es) = ap suc (levels-length (childByKey hoistableKey h (propertyKey (e .property))) es)
-
--- the walk of a whole candidate
-pub walk-candidate : (reg : PropertyPathRegistry) (set : NodeSet) (c : ReactiveScopeDependency)
-    → walkCandidate (hoistableTree (map (fullPathOf reg) set)) c ≡ walkBy (nonNullLevels reg set (c .identifier) (c .path)) (rootPosition c) (c .path)
-unfolding walkCandidate nonNullLevels
-walk-candidate reg set c = walk-by (findKey hoistableKey (hoistableTree (map (fullPathOf reg) set)) (identifierKey (c .identifier))) (rootPosition c) (c .path)
 
 -- The lowest bit of a list's number is the first element, and half of it is the number of the others.
 

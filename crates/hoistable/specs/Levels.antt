@@ -1,7 +1,7 @@
 -- The levels of a candidate are its root and the positions after each of its entries. At which of them the hoistable tree is NonNull, as a list and as a
--- number, and a candidate's walk by that list.
+-- number.
 use Prim.Native.Nat.{ℕ, _+_, _*_}
-use mathlib.Core.Bool.{Bool, false, _||_, cond}
+use mathlib.Core.Bool.{Bool, false}
 use mathlib.Core.List.{List, [], _∷_, map}
 use mathlib.Core.Option.{Option}
 use Rattle.entries.specs.declared.IdentifierId.{IdentifierId}
@@ -10,7 +10,7 @@ use Rattle.model.specs.Answer.{flag}
 use Rattle.model.specs.Sets.{NodeSet}
 use Rattle.model.specs.Registry.{PropertyPathRegistry, fullPathOf}
 use Rattle.model.specs.Forest.{identifierKey, propertyKey, Found, findKey, childByKey}
-use Rattle.model.specs.Tree.{HoistablePosition, hoistableKey, hoistableTree, atNonNull, DependencyPosition, ended, stepTo, stepAccess}
+use Rattle.model.specs.Tree.{HoistablePosition, hoistableKey, hoistableTree, atNonNull}
 
 -- for each level from a position of the hoistable tree on, down the names of the entries: the tree has a position there, and it is NonNull
 unfoldable pub levelsOf : Option (Found HoistablePosition) → List DependencyPathEntry → List Bool
@@ -31,13 +31,6 @@ firstLevel (b ∷ bs) = b
 abbrev pub laterLevels : List Bool → List Bool
 laterLevels [] = []
 laterLevels (b ∷ bs) = bs
-
--- "Each candidate walks its entries: at a NonNull position plain; otherwise optional if its own entry is; otherwise it is cut there", by a list that says
--- which positions are NonNull. Beyond the list none is.
-unfoldable pub walkBy : List Bool → DependencyPosition → List DependencyPathEntry → List DependencyPosition
-walkBy bs p [] = ended p ∷ []
-walkBy bs p (e ∷ es) =
-    cond (firstLevel bs || e .optional) (p ∷ walkBy (laterLevels bs) (stepTo e (stepAccess (firstLevel bs))) es) (ended p ∷ [])
 
 -- a list as a number: bit j is 1 where element j is true
 unfoldable pub numberOf : List Bool → ℕ

@@ -87,7 +87,12 @@ pub record Sized (ws : List ℕ) : Type 0 where
   pub long : length ws ≡ 1537
   pub room : countIn ws ≤ nodeLimit
 
--- The words hold a registry as its operations make it, and the eight words `os` the set of its nodes with an optional entry.
+-- The words hold a registry as its operations make it.
+pub record HoldsRegistry (ws : List ℕ) : Type 0 where
+  pub sized : Sized ws
+  pub sound : Sound (registryOf ws)
+
+-- The same, and the eight words `os` hold the set of its nodes with an optional entry.
 pub record Held (ws os : List ℕ) : Type 0 where
   pub sized : Sized ws
   pub sound : Sound (registryOf ws)

@@ -18,12 +18,12 @@ use Rattle.model.specs.Answer.{numberBytes, flag, NO, parentNumber, originBytes
 use Rattle.registry.specs.declared.Node.{Node}
 use Rattle.registry.specs.declared.Node.the-variants.{Root, Child}
 use Rattle.registry.specs.Nodes.{originOf, nodeOver, nodesOver, registryFrom}
-use Rattle.registry.specs.Words.{spanIn, nodeAt, countIn, nodesOf, registryOf}
+use Rattle.registry.specs.Words.{spanIn, nodeAt, countIn, nodesOf, registryOf, HoldsRegistry}
 use Rattle.registry.proofs.Stored.{nodesOf-length, nodesOf-at}
 use Rattle.registry.proofs.View.{registry-length, origin-at}
 use Rattle.writer.proofs.Bytes.{number-length, step-length}
 use Rattle.sheet_bytes.specs.declared.PathRoot.{PathRoot}
-use Rattle.sheet_bytes.specs.Sheet.{HoldsRegistry, rootOf}
+use Rattle.sheet_bytes.specs.Sheet.{rootOf}
 
 -- Node k of the registry is node k of the words over the nodes before it.
 

@@ -10,17 +10,11 @@ use Rattle.model.specs.Job.{Job, idsOf}
 use Rattle.model.specs.Rounds.{Rounds}
 use Rattle.model.specs.Propagation.{Work}
 use Rattle.model.specs.Sets.{NodeSet}
-use Rattle.model.specs.RegistryLaws.{Sound}
 use Rattle.model.specs.Answer.{u8, u16, u32, flag, SH, SE, rowBytes, spanWidth, sheetBytes}
 use Rattle.rows.specs.Rows.{rowOf, rowsOf}
-use Rattle.registry.specs.Words.{registryOf, Sized}
+use Rattle.registry.specs.Words.{registryOf}
 use Rattle.writer.specs.Writes.{Writes}
 use Rattle.sheet_bytes.specs.declared.PathRoot.{PathRoot}
-
--- The words hold a registry as its operations make it.
-pub record HoldsRegistry (ws : List ℕ) : Type 0 where
-  pub sized : Sized ws
-  pub sound : Sound (registryOf ws)
 
 -- what a path has of its root
 abbrev pub rootOf : ReactiveScopeDependency → PathRoot

@@ -7,7 +7,8 @@ use denote.Ref.{now}
 use borrow.Author.Needs.{needs}
 use Rattle.writer.proofs.Bytes.{writes-length, room-after}
 use Rattle.sheet_bytes.specs.Sheet.{blocksBytes}
-use Rattle.sheet_bytes.proofs.Coming.{Coming, coming-start, coming-more, coming-end}
+use Rattle.writer.proofs.Bytes.{Coming}
+use Rattle.sheet_bytes.proofs.Coming.{coming-start, coming-more, coming-end}
 use Rattle.sheet_bytes.proofs.Blocks.{block-length, blocks-more, blocks-over}
 use Rattle.sheet_bytes.proofs.put_blocks.Statement.{statement}
 use Rattle.sheet_bytes.proofs.put_blocks.Tie as tie

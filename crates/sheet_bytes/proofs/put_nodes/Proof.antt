@@ -10,7 +10,8 @@ use Rattle.model.specs.Answer.{nodeBytes}
 use Rattle.registry.specs.Words.{registryOf}
 use Rattle.registry.proofs.View.{registry-length}
 use Rattle.writer.proofs.Bytes.{writes-length, room-after}
-use Rattle.sheet_bytes.proofs.Coming.{Coming, coming-start, coming-more, coming-end}
+use Rattle.writer.proofs.Bytes.{Coming}
+use Rattle.sheet_bytes.proofs.Coming.{coming-start, coming-more, coming-end}
 use Rattle.sheet_bytes.proofs.Nodes.{node-length, nodes-more, nodes-over}
 use Rattle.sheet_bytes.proofs.put_nodes.Statement.{statement}
 use Rattle.sheet_bytes.proofs.put_nodes.Tie as tie

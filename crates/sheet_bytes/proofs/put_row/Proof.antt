@@ -7,7 +7,8 @@ use borrow.Author.Needs.{needs}
 use Rattle.model.specs.Answer.{rowBytes}
 use Rattle.rows.specs.Rows.{rowOf}
 use Rattle.writer.proofs.Bytes.{number-length, writes-length, room-after}
-use Rattle.sheet_bytes.proofs.Coming.{Coming, coming-start, coming-more, coming-end}
+use Rattle.writer.proofs.Bytes.{Coming}
+use Rattle.sheet_bytes.proofs.Coming.{coming-start, coming-more, coming-end}
 use Rattle.sheet_bytes.proofs.Bits.{row-more, row-over}
 use Rattle.sheet_bytes.proofs.put_row.Statement.{statement}
 use Rattle.sheet_bytes.proofs.put_row.Tie as tie
