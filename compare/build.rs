@@ -1,5 +1,5 @@
 //! Cuts the items of the Rust source that the oracle runs, and makes the two
-//! edits that the specification asks for.
+//! edits that the specification asks for. Links the stage's library where it is.
 
 #[path = "src/cutter.rs"]
 mod cutter;
@@ -11,6 +11,9 @@ const VARIABLE: &str = "SCOPE_DEPS_REFERENCE";
 const DEFAULT_PLACE: &str = "../../shared/docs/src";
 const STAGE: &str = "src/react_compiler_inference/propagate_scope_dependencies_hir.rs";
 const TYPES: &str = "src/react_compiler_hir/mod.rs";
+
+const LIBRARY_VARIABLE: &str = "SCOPE_DEPS_LIBRARY";
+const DEFAULT_LIBRARY: &str = "../target/staticlib/libstage.a";
 
 /// Items of the types file.
 const TYPE_ITEMS: &[&str] = &[
@@ -52,6 +55,7 @@ const STAGE_ITEMS: &[&str] = &[
 ];
 
 fn main() {
+    link_library();
     println!("cargo::rustc-check-cfg=cfg(reference)");
     println!("cargo::rerun-if-env-changed={VARIABLE}");
     println!("cargo::rerun-if-changed=build.rs");
@@ -59,13 +63,54 @@ fn main() {
     match read_sources() {
         Ok((types, stage)) => {
             let text = cut_all(&types, &stage).unwrap_or_else(|why| fail(&why));
-            let out = PathBuf::from(env::var("OUT_DIR").expect("cargo sets OUT_DIR"));
-            fs::write(out.join("cut.rs"), text).unwrap_or_else(|why| fail(&why.to_string()));
+            fs::write(out_dir().join("cut.rs"), text).unwrap_or_else(|why| fail(&why.to_string()));
             println!("cargo::rustc-cfg=reference");
             println!("cargo::rustc-env=REFERENCE_ABSENT=");
         }
         Err(why) => println!("cargo::rustc-env=REFERENCE_ABSENT={why}"),
     }
+}
+
+/// Links the stage's library, or notes why it cannot be called.
+fn link_library() {
+    println!("cargo::rustc-check-cfg=cfg(library)");
+    println!("cargo::rerun-if-env-changed={LIBRARY_VARIABLE}");
+    let (file, place) = match env::var_os(LIBRARY_VARIABLE).filter(|value| !value.is_empty()) {
+        Some(file) => (PathBuf::from(file), format!("where {LIBRARY_VARIABLE} points")),
+        None => {
+            let default = "at target/staticlib/libstage.a (`rt staticlib stage` writes it)";
+            (PathBuf::from(DEFAULT_LIBRARY), format!("{default}, and {LIBRARY_VARIABLE} is not set"))
+        }
+    };
+    println!("cargo::rerun-if-changed={}", watched(&file).display());
+    let absent = if !file.is_file() {
+        format!("the stage's library is not {place}")
+    } else if env::var("CARGO_CFG_TARGET_ARCH").is_ok_and(|arch| arch != "x86_64") {
+        "the stage's library is for x86-64".to_string()
+    } else {
+        let copy = out_dir().join("libscope_deps.a");
+        fs::copy(&file, &copy).unwrap_or_else(|why| {
+            println!("cargo::error=the stage's library cannot be read {place}: {why}");
+            std::process::exit(1)
+        });
+        println!("cargo::rustc-cfg=library");
+        println!("cargo::rustc-link-search=native={}", out_dir().display());
+        println!("cargo::rustc-link-lib=static=scope_deps");
+        println!("cargo::rustc-env=LIBRARY_FILE={}", copy.display());
+        String::new()
+    };
+    println!("cargo::rustc-env=LIBRARY_ABSENT={absent}");
+}
+
+/// The file, or where it is absent the nearest directory in which it would appear:
+/// cargo builds anew each time where a watched file is absent.
+fn watched(file: &Path) -> &Path {
+    let above = file.ancestors().take(3);
+    above.into_iter().find(|path| path.exists() && !path.as_os_str().is_empty()).unwrap_or(file)
+}
+
+fn out_dir() -> PathBuf {
+    PathBuf::from(env::var("OUT_DIR").expect("cargo sets OUT_DIR"))
 }
 
 /// Stops the build with one line.

@@ -1,14 +1,20 @@
 //! Runs the Rust source of the scope-dependency stage as an oracle.
 
 pub mod arena;
+#[cfg(all(library, reference))]
+pub mod bench;
 pub mod check;
+pub mod comparison;
 pub mod cover;
 pub mod cutter;
 pub mod fx;
 pub mod generate;
 pub mod hir;
 pub mod job;
+pub mod library;
 pub mod list;
+#[cfg(target_arch = "x86_64")]
+pub mod memory;
 pub mod oracle;
 pub mod output;
 pub mod prng;
@@ -18,3 +24,4 @@ pub mod reader;
 pub mod reference;
 pub mod rounds;
 pub mod store;
+pub mod worst;

@@ -1,6 +1,10 @@
 //! The command line. `compare/oracle` builds this program and runs it.
 
-use compare::generate::{class_names, generate};
+mod commands;
+
+use commands::options::{Options, generated};
+use commands::{Failure, failed, misused};
+use compare::generate::generate;
 use compare::job::limits;
 use compare::list::{Record, read_list};
 use compare::oracle::{Oracle, Said, program_bytes};
@@ -10,32 +14,6 @@ use std::fs::{self, File};
 use std::io::{self, BufWriter, Read, Write};
 use std::path::PathBuf;
 use std::process::ExitCode;
-
-const USAGE: &str = "\
-usage: compare/oracle answer                a job on standard input; writes its answer
-       compare/oracle sheet                 the same; writes its sheet
-       compare/oracle check                 replays compare/stored/jobs.bin
-       compare/oracle store                 makes compare/stored/jobs.bin and index.txt anew
-       compare/oracle generate --seed S --count N [--class C] [--max-bytes B] [--out FILE]
-                                            writes generated jobs with their answers and sheets";
-
-/// What went wrong, and the exit code for it.
-struct Failure {
-    code: u8,
-    message: String,
-}
-
-fn failed(message: impl Into<String>) -> Failure {
-    Failure { code: 1, message: message.into() }
-}
-
-fn misused(message: impl Into<String>) -> Failure {
-    Failure { code: 2, message: format!("{}\n{}", message.into(), usage()) }
-}
-
-fn usage() -> String {
-    format!("{USAGE}\nclasses: {}", class_names().collect::<Vec<_>>().join(" "))
-}
 
 fn main() -> ExitCode {
     let words: Vec<String> = std::env::args().skip(1).collect();
@@ -55,8 +33,11 @@ fn run(words: &[String]) -> Result<(), Failure> {
         ["sheet"] => one_job(|oracle, job| oracle.sheet(job, limits::OUT_BYTES)),
         ["check"] => check_stored(),
         ["store"] => make_stored(),
-        ["generate", ref options @ ..] => generate_list(&Options::read(options)?),
-        [command @ ("answer" | "sheet" | "check" | "store"), extra, ..] => {
+        ["generate", ref options @ ..] => generate_list(&generated(options)?),
+        ["compare", ref options @ ..] => commands::compare::run(options),
+        ["memory"] => commands::memory::run(),
+        ["bench", ref options @ ..] => commands::bench::run(options),
+        [command @ ("answer" | "sheet" | "check" | "store" | "memory"), extra, ..] => {
             Err(misused(format!("`{command}` takes nothing more, but `{extra}` follows")))
         }
         [] => Err(misused("a command is missing")),
@@ -127,47 +108,6 @@ fn make_stored() -> Result<(), Failure> {
     Ok(())
 }
 
-#[derive(Default)]
-struct Options {
-    seed: u64,
-    count: usize,
-    class: Option<String>,
-    max_bytes: Option<usize>,
-    out: Option<String>,
-}
-
-impl Options {
-    fn read(words: &[&str]) -> Result<Self, Failure> {
-        let mut options = Self::default();
-        let (mut seed, mut count) = (None, None);
-        for pair in words.chunks(2) {
-            let [name, value] = *pair else {
-                return Err(misused(format!("a value is missing after `{}`", pair[0])));
-            };
-            match name {
-                "--seed" => seed = Some(number(name, value)?),
-                "--count" => count = Some(number(name, value)? as usize),
-                "--class" => options.class = Some(class(value)?),
-                "--max-bytes" => options.max_bytes = Some(number(name, value)? as usize),
-                "--out" => options.out = Some(value.to_string()),
-                _ => return Err(misused(format!("`{name}` is no option of `generate`"))),
-            }
-        }
-        options.seed = seed.ok_or_else(|| misused("`generate` needs --seed"))?;
-        options.count = count.ok_or_else(|| misused("`generate` needs --count"))?;
-        Ok(options)
-    }
-}
-
-fn number(name: &str, value: &str) -> Result<u64, Failure> {
-    value.parse().map_err(|_| misused(format!("`{value}` after {name} is no number from 0 upward")))
-}
-
-fn class(name: &str) -> Result<String, Failure> {
-    let known = class_names().any(|class| class == name);
-    if known { Ok(name.to_string()) } else { Err(misused(format!("`{name}` is no class"))) }
-}
-
 fn generate_list(options: &Options) -> Result<(), Failure> {
     let mut oracle = open("the generator's comparison with the Rust")?;
     match &options.out {
@@ -194,13 +134,16 @@ fn generate_records(
     oracle: &mut Oracle,
     mut write: impl FnMut(&Record) -> Result<(), Failure>,
 ) -> Result<(), Failure> {
-    let mut progress = Progress::new("jobs generated", options.count);
+    let (Some(seed), Some(count)) = (options.seed, options.count) else {
+        unreachable!("`generate` needs both");
+    };
+    let mut progress = Progress::new("jobs generated", count);
     let (mut done, mut passed_over) = (0, 0);
     for tried in 0.. {
-        if done == options.count {
+        if done == count {
             break;
         }
-        let generated = generate(options.seed, tried, options.class.as_deref());
+        let generated = generate(seed, tried, options.class.as_deref());
         if options.max_bytes.is_some_and(|most| generated.job.len() > most) {
             passed_over += 1;
             if passed_over == MOST_PASSED_OVER {

@@ -71,15 +71,17 @@ impl Oracle {
     pub fn answer(&mut self, bytes: &[u8], out_len: usize) -> Said {
         let job = read_job(bytes, out_len)?;
         self.alloc.reset();
-        let propagated = reference::propagate(&job, &self.alloc);
+        let prepared = reference::prepare(&job, &self.alloc);
+        let propagated = reference::propagate(&prepared, &self.alloc);
         refuse_too_many_nodes(&propagated)?;
-        Ok(answer_bytes(&job, &propagated, &self.alloc))
+        Ok(answer_bytes(prepared, &propagated, &self.alloc))
     }
 
     pub fn sheet(&mut self, bytes: &[u8], out_len: usize) -> Said {
         let job = read_job(bytes, out_len)?;
         self.alloc.reset();
-        let propagated = reference::propagate(&job, &self.alloc);
+        let prepared = reference::prepare(&job, &self.alloc);
+        let propagated = reference::propagate(&prepared, &self.alloc);
         refuse_too_many_nodes(&propagated)?;
         Ok(sheet_bytes(&job, &propagated))
     }
@@ -91,7 +93,8 @@ impl Oracle {
             Err(number) => return Both { answer: Err(number), sheet: Err(number), counts: None },
         };
         self.alloc.reset();
-        let propagated = reference::propagate(&job, &self.alloc);
+        let prepared = reference::prepare(&job, &self.alloc);
+        let propagated = reference::propagate(&prepared, &self.alloc);
         let counts = Some(Counts {
             rounds: propagated.rounds.run,
             settled: propagated.rounds.settled,
@@ -100,7 +103,7 @@ impl Oracle {
         });
         match refuse_too_many_nodes(&propagated) {
             Ok(()) => Both {
-                answer: Ok(answer_bytes(&job, &propagated, &self.alloc)),
+                answer: Ok(answer_bytes(prepared, &propagated, &self.alloc)),
                 sheet: Ok(sheet_bytes(&job, &propagated)),
                 counts,
             },
@@ -114,7 +117,7 @@ use crate::{
     arena::Allocator,
     job::{Job, limits},
     reader::{TOO_MANY_NODES, read_job},
-    reference::{self, Propagated},
+    reference::{self, Prepared, Propagated},
 };
 
 #[cfg(reference)]
@@ -123,9 +126,9 @@ fn refuse_too_many_nodes(propagated: &Propagated) -> Result<(), Refusal> {
 }
 
 #[cfg(reference)]
-fn answer_bytes<'a>(job: &Job, propagated: &Propagated<'a>, alloc: &'a Allocator) -> Vec<u8> {
+fn answer_bytes<'a>(prepared: Prepared<'a>, propagated: &Propagated<'a>, alloc: &'a Allocator) -> Vec<u8> {
     let mut out = Vec::with_capacity(limits::OUT_BYTES);
-    reference::put_answer(&mut out, &reference::derive(job, propagated, alloc), propagated);
+    reference::put_answer(&mut out, &reference::derive(prepared, propagated, alloc), propagated);
     out
 }
 

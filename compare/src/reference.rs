@@ -41,28 +41,45 @@ impl Propagated<'_> {
     }
 }
 
+/// A job in the types of the Rust source, made before the stage runs on it.
+pub struct Prepared<'a> {
+    assumed: Vec<(BlockId, Vec<ReactiveScopeDependency<'a>>)>,
+    function: HirFunction<'a>,
+    scope: u32,
+    candidates: Vec<ReactiveScopeDependency<'a>>,
+}
+
+pub fn prepare<'a>(job: &Job, alloc: &'a Allocator) -> Prepared<'a> {
+    let dependencies = |paths: &[Path]| paths.iter().map(|path| dependency(path, alloc)).collect();
+    Prepared {
+        assumed: job.blocks.iter().map(|block| (BlockId(block.id), dependencies(&block.assumed))).collect(),
+        function: function(job, alloc),
+        scope: job.scope,
+        candidates: dependencies(&job.candidates),
+    }
+}
+
 /// Enters all assumed paths in job order and propagates them.
-pub fn propagate<'a>(job: &Job, alloc: &'a Allocator) -> Propagated<'a> {
+pub fn propagate<'a>(prepared: &Prepared<'a>, alloc: &'a Allocator) -> Propagated<'a> {
     let mut registry = PropertyPathRegistry::new(alloc);
-    let infos = enter_assumed_paths(job, &mut registry, alloc);
+    let infos = enter_assumed_paths(prepared, &mut registry);
     let entered = registry.nodes.len();
     rounds::clear();
-    let sets = propagate_non_null(&function(job, alloc), &infos, &mut registry);
+    let sets = propagate_non_null(&prepared.function, &infos, &mut registry);
     Propagated { registry, sets, entered, rounds: rounds::read() }
 }
 
 fn enter_assumed_paths<'a>(
-    job: &Job,
+    prepared: &Prepared<'a>,
     registry: &mut PropertyPathRegistry<'a>,
-    alloc: &'a Allocator,
 ) -> FxHashMap<BlockId, BlockInfo> {
     let mut infos = FxHashMap::default();
-    for block in &job.blocks {
+    for (block, assumed) in &prepared.assumed {
         let mut set = BTreeSet::new();
-        for path in &block.assumed {
-            set.insert(registry.get_or_create_property(&dependency(path, alloc)));
+        for path in assumed {
+            set.insert(registry.get_or_create_property(path));
         }
-        infos.insert(BlockId(block.id), BlockInfo { assumed_non_null_objects: set });
+        infos.insert(*block, BlockInfo { assumed_non_null_objects: set });
     }
     infos
 }
@@ -79,15 +96,15 @@ fn function<'a>(job: &Job, alloc: &'a Allocator) -> HirFunction<'a> {
 
 /// The minimal dependencies of the job's candidates.
 pub fn derive<'a>(
-    job: &Job,
+    prepared: Prepared<'a>,
     propagated: &Propagated<'a>,
     alloc: &'a Allocator,
 ) -> Vec<ReactiveScopeDependency<'a>> {
     let nodes = &propagated.registry.nodes;
-    let hoistables = propagated.set(job.scope).iter().map(|&idx| &nodes[idx].full_path);
+    let hoistables = propagated.set(prepared.scope).iter().map(|&idx| &nodes[idx].full_path);
     let mut tree = ReactiveScopeDependencyTreeHIR::new(hoistables);
-    for candidate in &job.candidates {
-        tree.add_dependency(dependency(candidate, alloc));
+    for candidate in prepared.candidates {
+        tree.add_dependency(candidate);
     }
     tree.derive_minimal_dependencies(alloc)
 }

@@ -38,6 +38,13 @@ fn bad_words_get_a_message_and_the_usage() {
     misused(&["generate", "--seed", "1", "--count", "-1"], "`-1` after --count");
     misused(&["generate", "--seed", "1", "--count", "1", "--class", "none"], "`none` is no class");
     misused(&["generate", "--bogus", "1"], "`--bogus` is no option");
+    misused(&["compare"], "--seed");
+    misused(&["compare", "--seed", "1"], "--count or --seconds");
+    misused(&["compare", "--seed", "1", "--count", "1", "--class", "none"], "`none` is no class");
+    misused(&["compare", "--out", "x"], "`--out` is no option of `compare`");
+    misused(&["memory", "more"], "`more` follows");
+    misused(&["bench", "--count", "1"], "`--count` is no option of `bench`");
+    misused(&["bench", "--repeat", "some"], "`some` after --repeat");
 }
 
 #[test]
@@ -46,6 +53,39 @@ fn the_stored_list_is_replayed() {
     let message = String::from_utf8(output.stdout).unwrap();
     assert!(output.status.success(), "{}", String::from_utf8_lossy(&output.stderr));
     assert!(message.starts_with("stored jobs: "), "{message}");
+}
+
+#[test]
+fn the_library_is_compared_or_one_line_says_why_not() {
+    let output = run(&["compare", "--seed", "1", "--count", "200"], b"");
+    let message = String::from_utf8(output.stdout).unwrap();
+    assert!(output.status.success(), "{}", String::from_utf8_lossy(&output.stderr));
+    if cfg!(all(library, reference)) {
+        assert!(message.contains("200 generated jobs of seed 1 agree with the Rust"), "{message}");
+    } else {
+        assert!(message.contains("did not run") && message.lines().count() == 1, "{message}");
+    }
+}
+
+#[test]
+fn the_librarys_memory_is_measured_or_one_line_says_why_not() {
+    let output = run(&["memory"], b"");
+    let message = String::from_utf8(output.stdout).unwrap();
+    assert!(output.status.success(), "{}", String::from_utf8_lossy(&output.stderr));
+    if cfg!(library) {
+        assert!(message.contains("the most of all"), "{message}");
+    } else {
+        assert!(message.contains("not measured") && message.lines().count() == 1, "{message}");
+    }
+}
+
+#[cfg(not(all(library, reference)))]
+#[test]
+fn without_the_library_or_the_rust_nothing_is_timed() {
+    let output = run(&["bench"], b"");
+    let message = String::from_utf8(output.stdout).unwrap();
+    assert!(output.status.success());
+    assert!(message.contains("nothing was timed") && message.lines().count() == 1, "{message}");
 }
 
 #[cfg(not(reference))]

@@ -79,11 +79,16 @@ impl Words {
 pub fn job_size(prng: &mut Prng) -> Vec<u8> {
     let goal =
         prng.pick(&[limits::JOB_BYTES - 1, limits::JOB_BYTES, limits::JOB_BYTES, limits::JOB_BYTES + 1]);
+    of_size(goal, || prng.below(3) as u32)
+}
+
+/// A job of exactly `goal` bytes, with one block.
+pub fn of_size(goal: usize, mut identifier: impl FnMut() -> u32) -> Vec<u8> {
     let mut only = block(1);
     let mut left = goal - 18;
     while let Some(length) = fitting_entries(left) {
         left -= 12 + 14 * length;
-        only.assumed.push(Path { identifier: prng.below(3) as u32, ..path(length) });
+        only.assumed.push(Path { identifier: identifier(), ..path(length) });
     }
     let mut bytes = Job { scope: 1, blocks: vec![only], candidates: vec![] }.to_bytes();
     // What no record can fill is left over after the job.

@@ -57,7 +57,7 @@ fn path(identifier: u32, length: usize, optional: bool) -> Path {
 }
 
 /// A ladder of `steps` steps that is climbed `climbs` times.
-fn of(identifier: u32, steps: usize, climbs: usize) -> Job {
+pub fn of(identifier: u32, steps: usize, climbs: usize) -> Job {
     // The highest step has the lowest id and comes first in the job.
     let high = |k: usize| 2 * (steps - k) as u32;
     let low = |k: usize| high(k) + 1;

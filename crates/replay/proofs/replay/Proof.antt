@@ -1,7 +1,7 @@
 -- No contract speaks of what is read or written. The loop ends since its turns count down.
 use borrow.Author.Needs.{needs}
-use Rattle.reader_replay.proofs.replay.Statement.{statement}
-use Rattle.reader_replay.proofs.replay.Tie as tie
+use Rattle.replay.proofs.replay.Statement.{statement}
+use Rattle.replay.proofs.replay.Tie as tie
 
 abbrev Inv-loop : tie.InvT-loop
 Inv-loop t₀ turns₀ t turns = Unit

@@ -1,0 +1,148 @@
+//! Times the library and the Rust on the same jobs, in one process.
+
+pub mod classes;
+pub mod plot;
+
+use crate::arena::Allocator;
+use crate::job::limits;
+use crate::library::interface;
+use crate::reader::{UNKNOWN_BLOCK, read_job};
+use crate::reference;
+use std::hint::black_box;
+use std::time::{Duration, Instant};
+
+/// Times of one job in nanoseconds, each the least of all repetitions.
+#[derive(Debug, Clone, Copy)]
+pub struct Times {
+    /// The library's whole call, from the bytes of the job to those of the answer.
+    pub library: f64,
+    /// The library's reading of the job, refusals 1 to 8 included.
+    pub library_reading: f64,
+    /// The Rust's registry, propagation and tree, and the freeing of what they made.
+    pub rust_stage: f64,
+    /// The harness's reading of the job, and its writing of the answer.
+    pub rust_reading: f64,
+    pub rust_writing: f64,
+}
+
+impl Times {
+    const NONE: Self = Self {
+        library: f64::INFINITY,
+        library_reading: f64::INFINITY,
+        rust_stage: f64::INFINITY,
+        rust_reading: f64::INFINITY,
+        rust_writing: f64::INFINITY,
+    };
+
+    pub fn rust(&self) -> f64 {
+        self.rust_reading + self.rust_stage + self.rust_writing
+    }
+
+    fn least(&mut self, other: Self) {
+        self.library = self.library.min(other.library);
+        self.library_reading = self.library_reading.min(other.library_reading);
+        self.rust_stage = self.rust_stage.min(other.rust_stage);
+        self.rust_reading = self.rust_reading.min(other.rust_reading);
+        self.rust_writing = self.rust_writing.min(other.rust_writing);
+    }
+
+    /// The mean of the times of some jobs.
+    pub fn mean(all: &[Self]) -> Self {
+        let mean = |of: fn(&Self) -> f64| all.iter().map(of).sum::<f64>() / all.len() as f64;
+        Self {
+            library: mean(|times| times.library),
+            library_reading: mean(|times| times.library_reading),
+            rust_stage: mean(|times| times.rust_stage),
+            rust_reading: mean(|times| times.rust_reading),
+            rust_writing: mean(|times| times.rust_writing),
+        }
+    }
+}
+
+/// Times jobs. Arena and buffers are kept from one job to the next.
+pub struct Timer {
+    alloc: Allocator,
+    out: Vec<u8>,
+    repeat: usize,
+}
+
+/// A job that takes long is repeated less often.
+const MOST_TIME: Duration = Duration::from_millis(1500);
+
+impl Timer {
+    pub fn new(repeat: usize) -> Self {
+        Self { alloc: Allocator::default(), out: vec![0; limits::OUT_BYTES], repeat }
+    }
+
+    /// The times of an accepted job.
+    pub fn time(&mut self, job: &[u8]) -> Times {
+        let unread = with_unknown_scope(job);
+        let (mut least, started) = (Times::NONE, Instant::now());
+        for done in 0..self.repeat.max(1) {
+            if done > 1 && started.elapsed() > MOST_TIME {
+                break;
+            }
+            least.least(self.time_once(job, &unread));
+        }
+        least
+    }
+
+    fn time_once(&mut self, job: &[u8], unread: &[u8]) -> Times {
+        let (rust_stage, rust_reading, rust_writing) = self.time_rust(job);
+        let library = self.time_library(job);
+        let library_reading = self.time_library(unread);
+        Times { library, library_reading, rust_stage, rust_reading, rust_writing }
+    }
+
+    /// The library's answer of a job.
+    pub fn time_library(&mut self, job: &[u8]) -> f64 {
+        let start = Instant::now();
+        let _ = black_box(interface::answer(black_box(job), &mut self.out));
+        nanoseconds(start.elapsed())
+    }
+
+    fn time_rust(&mut self, bytes: &[u8]) -> (f64, f64, f64) {
+        self.alloc.reset();
+        self.out.clear();
+        let start = Instant::now();
+        let job = read_job(black_box(bytes), limits::OUT_BYTES).expect("the job is accepted");
+        let read = Instant::now();
+        // The harness's own change of types is not counted.
+        let prepared = black_box(reference::prepare(&job, &self.alloc));
+        let prepared_at = Instant::now();
+        let propagated = reference::propagate(&prepared, &self.alloc);
+        let returned = reference::derive(prepared, &propagated, &self.alloc);
+        let derived = Instant::now();
+        reference::put_answer(&mut self.out, &returned, &propagated);
+        let written = Instant::now();
+        drop(propagated);
+        let freed = Instant::now();
+        black_box(&self.out);
+        self.out.resize(limits::OUT_BYTES, 0);
+        let stage = (derived - prepared_at) + (freed - written);
+        (nanoseconds(stage), nanoseconds(read - start), nanoseconds(written - derived))
+    }
+}
+
+fn nanoseconds(time: Duration) -> f64 {
+    time.as_nanos() as f64
+}
+
+/// The same job with a scope block that is no block of it. It is read to its end, all
+/// its ids are looked at, and then it is refused.
+fn with_unknown_scope(job: &[u8]) -> Vec<u8> {
+    let mut bytes = job.to_vec();
+    for scope in (0..=u32::MAX).rev() {
+        bytes[6..10].copy_from_slice(&scope.to_le_bytes());
+        if read_job(&bytes, limits::OUT_BYTES) == Err(UNKNOWN_BLOCK) {
+            break;
+        }
+    }
+    bytes
+}
+
+/// The number whose power by the count is the product.
+pub fn geometric_mean(numbers: impl IntoIterator<Item = f64>) -> f64 {
+    let logarithms: Vec<f64> = numbers.into_iter().map(f64::ln).collect();
+    (logarithms.iter().sum::<f64>() / logarithms.len() as f64).exp()
+}

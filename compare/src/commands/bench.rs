@@ -1,0 +1,107 @@
+//! `bench`: the times of the library and of the Rust.
+
+use super::Failure;
+use super::options::Options;
+use compare::{library, oracle};
+
+pub fn run(words: &[&str]) -> Result<(), Failure> {
+    let options = Options::read("bench", &["--seed", "--repeat", "--plot"], words)?;
+    if let Some(why) = oracle::absent().or(library::absent()) {
+        println!("bench: nothing was timed: {why}");
+        return Ok(());
+    }
+    #[cfg(all(library, reference))]
+    timing::run(&options)?;
+    #[cfg(not(all(library, reference)))]
+    drop(options);
+    Ok(())
+}
+
+#[cfg(all(library, reference))]
+mod timing {
+    use crate::commands::options::Options;
+    use crate::commands::{Failure, failed};
+    use compare::bench::classes::{classes, slow_jobs, spread};
+    use compare::bench::{Timer, Times, geometric_mean, plot};
+    use compare::job::limits;
+    use compare::oracle::Oracle;
+    use compare::progress::Progress;
+    use std::fs;
+
+    const SEED: u64 = 20_261_115;
+    const REPEAT: usize = 15;
+    const EACH: usize = 60;
+    const SPREAD: usize = 300;
+
+    /// The size of a job in bytes, and its times.
+    type Timed = (usize, Times);
+
+    pub fn run(options: &Options) -> Result<(), Failure> {
+        let mut oracle = Oracle::open().map_err(failed)?;
+        let mut accepted = |job: &[u8]| oracle.answer(job, limits::OUT_BYTES).is_ok();
+        let seed = options.seed.unwrap_or(SEED);
+        let mut timer = Timer::new(options.repeat.unwrap_or(REPEAT));
+        println!(
+            "{:<22} {:>9} {:>10} {:>10} {:>11} {:>10} {:>7} {:>7}",
+            "microseconds per job", "bytes", "library", "(reading)", "Rust stage", "Rust all", "stage", "all"
+        );
+        let (mut ratios, mut all) = (Vec::new(), Vec::new());
+        for class in classes(seed, EACH, &mut accepted) {
+            let timed = time_jobs(&mut timer, class.name, &class.jobs);
+            ratios.push(row(class.name, &timed));
+            all.extend(timed);
+        }
+        let (name, job) = slowest(&mut timer, &mut accepted);
+        let timed = time_jobs(&mut timer, "slowest found", &[job]);
+        ratios.push(row("slowest found", &timed));
+        all.extend(timed);
+        let mean = |of: fn(&[f64; 2]) -> f64| geometric_mean(ratios.iter().map(of));
+        println!("{:<76} {:>7.1} {:>7.1}", "geometric mean of the classes", mean(|r| r[0]), mean(|r| r[1]));
+        println!("the slowest job found: {name}");
+        if let Some(file) = &options.plot {
+            all.extend(time_jobs(
+                &mut timer,
+                "further jobs for the plot",
+                &spread(seed, SPREAD, &mut accepted),
+            ));
+            fs::write(file, plot::svg(&all))
+                .map_err(|why| failed(format!("{file} cannot be written: {why}")))?;
+            println!("the plot of {} jobs is in {file}", all.len());
+        }
+        Ok(())
+    }
+
+    fn time_jobs(timer: &mut Timer, what: &'static str, jobs: &[Vec<u8>]) -> Vec<Timed> {
+        let mut progress = Progress::new(what, jobs.len());
+        let time = |(done, job): (usize, &Vec<u8>)| {
+            progress.show(done);
+            (job.len(), timer.time(job))
+        };
+        jobs.iter().enumerate().map(time).collect()
+    }
+
+    /// Prints the mean times of a class, and gives its two ratios.
+    fn row(name: &str, timed: &[Timed]) -> [f64; 2] {
+        let bytes = timed.iter().map(|(bytes, _)| bytes).sum::<usize>() / timed.len();
+        let times = Times::mean(&timed.iter().map(|(_, times)| *times).collect::<Vec<_>>());
+        let ratios = [times.rust_stage / times.library, times.rust() / times.library];
+        let [library, reading, stage, all] =
+            [times.library, times.library_reading, times.rust_stage, times.rust()].map(|time| time / 1000.0);
+        println!(
+            "{name:<22} {bytes:>9} {library:>10.2} {reading:>10.2} {stage:>11.2} {all:>10.2} {:>7.1} {:>7.1}",
+            ratios[0], ratios[1]
+        );
+        ratios
+    }
+
+    /// The job for which the library takes longest, of those tried.
+    fn slowest(timer: &mut Timer, mut accepted: impl FnMut(&[u8]) -> bool) -> (String, Vec<u8>) {
+        let jobs = slow_jobs().into_iter().filter(|(_, job)| accepted(job));
+        let timed = jobs.map(|(name, job)| {
+            let time = (0..3).map(|_| timer.time_library(&job)).fold(f64::INFINITY, f64::min);
+            (time, name, job)
+        });
+        let slowest = timed.max_by(|a, b| a.0.total_cmp(&b.0)).expect("some job is accepted");
+        (slowest.1, slowest.2)
+    }
+}

@@ -1,0 +1,111 @@
+//! Runs of a comparison: over the fixed list, and over generated jobs.
+
+use super::Comparison;
+use super::fixed;
+use crate::generate::generate;
+use std::collections::BTreeMap;
+use std::time::{Duration, Instant};
+
+/// A job on which the two differ, and a name for a file to keep it in.
+#[derive(Debug)]
+pub struct Mismatch {
+    pub what: String,
+    pub file: String,
+    pub job: Vec<u8>,
+}
+
+/// Compares all jobs of the fixed list, and gives their number.
+pub fn fixed_jobs(comparison: &mut Comparison) -> Result<usize, Mismatch> {
+    let list = fixed::list();
+    for (number, fixed) in list.iter().enumerate() {
+        comparison.compare(&fixed.job, fixed.out_len).map_err(|why| Mismatch {
+            what: format!("fixed job {number}, {}, out buffer of {} bytes: {why}", fixed.name, fixed.out_len),
+            file: format!("mismatch-fixed-{number}.job"),
+            job: fixed.job.clone(),
+        })?;
+    }
+    Ok(list.len())
+}
+
+/// Which generated jobs are compared.
+pub struct Generated<'o> {
+    pub seed: u64,
+    /// The number of the first job.
+    pub first: u64,
+    pub count: usize,
+    pub time: Option<Duration>,
+    pub class: Option<&'o str>,
+}
+
+/// Classes whose jobs take long. Where no class is asked for, only those whose number
+/// is divisible by `KEPT` are compared.
+const LONG: [&str; 4] = ["many-blocks", "ladder", "nodes-entered", "nodes-reduced"];
+const KEPT: u64 = 4;
+
+/// Compares generated jobs and says now and then how far it is.
+pub fn generated_jobs(comparison: &mut Comparison, asked: &Generated) -> Result<Tally, Mismatch> {
+    let (started, mut shown) = (Instant::now(), Instant::now());
+    let mut tally = Tally::default();
+    for number in asked.first.. {
+        let past_end = asked.time.is_some_and(|time| started.elapsed() >= time);
+        if tally.jobs == asked.count || past_end {
+            break;
+        }
+        let generated = generate(asked.seed, number, asked.class);
+        if asked.class.is_none() && LONG.contains(&generated.class) && !number.is_multiple_of(KEPT) {
+            continue;
+        }
+        match comparison.compare(&generated.job, generated.out_len) {
+            Ok(both) => tally.count(generated.class, both.answer.err()),
+            Err(why) => return Err(generated_mismatch(asked, number, generated, &why)),
+        }
+        if shown.elapsed() >= Duration::from_secs(2) {
+            shown = Instant::now();
+            eprintln!("jobs compared: {} in {} s", tally.jobs, started.elapsed().as_secs());
+        }
+    }
+    Ok(tally)
+}
+
+fn generated_mismatch(
+    asked: &Generated,
+    number: u64,
+    generated: crate::generate::Generated,
+    why: &str,
+) -> Mismatch {
+    let seed = asked.seed;
+    let class = asked.class.map_or(String::new(), |class| format!(" --class {class}"));
+    let again = format!("--seed {seed}{class} --first {number} --count 1");
+    let (kind, out_len) = (generated.class, generated.out_len);
+    Mismatch {
+        what: format!("seed {seed}, job {number} ({kind}, out buffer of {out_len} bytes; {again}): {why}"),
+        file: format!("mismatch-seed-{seed}-job-{number}.job"),
+        job: generated.job,
+    }
+}
+
+/// How many jobs of each class were compared, and how many of each refusal.
+#[derive(Default)]
+pub struct Tally {
+    pub jobs: usize,
+    classes: BTreeMap<&'static str, usize>,
+    /// 0 stands for an accepted job.
+    refusals: BTreeMap<u8, usize>,
+}
+
+impl Tally {
+    fn count(&mut self, class: &'static str, refusal: Option<u8>) {
+        self.jobs += 1;
+        *self.classes.entry(class).or_default() += 1;
+        *self.refusals.entry(refusal.unwrap_or(0)).or_default() += 1;
+    }
+
+    pub fn text(&self) -> String {
+        let classes: Vec<String> = self.classes.iter().map(|(class, n)| format!("{class} {n}")).collect();
+        let refusals = self.refusals.iter().map(|(number, n)| match number {
+            0 => format!("accepted {n}"),
+            number => format!("refused by {number}: {n}"),
+        });
+        format!("{}\n{}", classes.join(", "), refusals.collect::<Vec<_>>().join(", "))
+    }
+}

@@ -1,0 +1,147 @@
+//! The comparison: what it tries, and that it sees each kind of difference.
+#![cfg(reference)]
+
+use compare::comparison::run::{Generated, fixed_jobs, generated_jobs};
+use compare::comparison::{Comparison, fixed, returned_number};
+use compare::job::limits;
+use compare::library::Stage;
+use compare::oracle::{Oracle, Said};
+use std::collections::BTreeSet;
+
+/// A stage that says what the Rust says, and then does something of its own.
+struct Spoiled<F> {
+    oracle: Oracle,
+    spoil: F,
+}
+
+impl<F: FnMut(&mut [u8], &mut i64)> Spoiled<F> {
+    fn write(&mut self, said: Said, out: &mut [u8]) -> i64 {
+        let mut returned = returned_number(&said);
+        let bytes = said.unwrap_or_default();
+        out[..bytes.len()].copy_from_slice(&bytes);
+        (self.spoil)(out, &mut returned);
+        returned
+    }
+}
+
+impl<F: FnMut(&mut [u8], &mut i64)> Stage for Spoiled<F> {
+    fn answer(&mut self, job: &[u8], out: &mut [u8]) -> i64 {
+        let said = self.oracle.answer(job, out.len());
+        self.write(said, out)
+    }
+
+    fn sheet(&mut self, job: &[u8], out: &mut [u8]) -> i64 {
+        let said = self.oracle.sheet(job, out.len());
+        self.write(said, out)
+    }
+}
+
+/// Runs `test` on a comparison with a stage that is spoiled so.
+fn with_spoiled<T>(spoil: impl FnMut(&mut [u8], &mut i64), test: impl FnOnce(&mut Comparison) -> T) -> T {
+    let mut stage = Spoiled { oracle: Oracle::open().unwrap(), spoil };
+    test(&mut Comparison::new(Oracle::open().unwrap(), &mut stage))
+}
+
+fn some(class: Option<&str>, count: usize) -> Generated<'_> {
+    Generated { seed: 8, first: 0, count, time: None, class }
+}
+
+#[test]
+fn a_stage_that_says_the_same_agrees() {
+    with_spoiled(
+        |_, _| (),
+        |comparison| {
+            assert_eq!(fixed_jobs(comparison).unwrap(), fixed::list().len());
+            assert_eq!(generated_jobs(comparison, &some(None, 300)).unwrap().jobs, 300);
+        },
+    );
+}
+
+#[test]
+fn each_kind_of_difference_is_seen() {
+    let accepted = |returned: &mut i64| *returned > 0;
+    let differs = |spoil: &mut dyn FnMut(&mut [u8], &mut i64), part: &str| {
+        let mismatch = with_spoiled(spoil, |c| generated_jobs(c, &some(None, 300)).err().unwrap());
+        assert!(mismatch.what.contains(part), "{}", mismatch.what);
+        assert!(mismatch.what.contains("seed 8, job ") && mismatch.what.contains("--seed 8 --first "));
+        assert!(mismatch.file.starts_with("mismatch-seed-8-job-"), "{}", mismatch.file);
+    };
+    differs(&mut |_, returned| *returned += 1, "the Rust says");
+    differs(&mut |_, returned| *returned = if accepted(returned) { *returned } else { -42 }, "returned -42");
+    differs(&mut |out, returned| out[4] ^= u8::from(accepted(returned)), "byte 4 is");
+    differs(
+        &mut |out, returned| {
+            if accepted(returned) {
+                out[*returned as usize] ^= 0x10;
+            }
+        },
+        "was touched",
+    );
+    differs(&mut |out, returned| out[limits::OUT_BYTES - 1] ^= u8::from(accepted(returned)), "byte 24575");
+    let on_refusal = &mut |out: &mut [u8], returned: &mut i64| {
+        if *returned < -1 {
+            out[0] ^= 0xff;
+        }
+    };
+    differs(on_refusal, "byte 0 of a buffer");
+}
+
+#[test]
+fn a_difference_in_one_operation_alone_is_named() {
+    let sheets_only = |out: &mut [u8], _: &mut i64| {
+        if out.starts_with(b"SH") {
+            out[6] += 1;
+        }
+    };
+    let mismatch = with_spoiled(sheets_only, |c| fixed_jobs(c).err().unwrap());
+    assert!(mismatch.what.contains(": sheet: byte 6 is"), "{}", mismatch.what);
+    assert!(mismatch.what.starts_with("fixed job "));
+    assert_eq!(&mismatch.job[..2], b"HD");
+}
+
+#[test]
+fn a_job_that_differed_is_compared_again_by_its_number() {
+    let spoil = |out: &mut [u8], returned: &mut i64| *returned += i64::from(out.starts_with(b"SH"));
+    let again = |first| Generated { first, ..some(None, 1) };
+    let first = with_spoiled(spoil, |c| generated_jobs(c, &some(None, 50)).err().unwrap());
+    let number = first.file.trim_start_matches("mismatch-seed-8-job-").trim_end_matches(".job");
+    let second = with_spoiled(spoil, |c| generated_jobs(c, &again(number.parse().unwrap())).err().unwrap());
+    assert_eq!(first.job, second.job);
+}
+
+#[test]
+fn the_fixed_list_has_both_sides_of_each_limit() {
+    let mut oracle = Oracle::open().unwrap();
+    let (mut refusals, mut nodes, mut rounds) = (BTreeSet::new(), BTreeSet::new(), BTreeSet::new());
+    let mut sizes = BTreeSet::new();
+    for fixed in fixed::list() {
+        let both = oracle.both(&fixed.job, fixed.out_len);
+        refusals.insert(both.answer.as_ref().err().copied().unwrap_or(0));
+        sizes.insert((fixed.job.len(), both.answer.is_ok()));
+        if let Some(counts) = both.counts {
+            nodes.insert((counts.nodes, counts.entered < counts.nodes));
+            rounds.insert((counts.rounds, counts.settled));
+        }
+    }
+    assert!(refusals.into_iter().eq(0..=9));
+    for count in [511, 512, 513] {
+        assert!(nodes.contains(&(count, false)) && nodes.contains(&(count, true)), "{nodes:?}");
+    }
+    for ended in [(99, true), (100, true), (100, false)] {
+        assert!(rounds.contains(&ended), "{rounds:?}");
+    }
+    assert!(sizes.contains(&(limits::JOB_BYTES, true)) && sizes.contains(&(limits::JOB_BYTES + 1, false)));
+    assert!(sizes.contains(&(0, false)));
+}
+
+#[test]
+fn the_worst_jobs_are_accepted_and_reach_the_limits() {
+    let mut oracle = Oracle::open().unwrap();
+    let mut most = 0;
+    for (name, job) in compare::worst::jobs() {
+        let both = oracle.both(&job.to_bytes(), limits::OUT_BYTES);
+        assert!(both.answer.is_ok(), "{name}: {:?}", both.answer);
+        most = most.max(both.counts.unwrap().nodes);
+    }
+    assert_eq!(most, limits::NODES);
+}

@@ -1,0 +1,64 @@
+/*
+ * The scope-dependency stage, for callers in C and C++ on x86-64.
+ *
+ * Two operations take a job and an out buffer: the answer (the returned paths)
+ * and the sheet (all nodes of paths, and each block's set of them). docs/FORMAT.md
+ * has the bytes of all three.
+ *
+ * Link with libstage.a, which `rt staticlib stage` writes to target/staticlib.
+ */
+#ifndef SCOPE_DEPS_H
+#define SCOPE_DEPS_H
+
+#include <stddef.h>
+#include <stdint.h>
+
+#ifdef __cplusplus
+extern "C" {
+#endif
+
+/* An out buffer of fewer bytes is refused by 1. No answer and no sheet is longer. */
+#define SCOPE_DEPS_OUT_BYTES 24576
+
+/* A job of more bytes is refused by 2. */
+#define SCOPE_DEPS_JOB_BYTES 32768
+
+/* The refusals. Each is returned as its negative. */
+enum scope_deps_refusal {
+  SCOPE_DEPS_SHORT_OUT = 1,      /* the out buffer is shorter than 24,576 bytes */
+  SCOPE_DEPS_LONG_JOB = 2,       /* the job is longer than 32,768 bytes */
+  SCOPE_DEPS_PAST_END = 3,       /* a field needs a byte past the job's end */
+  SCOPE_DEPS_WRONG_MARK = 4,     /* a mark is not the one due */
+  SCOPE_DEPS_OUT_OF_RANGE = 5,   /* a field lies outside its range */
+  SCOPE_DEPS_BYTE_LEFT = 6,      /* a byte follows the last candidate */
+  SCOPE_DEPS_TWICE = 7,          /* a block id, or a predecessor within one block, stands twice */
+  SCOPE_DEPS_UNKNOWN_BLOCK = 8,  /* a predecessor or the scope block is no block of the job */
+  SCOPE_DEPS_TOO_MANY_NODES = 9  /* the registry would pass 512 nodes by the end of propagation */
+};
+
+/*
+ * Writes the answer of `job` to the start of `out`.
+ *
+ * Returns the number of bytes written, or minus the number of the refusal. Bytes
+ * of `out` beyond that number stay as they were; at a refusal all of them do.
+ *
+ * The job may hold any bytes, and either length may be any number, 0 included.
+ * What the caller owes is what the two pointers say:
+ * - neither is NULL, not even where its length is 0;
+ * - `job` points to `job_len` bytes that can be read, `out` to `out_len` bytes
+ *   that can be read and written;
+ * - the two do not overlap, and nothing else writes to either during the call.
+ *
+ * The call takes no memory but stack, at most 64 KiB, and keeps nothing after it
+ * returns. So calls on different buffers may run at the same time.
+ */
+int64_t scope_deps_answer(const uint8_t *job, size_t job_len, uint8_t *out, size_t out_len);
+
+/* Writes the sheet of `job`, on the same terms. It is refused where the answer is. */
+int64_t scope_deps_sheet(const uint8_t *job, size_t job_len, uint8_t *out, size_t out_len);
+
+#ifdef __cplusplus
+}
+#endif
+
+#endif

@@ -1,0 +1,57 @@
+//! The scope-dependency stage, for Rust on x86-64.
+//!
+//! `answer` and `sheet` take a job and an out buffer and give the number of bytes
+//! written, or the number of the refusal. `docs/FORMAT.md` has the bytes of jobs,
+//! answers and sheets.
+//!
+//! A package takes this file as a module (`#[path = "…/interface/scope_deps.rs"]`)
+//! and links `libstage.a`, which `rt staticlib stage` writes to `target/staticlib`.
+
+/// An out buffer of fewer bytes is refused by 1. No answer and no sheet is longer.
+pub const OUT_BYTES: usize = 24_576;
+
+/// A job of more bytes is refused by 2.
+pub const JOB_BYTES: usize = 32_768;
+
+unsafe extern "C" {
+    /// Writes the answer to the start of `out` and returns its length, or minus the
+    /// number of the refusal.
+    ///
+    /// # Safety
+    ///
+    /// Neither pointer is null, not even where its length is 0. `job` points to
+    /// `job_len` bytes that can be read, `out` to `out_len` bytes that can be read
+    /// and written. The two do not overlap, and nothing else writes to either
+    /// during the call.
+    pub fn scope_deps_answer(job: *const u8, job_len: usize, out: *mut u8, out_len: usize) -> i64;
+
+    /// The same for the sheet.
+    ///
+    /// # Safety
+    ///
+    /// As for `scope_deps_answer`.
+    pub fn scope_deps_sheet(job: *const u8, job_len: usize, out: *mut u8, out_len: usize) -> i64;
+}
+
+/// Writes the answer of `job` to the start of `out`.
+///
+/// Gives the number of bytes written, or the number of the refusal, 1 to 9. Bytes of
+/// `out` beyond that number stay as they were; at a refusal all of them do. Any bytes
+/// and any lengths are allowed. The call takes no memory but stack, at most 64 KiB.
+pub fn answer(job: &[u8], out: &mut [u8]) -> Result<usize, u8> {
+    // SAFETY: a slice's pointer is not null and good for its length, and `out` is
+    // borrowed alone.
+    outcome(unsafe { scope_deps_answer(job.as_ptr(), job.len(), out.as_mut_ptr(), out.len()) })
+}
+
+/// Writes the sheet of `job` to the start of `out`, on the same terms. It is refused
+/// where the answer is.
+pub fn sheet(job: &[u8], out: &mut [u8]) -> Result<usize, u8> {
+    // SAFETY: as in `answer`.
+    outcome(unsafe { scope_deps_sheet(job.as_ptr(), job.len(), out.as_mut_ptr(), out.len()) })
+}
+
+/// A length, or minus a refusal's number, as a result.
+fn outcome(returned: i64) -> Result<usize, u8> {
+    usize::try_from(returned).map_err(|_| returned.unsigned_abs() as u8)
+}
