@@ -10,7 +10,7 @@ use job::ReadBlockHead;
 use paths::EnteredPath;
 use rows::NodeBits;
 
-// The nodes of the paths entered, or that the registry had no room.
+// The nodes of the paths entered, or that the registry had no room; also where a record is not there, which no accepted job has.
 pub struct EnteredSet {
     pub set: NodeBits,
     pub full: bool,

@@ -127,7 +127,7 @@ walkCandidate t d = walkEntries (findKey hoistableKey t (identifierKey (d .ident
 
 -- The dependency tree and the returned paths.
 
--- the hoistable paths, then the candidates
+-- the walks of the candidates `cs`, one after the other, in the hoistable tree of the paths `hs`
 unfoldable pub dependencyTree : List ReactiveScopeDependency → List ReactiveScopeDependency → Forest DependencyPosition
 unfolding hoistableTree walkCandidate
 dependencyTree hs cs = let t = hoistableTree hs in addAll dependencyKey mergePosition empty (map (walkCandidate t) cs)

@@ -37,7 +37,7 @@ unfoldable pub blocksBytes : List ℕ → List ℕ → ℕ → ℕ → List ℕ
 blocksBytes numbers rows b zero = []
 blocksBytes numbers rows b (suc n) = blockBytes (blockId (getD numbers b 0)) (rowOf rows b) ++ blocksBytes numbers rows (suc b) n
 
--- The job has n blocks, whose ids have these numbers; its propagation leaves the registry and the sets that the words hold, after so many rounds, settled or not.
+-- The job has n blocks, whose ids have these numbers; the work p has the registry and the sets that the words hold, after so many rounds, settled or not.
 pub record Propagated (ws rows numbers : List ℕ) (n ran : ℕ) (last : Bool) (j : Job) (p : Rounds Work) : Type 0 where
   pub count : length (j .blocks) ≡ n
   pub ids : map blockId (take n numbers) ≡ idsOf (j .blocks)

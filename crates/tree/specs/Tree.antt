@@ -41,7 +41,7 @@ pub record Sized (ws : List ℕ) : Type 0 where
   pub long : length ws ≡ 1089
   pub room : countIn ws ≤ 1088
 
--- The words hold a tree as its operations make it: no way down is longer than a candidate's.
+-- The words hold a tree in which no way down is longer than a candidate's.
 pub record Held (s ws : List ℕ) : Type 0 where
   pub sized : Sized ws
   pub low : height (forestOf s ws) ≤ 17

@@ -18,7 +18,7 @@ use Rattle.job.specs.Head.{readPathHead}
 use Rattle.job.specs.declared.PathHead.{PathHead}
 use Rattle.tree.specs.Flat.{Node}
 
--- The head that was read. No position of a tree has a place at which none can be read; there the fields are 0.
+-- The head that was read; the fields are 0 where none can be read.
 abbrev pub headOr : Read PathHead → PathHead
 headOr (got head next) = head
 headOr (refused r) = record { identifier = record { 0 = 0 }; reactive = false; span = 0; entries = 0 }
