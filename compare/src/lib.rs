@@ -1,4 +1,5 @@
-//! Runs the Rust source of the scope-dependency stage as an oracle.
+//! Runs the Rust source of the scope-dependency stage as an oracle, and compares the
+//! library of the stage with it.
 
 pub mod arena;
 #[cfg(all(library, reference))]

@@ -1,12 +1,12 @@
 //! Random jobs of many shapes. A seed and a number give the same job again.
 
 mod damage;
-pub mod edges;
-pub mod graph;
-pub mod ladder;
-pub mod nodes;
-pub mod shapes;
-pub mod words;
+pub(crate) mod edges;
+pub(crate) mod graph;
+pub(crate) mod ladder;
+mod nodes;
+mod shapes;
+mod words;
 
 use crate::job::limits;
 use crate::prng::Prng;

@@ -131,8 +131,8 @@ fn perform_read(
     let Propagated::Ran(run) = propagated else {
         return Outcome::Refused(Refusal::ManyNodes);
     };
-    let length = put(operation, s, ids, places, head, &ws, &sets, run, out);
-    Outcome::Written(length)
+    let written = put(operation, s, ids, places, head, &ws, &sets, run, out);
+    Outcome::Written(written)
 }
 
 // The operation on any bytes and any buffer.
