@@ -16,12 +16,17 @@ use Rattle.paths.specs.declared.EnteredPath.the-variants.{At, Full, Refu
 abbrev pub walkOwn : PropertyPathRegistry → NodeId → List DependencyPathEntry → Reached
 walkOwn reg k es = walkFrom ownMark (record { registry = reg; node = k }) es
 
--- The record that reads to a value leads to the node that `reach` gives for it, with the place after it, or the registry has no room for that. One that is
--- refused is refused for the same, unless there was no room for what stands before.
+-- The record that reads to a value leads to the node that `reach` gives for it, with the place after it, or the registry has no room for that (refusal 9
+-- by the model's `withinNodes`). One that is refused is refused for the same, whether there is room or not.
 abbrev pub Enters : {A : Type 0} → Read A → (A → Reached) → EnteredPath → List ℕ → List ℕ → Type 0
 Enters (got a next) reach (At k n) ws os = Arrives (reach a) (entered.At k) ws os × (n ≡ next)
 Enters (got a next) reach Full ws os = nodeLimit < length (reach a .registry)
 Enters (got a next) reach (Refused r) ws os = ⊥
 Enters (refused r) reach (At k n) ws os = ⊥
-Enters (refused r) reach Full ws os = Unit
+Enters (refused r) reach Full ws os = ⊥
 Enters (refused r) reach (Refused q) ws os = q ≡ r
+
+-- There is no room for a record: what is said of it, by what reading it gives.
+abbrev pub fullOr : {A : Type 0} → Read A → EnteredPath
+fullOr (got a next) = Full
+fullOr (refused r) = Refused r

@@ -6,7 +6,7 @@ ghost use Rattle.model.specs.Job.{readEntry, readPath};
 ghost use Rattle.model.specs.Registry.{getOrCreateProperty};
 ghost use Rattle.model.specs.Answer.{spanWidth};
 ghost use Rattle.registry.specs.Words.{countIn, registryOf, Held};
-ghost use Rattle.paths.specs.Enters.{walkOwn, Enters};
+ghost use Rattle.paths.specs.Enters.{walkOwn, Enters, fullOr};
 use entries::NodeId;
 use entries::Refusal;
 use fields::Passed;
@@ -19,6 +19,17 @@ pub enum EnteredPath {
     At(NodeId, usize),
     Full,
     Refused(Refusal),
+}
+
+// The registry has no room for a path of which `left` entries stand from a place on: full, unless the record cannot be read.
+fn full_or_refused(s: &[u8], at: usize, left: u8) -> EnteredPath
+    ensures { λ r. ⌜ r ≡ fullOr (readMany left (readEntry spanWidth) (now (s .entry)) at) ⌝ }
+{
+    let rest = job::past_entries(s, at, left);
+    let Passed::To(_) = rest else {
+        return EnteredPath::Refused(rest.refusal());
+    };
+    EnteredPath::Full
 }
 
 // From a node on by `count` entries.
@@ -43,7 +54,7 @@ fn enter_entries(
         };
         let child = registry::get_or_create_property_entry(ws, optional, node, entry);
         let Entered::At(reached) = child else {
-            return EnteredPath::Full;
+            return full_or_refused(s, next, left - 1);
         };
         node = reached;
         at = next;
@@ -80,7 +91,7 @@ pub fn enter_path(
         head.span,
     );
     let Entered::At(reached) = root else {
-        return EnteredPath::Full;
+        return full_or_refused(s, entries_at, head.entries);
     };
     enter_entries(s, entries_at, head.entries, ws, optional, reached)
 }

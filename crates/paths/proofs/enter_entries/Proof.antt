@@ -33,12 +33,13 @@ get-or-create-property-entry-requires c κs = let l = c .before .before .before 
 
 returns-2 : tie.Need-returns-2 Inv-loop μ-loop
 returns-2 c =
-    let r = c .before .before in
+    let t = c .before in
+    let r = t .before .before in
     let f = r .before .before .before .before in
     let call = f .before .before in
     let g = r .get-or-create-property-entry in
-    entering-full (call .before .before .loop .inv) (call .before .loop-test .taken) (seen gotEntry (call .entry-at .ensures) (f .field .given .1)) _ _
-    (made-full _ (g .result) (g .last .0) (g .last .1 .0) (g .ensures) (c .enum-told2 .given .1))
+    entering-full (call .before .before .loop .inv) (call .before .loop-test .taken) (seen gotEntry (call .entry-at .ensures) (f .field .given .1)) _ _ _
+    (made-full _ (g .result) (g .last .0) (g .last .1 .0) (g .ensures) (t .enum-told2 .given .1)) (c .full-or-refused .ensures)
 
 loop-again : tie.Need-loop-again Inv-loop μ-loop
 loop-again c =
@@ -68,6 +69,8 @@ enter-entries-spec =
     get-or-create-property-entry-requires
     (λ c. search needs)
     (λ c. search needs)
+    (λ c. search needs)
+    (λ c κs. search needs)
     returns-2
     (λ c. search needs)
     (λ c. search needs)

@@ -30,15 +30,16 @@ returns-2 c =
 
 returns-3 : tie.Need-returns-3
 returns-3 c =
-    let i = c .before .before in
+    let t = c .before in
+    let i = t .before .before in
     let f = i .before .before .before .before .before in
     let h = f .before .before in
     let k = h .before .before in
     let m = k .before .before in
     let a = m .before .before .args in
     let g = i .get-or-create-identifier in
-    path-full (a .mark) _ (a .at) (seen gotPlace (m .mark-at .ensures) (k .marked .given .1)) (seen gotPathHead (h .path-head-at .ensures) (f .field .given .1)) (registryOf (now (a .ws))) _ _
-    (made-full _ (g .result) (g .last .0) (g .last .1 .0) (g .ensures) (c .enum-told3 .given .1))
+    path-full (a .mark) _ (a .at) (seen gotPlace (m .mark-at .ensures) (k .marked .given .1)) (seen gotPathHead (h .path-head-at .ensures) (f .field .given .1)) (registryOf (now (a .ws))) _ _ _
+    (made-full _ (g .result) (g .last .0) (g .last .1 .0) (g .ensures) (t .enum-told3 .given .1)) (c .full-or-refused .ensures)
 
 enter-entries-requires : tie.Need-enter-entries-requires
 enter-entries-requires c κs =
@@ -83,6 +84,7 @@ enter-path-spec =
     (λ c κs. search needs)
     (λ c. search needs)
     (λ c. search needs)
+    (λ c κs. search needs)
     returns-3
     enter-entries-requires
     returns-4)
