@@ -100,7 +100,7 @@ fn untouched() -> [u8; 65536]
 fn perform(operation: Operation, job: &[u8], out: &mut [u8], room: usize) -> Outcome
     requires { ⌜ room ≤ length (now out) ⌝ }
 {
-    run::perform(operation, job, &mut out[..room])
+    stage::perform(operation, job, &mut out[..room])
 }
 
 // The operation with an out buffer of the given length, beside what the list says.

@@ -99,11 +99,3 @@ refused op s before after {o} {r} {k} size m e n =
       bytes = put-is after k (omega arith) ∙ ap (λ (x : ℕ). 0x52 ∷ 0x46 ∷ x ∷ []) n ∙ refusal-output op s before after size m e;
       within = omega arith;
     }
-
--- The operation of each kind.
-
-pub answers : {op : Operation} (s : List ℕ) {before after : List ℕ} {o : Outcome} → op ≡ operation.Answer → Meets (answerOf s before) o before after → Meets (verdictOf op s before) o before after
-answers s {before} {after} {o} e m = subst (λ (v : Verdict). Meets v o before after) (sym (ap (λ op. verdictOf op s before) e ∙ answer-verdict s before)) m
-
-pub sheets : {op : Operation} (s : List ℕ) {before after : List ℕ} {o : Outcome} → op ≡ operation.Sheet → Meets (sheetOf s before) o before after → Meets (verdictOf op s before) o before after
-sheets s {before} {after} {o} e m = subst (λ (v : Verdict). Meets v o before after) (sym (ap (λ op. verdictOf op s before) e ∙ sheet-verdict s before)) m

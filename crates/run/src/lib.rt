@@ -2,27 +2,16 @@
 ghost use mathlib.Core.Path.{_≡_};
 ghost use lib.ListN.{length};
 ghost use Rattle.model.specs.Answer.{leastBuffer};
-ghost use Rattle.stage.specs.Jobs.{verdictOf, Meets};
 ghost use Rattle.run.specs.Programs.{Responds};
 use stage::Operation;
 use stage::Outcome;
-
-// The operation on any bytes and any buffer.
-pub fn perform(operation: Operation, s: &[u8], out: &mut [u8]) -> Outcome
-    ensures { λ r. ⌜ Meets (verdictOf operation (now (s .entry)) (now (out .entry))) r (now (out .entry)) (now (out .exit)) ⌝ }
-{
-    match operation {
-        Operation::Answer => stage::answer(s, out),
-        Operation::Sheet => stage::sheet(s, out),
-    }
-}
 
 // How many bytes at the buffer's start are to be written: the operation's, or RF and the refusal's number.
 pub fn respond(operation: Operation, s: &[u8], out: &mut [u8]) -> usize
     requires { ⌜ length (now out) ≡ leastBuffer ⌝ }
     ensures { λ r. ⌜ Responds operation (now (s .entry)) (now (out .exit)) r ⌝ }
 {
-    let outcome = perform(operation, s, out);
+    let outcome = stage::perform(operation, s, out);
     match outcome {
         Outcome::Written(length) => length,
         Outcome::Refused(refusal) => {
@@ -34,7 +23,7 @@ pub fn respond(operation: Operation, s: &[u8], out: &mut [u8]) -> usize
     }
 }
 
-// The program of the operation. Of a job longer than 65,536 bytes the rest is not read, since 32,769 bytes are enough for refusal 2.
+// The program of the operation. Of a job longer than 65,536 bytes the rest is not read: the program writes the same of its first bytes (`first-bytes`).
 pub fn run(operation: Operation) {
     let mut space = io::large_buffer();
     let got = io::read_full(0, &mut space);

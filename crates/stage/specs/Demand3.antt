@@ -4,12 +4,12 @@ use Prim.Native.Nat.{ℕ, _<_}
 use native.Mathlib.Omega.{arith}
 use mathlib.Core.Path.{_≡_, refl, sym, ap, subst, _∙_}
 use mathlib.Core.List.{List, _++_}
-use lib.ListN.{length, take, drop}
+use lib.ListN.{length, take, drop, replicate}
 use lib.Seq.{take-append-seam}
 use lib.IntN.{ℤ, pos}
 use Rattle.entries.specs.declared.Refusal.the-variants.{ShortBuffer, LongJob, MissingByte, WrongMark, OutOfRange, ExtraByte, RepeatedId, UnknownBlock, ManyNodes}
 use Rattle.model.specs.ListLaws.{All}
-use Rattle.model.specs.Answer.{Verdict, writes, turnsBack, answerOf, numberReturned, bufferAfter}
+use Rattle.model.specs.Answer.{Verdict, writes, turnsBack, leastBuffer, answerOf, answerProgram, programOutput, numberReturned, bufferAfter}
 use Rattle.safety.specs.Statement.{AnswerMeetsDemand3}
 use Rattle.safety.specs.Demand3.{demand-3}
 use Rattle.stage.specs.declared.Outcome.the-variants.{Written}
@@ -50,3 +50,8 @@ module _ (job before after : List ℕ) (n : ℕ) (bytes : All (λ b. b < 256) jo
   -- of what `scope_deps_answer` leaves, where it returns n
   pub scope-deps-answer-meets-demand-3 : pos n ≡ numberReturned (answerOf job before) → after ≡ bufferAfter (answerOf job before) before → AnswerMeetsDemand3 job (take n after)
   scope-deps-answer-meets-demand-3 r b = by-verdict (number-written (answerOf job before) n r) b
+
+-- of what program `answer` writes, where it is no refusal
+pub answer-program-meets-demand-3 : (job written : List ℕ) → All (λ b. b < 256) job → answerOf job (replicate leastBuffer 0) ≡ writes written → AnswerMeetsDemand3 job (answerProgram job)
+unfolding answerProgram
+answer-program-meets-demand-3 job written bytes e = subst (AnswerMeetsDemand3 job) (sym (ap programOutput e)) (demand-3 job (replicate leastBuffer 0) written bytes e)

@@ -136,7 +136,7 @@ fn perform_read(
 }
 
 // The operation on any bytes and any buffer.
-fn perform(operation: Operation, s: &[u8], out: &mut [u8]) -> Outcome
+pub fn perform(operation: Operation, s: &[u8], out: &mut [u8]) -> Outcome
     ensures { λ r. ⌜ Meets (verdictOf operation (now (s .entry)) (now (out .entry))) r (now (out .entry)) (now (out .exit)) ⌝ }
 {
     if out.len() < 24576 {

@@ -12,14 +12,14 @@ slice-write-out-2 : tie.Need-slice-write-out-2
 slice-write-out-2 c =
     let call = c .before .before .before .before .before in
     let a = call .before .before .before .before in
-    second (call .perform .last .1 .1 .0) 0x52 (room (a .args .operation) (now (a .args .s)) (now (a .args .out)) _ (a .pre) (call .perform .ensures) (c .before .outcome2 .given .1))
+    second (call .perform .last .1 .1 .0) _ (room (a .args .operation) (now (a .args .s)) (now (a .args .out)) _ (a .pre) (call .perform .ensures) (c .before .outcome2 .given .1))
 
 slice-write-out-3 : tie.Need-slice-write-out-3
 slice-write-out-3 c =
     let told = c .before in
     let call = told .before .before .before .before .before in
     let a = call .before .before .before .before in
-    third (call .perform .last .1 .1 .0) 0x52 0x46 (room (a .args .operation) (now (a .args .s)) (now (a .args .out)) _ (a .pre) (call .perform .ensures) (told .before .outcome2 .given .1))
+    third (call .perform .last .1 .1 .0) _ _ (room (a .args .operation) (now (a .args .s)) (now (a .args .out)) _ (a .pre) (call .perform .ensures) (told .before .outcome2 .given .1))
 
 returns : tie.Need-returns
 returns c =
