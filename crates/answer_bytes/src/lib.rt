@@ -40,7 +40,7 @@ fn add_candidates(
         let identifier = head.identifier;
         let levels = hoistable::nonnull_levels(ws, set, s, identifier, entries_at, head.entries);
         tree::add_candidate(tree, s, fields_at, levels);
-        at = entries_at + 14 * (head.entries as usize);
+        at = entries_at + tree::ENTRY_SIZE * (head.entries as usize);
         left = left - 1;
     }
 }

@@ -4,6 +4,7 @@ use mathlib.Core.Path.{_≡_}
 use mathlib.Core.List.{List, []}
 use Rattle.entries.specs.declared.DependencyPathEntry.{DependencyPathEntry}
 use Rattle.model.specs.Read.{Read, got, refused, readMany}
+use Rattle.model.specs.Answer.{spanWidth}
 use Rattle.model.specs.Job.{readEntry}
 use Rattle.model.specs.RegistryLaws.{Sound}
 use Rattle.registry.specs.Words.{registryOf, Sized}
@@ -15,12 +16,12 @@ entriesOf (refused r) = []
 
 -- the entries at a place
 unfoldable pub entriesAt : ℕ → List ℕ → ℕ → List DependencyPathEntry
-entriesAt count s at = entriesOf (readMany count (readEntry 4) s at)
+entriesAt count s at = entriesOf (readMany count (readEntry spanWidth) s at)
 
 -- these entries, and no others, are read from a place on
 pub record Reads (count : ℕ) (s : List ℕ) (at : ℕ) (es : List DependencyPathEntry) : Type 0 where
   pub next : ℕ
-  pub read : readMany count (readEntry 4) s at ≡ got es next
+  pub read : readMany count (readEntry spanWidth) s at ≡ got es next
 
 -- "Entry count u8 (0 to 16), then entries": they were read.
 pub record Candidate (count : ℕ) (s : List ℕ) (at : ℕ) : Type 0 where

@@ -7,7 +7,7 @@ use lib.ListN.{length, getD}
 use lib.Dec.{eqb, leb}
 use Rattle.entries.specs.Path.{ReactiveScopeDependency}
 use Rattle.model.specs.Lists.{concatMap}
-use Rattle.model.specs.Answer.{DE, pathBytes}
+use Rattle.model.specs.Answer.{DE, pathBytes, spanWidth}
 use Rattle.model.specs.Forest.{Forest, empty, position, sameKey, add, firsts}
 use Rattle.model.specs.Tree.{DependencyPosition, dependencyKey, mergePosition, isDependency, rootPosition, keyIdentifier, entryOf, dependencyOf}
 use Rattle.tree.specs.declared.Left.{Left}
@@ -111,19 +111,19 @@ pathsFrom s ws parent i way = returnedFrom (wayPositions s way) (nodesAfter s ws
 
 -- The records of these paths are written one after the other, and counted.
 pub record Derives (paths : List ReactiveScopeDependency) (before after : List ℕ) (start done : Written) : Type 0 where
-  pub writes : Writes before after (start .at) (concatMap (pathBytes 4 DE) paths) (done .at)
+  pub writes : Writes before after (start .at) (concatMap (pathBytes spanWidth DE) paths) (done .at)
   pub counts : done .count ≡ start .count + length paths
 
 -- What the record of one way down asks: its room. A count is at most the bytes before it.
 pub record Puttable (s : List ℕ) (way : Way) (out : List ℕ) (done : Written) : Type 0 where
   pub some : 0 < way .depth
   pub short : way .depth ≤ 17
-  pub room : done .at + length (pathBytes 4 DE (dependencyOf (wayPositions s way))) ≤ length out
+  pub room : done .at + length (pathBytes spanWidth DE (dependencyOf (wayPositions s way))) ≤ length out
   pub few : done .count ≤ done .at
 
 -- What deriving asks: no way down is too long for the words of a way, and the records have their room.
 pub record Derivable (s ws : List ℕ) (parent i : ℕ) (way : Way) (out : List ℕ) (start : Written) : Type 0 where
   pub sized : Sized ws
   pub low : way .depth + height (grow (nodesAfter s ws i) i parent) ≤ 17
-  pub room : start .at + length (concatMap (pathBytes 4 DE) (pathsFrom s ws parent i way)) ≤ length out
+  pub room : start .at + length (concatMap (pathBytes spanWidth DE) (pathsFrom s ws parent i way)) ≤ length out
   pub few : start .count ≤ start .at

@@ -9,6 +9,7 @@ use Rattle.entries.specs.declared.DependencyPathEntry.{DependencyPathEntry}
 use Rattle.entries.specs.declared.PropertyAccessType.{PropertyAccessType}
 use Rattle.entries.specs.Path.{ReactiveScopeDependency}
 use Rattle.model.specs.Tree.{DependencyPosition, ended, stepTo, stepAccess}
+use Rattle.model.specs.Answer.{spanWidth}
 use Rattle.tree.specs.declared.Way.{Way}
 use Rattle.tree.specs.Words.{headAt, entryAt, parentIn, pack, positionsFrom}
 
@@ -32,17 +33,25 @@ abbrev pub bitsOf : ℕ → ℕ → List Bool
 bitsOf zero x = []
 bitsOf (suc n) x = eqb (x % 2) 1 ∷ bitsOf n (x / 2)
 
--- n entries from a place on, of 14 bytes each
+-- how many bytes an entry has: optional, kind, value and span
+abbrev pub entrySize : ℕ
+entrySize = 10 + spanWidth
+
+-- how many bytes stand between a path's mark and its entries: identifier, reactive, span and the count
+abbrev pub headSize : ℕ
+headSize = 6 + spanWidth
+
+-- n entries from a place on
 abbrev pub entriesFrom : List ℕ → ℕ → ℕ → List DependencyPathEntry
 entriesFrom s at zero = []
-entriesFrom s at (suc n) = entryAt s at ∷ entriesFrom s (at + 14) n
+entriesFrom s at (suc n) = entryAt s at ∷ entriesFrom s (at + entrySize) n
 
--- the path whose fields stand at a place, after the mark; its head has 10 bytes
+-- the path whose fields stand at a place, after the mark
 unfoldable pub pathAt : List ℕ → ℕ → ReactiveScopeDependency
 pathAt s at = let head = headAt s at in record {
   identifier = head .identifier;
   reactive = head .reactive;
-  path = entriesFrom s (at + 10) (head .entries);
+  path = entriesFrom s (at + headSize) (head .entries);
   span = head .span;
 }
 

@@ -11,7 +11,7 @@ use Rattle.entries.specs.declared.PropertyAccessType.{PropertyAccessType}
 use Rattle.entries.specs.Access.{isOptionalAccess, isDependencyAccess, accessOf, mergeAccess}
 use Rattle.model.specs.Read.{Read, got, refused}
 use Rattle.model.specs.Job.{readEntry}
-use Rattle.model.specs.Answer.{flag}
+use Rattle.model.specs.Answer.{flag, spanWidth}
 use Rattle.model.specs.Forest.{identifierKey}
 use Rattle.model.specs.Tree.{DependencyPosition, stepTo}
 use Rattle.job.specs.Head.{readPathHead}
@@ -34,7 +34,7 @@ headAt s at = headOr (readPathHead s at)
 
 -- the entry at a place
 unfoldable pub entryAt : List ℕ → ℕ → DependencyPathEntry
-entryAt s at = entryOr (readEntry 4 s at)
+entryAt s at = entryOr (readEntry spanWidth s at)
 
 -- The fields of a word: the parent's number, 0 for a root.
 abbrev pub parentIn : ℕ → ℕ

@@ -7,7 +7,7 @@ ghost use mathlib.Core.List.{List, [], _∷_, map};
 ghost use lib.ListN.{length, getD, set};
 ghost use Rattle.model.specs.Forest.{empty, sameKey};
 ghost use Rattle.model.specs.Lists.{concatMap};
-ghost use Rattle.model.specs.Answer.{DE, entryBytes, pathBytes};
+ghost use Rattle.model.specs.Answer.{DE, entryBytes, pathBytes, spanWidth};
 ghost use Rattle.model.specs.Tree.{stepAccess, rootPosition, entryOf, dependencyOf};
 ghost use Rattle.writer.specs.Writes.{Writes};
 ghost use Rattle.tree.specs.Words.{headAt, entryAt, parentIn, placeIn, accessIn, pack, positionOf, mergedWord, nodeOf};
@@ -20,6 +20,11 @@ use entries::PropertyLiteral;
 use job::PathHead;
 use job::ReadEntry;
 use job::ReadPathHead;
+
+// How many bytes stand between a path's mark and its entries, and how many an entry has.
+const HEAD_SIZE: usize = 10;
+
+pub const ENTRY_SIZE: usize = 14;
 
 // Positions on a way down, from a root on.
 struct Way {
@@ -187,7 +192,7 @@ fn walk_candidate(s: &[u8], at: usize, levels: u32) -> Way
     };
     let mut place = at;
     let mut access = PropertyAccessType::UnconditionalAccess;
-    let mut next = at + 10;
+    let mut next = at + HEAD_SIZE;
     let mut left = head.entries;
     let mut flags = levels;
     while 0 < left {
@@ -197,7 +202,7 @@ fn walk_candidate(s: &[u8], at: usize, levels: u32) -> Way
             way = step_to(way, place, access);
             place = next;
             access = step_access(nonnull);
-            next = next + 14;
+            next = next + ENTRY_SIZE;
             left = left - 1;
             flags = flags / 2;
         } else {
@@ -330,8 +335,8 @@ fn position_of(s: &[u8], w: u64) -> Position
 
 // The entries of a way down: its positions behind the root.
 fn put_entries(out: &mut [u8], start: usize, s: &[u8], way: Way) -> usize
-    requires { ⌜ (way .depth ≤ 17) × (start + length (concatMap (entryBytes 4) (map entryOf (restOf (now s) way 1))) ≤ length (now out)) ⌝ }
-    ensures { λ r. ⌜ Writes (now (out .entry)) (now (out .exit)) start (concatMap (entryBytes 4) (map entryOf (restOf (now (s .entry)) way 1))) r ⌝ }
+    requires { ⌜ (way .depth ≤ 17) × (start + length (concatMap (entryBytes spanWidth) (map entryOf (restOf (now s) way 1))) ≤ length (now out)) ⌝ }
+    ensures { λ r. ⌜ Writes (now (out .entry)) (now (out .exit)) start (concatMap (entryBytes spanWidth) (map entryOf (restOf (now (s .entry)) way 1))) r ⌝ }
 {
     let depth = way.depth;
     let mut at = start;
@@ -346,8 +351,8 @@ fn put_entries(out: &mut [u8], start: usize, s: &[u8], way: Way) -> usize
 
 // The record of the path that a way down stands for.
 fn put_path(out: &mut [u8], at: usize, s: &[u8], way: Way) -> usize
-    requires { ⌜ (0 < way .depth) × (way .depth ≤ 17) × (at + length (pathBytes 4 DE (dependencyOf (wayPositions (now s) way))) ≤ length (now out)) ⌝ }
-    ensures { λ r. ⌜ Writes (now (out .entry)) (now (out .exit)) at (pathBytes 4 DE (dependencyOf (wayPositions (now (s .entry)) way))) r ⌝ }
+    requires { ⌜ (0 < way .depth) × (way .depth ≤ 17) × (at + length (pathBytes spanWidth DE (dependencyOf (wayPositions (now s) way))) ≤ length (now out)) ⌝ }
+    ensures { λ r. ⌜ Writes (now (out .entry)) (now (out .exit)) at (pathBytes spanWidth DE (dependencyOf (wayPositions (now (s .entry)) way))) r ⌝ }
 {
     let depth = way.depth;
     let root = position_of(s, way.words[0]);
@@ -417,7 +422,7 @@ pub fn derive_minimal_dependencies(
     out: &mut [u8],
     at: usize,
 ) -> Written
-    requires { ⌜ Held (now s) (now tree) × (at + length (concatMap (pathBytes 4 DE) (returnedOf (now s) (now tree))) ≤ length (now out)) ⌝ }
+    requires { ⌜ Held (now s) (now tree) × (at + length (concatMap (pathBytes spanWidth DE) (returnedOf (now s) (now tree))) ≤ length (now out)) ⌝ }
     ensures { λ r. ⌜ Derives (returnedOf (now (s .entry)) (now (tree .entry))) (now (out .entry)) (now (out .exit)) (record { at = at; count = 0 }) r ⌝ }
 {
     let way = Way {

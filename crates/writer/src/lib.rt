@@ -2,7 +2,7 @@
 ghost use Prim.Native.Nat.{_+_, _≤_, _<_};
 ghost use lib.ListN.{length};
 ghost use mathlib.Core.Path.{_≡_};
-ghost use Rattle.model.specs.Answer.{numberBytes, flag, stepBytes, entryBytes};
+ghost use Rattle.model.specs.Answer.{numberBytes, flag, stepBytes, entryBytes, spanWidth};
 ghost use Rattle.writer.specs.Writes.{Writes, pathHeadBytes};
 use entries::DependencyPathEntry;
 use entries::IdentifierId;
@@ -44,7 +44,7 @@ pub fn put_step(out: &mut [u8], at: usize, e: DependencyPathEntry) -> usize
 // A whole entry.
 pub fn put_entry(out: &mut [u8], at: usize, e: DependencyPathEntry) -> usize
     requires { ⌜ at + 14 ≤ length (now out) ⌝ }
-    ensures { λ r. ⌜ Writes (now (out .entry)) (now (out .exit)) at (entryBytes 4 e) r ⌝ }
+    ensures { λ r. ⌜ Writes (now (out .entry)) (now (out .exit)) at (entryBytes spanWidth e) r ⌝ }
 {
     let span_at = put_step(out, at, e);
     put_number(out, span_at, 4, e.span)
