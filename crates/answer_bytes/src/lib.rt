@@ -20,7 +20,7 @@ pub const AN: u64 = 0x4E41;
 fn add_candidates(
     tree: &mut [u64; 1089],
     s: &[u8],
-    ws: &[u64; 1537],
+    ws: &[u64; 1665],
     set: NodeBits,
     start: usize,
     count: usize,
@@ -59,7 +59,7 @@ fn put_head(out: &mut [u8], count: usize, rounds: u8, settled: bool) -> usize
 // The whole answer, from the buffer's start on. The head is written last, since it has the number of returned paths.
 pub fn put_answer(
     s: &[u8],
-    ws: &[u64; 1537],
+    ws: &[u64; 1665],
     set: NodeBits,
     start: usize,
     count: usize,

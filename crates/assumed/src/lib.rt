@@ -21,7 +21,7 @@ fn enter_paths(
     s: &[u8],
     start: usize,
     count: u8,
-    ws: &mut [u64; 1537],
+    ws: &mut [u64; 1665],
     optional: &mut [u64; 8],
 ) -> EnteredSet
     requires { ⌜ Held (now ws) (now optional) ⌝ }
@@ -43,7 +43,7 @@ fn enter_paths(
 }
 
 // The assumed paths of the block at a place.
-fn enter_block(s: &[u8], at: usize, ws: &mut [u64; 1537], optional: &mut [u64; 8]) -> EnteredSet
+fn enter_block(s: &[u8], at: usize, ws: &mut [u64; 1665], optional: &mut [u64; 8]) -> EnteredSet
     requires { ⌜ Held (now ws) (now optional) ⌝ }
     ensures { λ r. ⌜ EntersBlock (now (s .entry)) at (registryOf (now (ws .entry))) r (now (ws .exit)) (now (optional .exit)) ⌝ }
 {
@@ -73,11 +73,11 @@ pub fn enter_blocks(
     s: &[u8],
     places: &[usize; 128],
     blocks: usize,
-    ws: &mut [u64; 1537],
+    ws: &mut [u64; 1665],
     optional: &mut [u64; 8],
     sets: &mut [u64; 1024],
 ) -> Entered
-    requires { ⌜ (blocks ≤ 128) × (length (now ws) ≡ 1537) × Lent (now sets) ⌝ }
+    requires { ⌜ (blocks ≤ 128) × (length (now ws) ≡ 1665) × Lent (now sets) ⌝ }
     ensures { λ r. ⌜ EntersBlocks (now (s .entry)) blocks (now (places .entry)) r (now (ws .exit)) (now (optional .exit)) (now (sets .exit)) ⌝ }
 {
     registry::clear(ws, optional);

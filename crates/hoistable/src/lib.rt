@@ -186,7 +186,7 @@ fn at_root(same: bool, at: usize, left: u8) -> Agreement
 
 // How far the path of node k agrees with the candidate that has the identifier and the `count` entries at `start`.
 fn follow(
-    ws: &[u64; 1537],
+    ws: &[u64; 1665],
     s: &[u8],
     identifier: IdentifierId,
     start: usize,
@@ -209,7 +209,7 @@ fn follow(
 // What the set's paths decide of the candidate's levels. Those with an optional first entry come first in the tree's order, so what they decide is kept apart
 // until the end. A path whose root is another's decides nothing, and may go with either.
 fn decided_levels(
-    ws: &[u64; 1537],
+    ws: &[u64; 1665],
     set: NodeBits,
     s: &[u8],
     identifier: IdentifierId,
@@ -241,7 +241,7 @@ fn decided_levels(
 // At which levels of a candidate the hoistable tree of the set is NonNull: bit j for level j. The candidate has the identifier and the `count` entries at
 // `start`.
 pub fn nonnull_levels(
-    ws: &[u64; 1537],
+    ws: &[u64; 1665],
     set: NodeBits,
     s: &[u8],
     identifier: IdentifierId,

@@ -37,7 +37,7 @@ fn enter_entries(
     s: &[u8],
     start: usize,
     count: u8,
-    ws: &mut [u64; 1537],
+    ws: &mut [u64; 1665],
     optional: &mut [u64; 8],
     from: NodeId,
 ) -> EnteredPath
@@ -68,7 +68,7 @@ pub fn enter_path(
     s: &[u8],
     at: usize,
     mark: u16,
-    ws: &mut [u64; 1537],
+    ws: &mut [u64; 1665],
     optional: &mut [u64; 8],
 ) -> EnteredPath
     requires { ⌜ Held (now ws) (now optional) ⌝ }

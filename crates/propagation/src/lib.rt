@@ -116,7 +116,7 @@ fn join(
     b: usize,
     marks: &[u8; 128],
     sets: &mut [u64; 1024],
-    ws: &mut [u64; 1537],
+    ws: &mut [u64; 1665],
     optional: &mut [u64; 8],
     changed: bool,
 ) -> Progress
@@ -145,7 +145,7 @@ fn leave(
     b: usize,
     marks: &mut [u8; 128],
     sets: &mut [u64; 1024],
-    ws: &mut [u64; 1537],
+    ws: &mut [u64; 1665],
     optional: &mut [u64; 8],
     changed: bool,
 ) -> Progress
@@ -167,7 +167,7 @@ fn visit(
     b: usize,
     marks: &mut [u8; 128],
     sets: &mut [u64; 1024],
-    ws: &mut [u64; 1537],
+    ws: &mut [u64; 1665],
     optional: &mut [u64; 8],
     changed: bool,
 ) -> Progress
@@ -210,7 +210,7 @@ fn walk(
     backward: bool,
     marks: &mut [u8; 128],
     sets: &mut [u64; 1024],
-    ws: &mut [u64; 1537],
+    ws: &mut [u64; 1665],
     optional: &mut [u64; 8],
     changed: bool,
 ) -> Progress
@@ -240,7 +240,7 @@ fn round(
     graph: &[u8; 10497],
     marks: &mut [u8; 128],
     sets: &mut [u64; 1024],
-    ws: &mut [u64; 1537],
+    ws: &mut [u64; 1665],
     optional: &mut [u64; 8],
 ) -> Progress
     requires { ⌜ Ready (now graph) (now sets) (now ws) (now optional) ⌝ }
@@ -258,7 +258,7 @@ fn round(
 pub fn propagate_non_null(
     graph: &[u8; 10497],
     sets: &mut [u64; 1024],
-    ws: &mut [u64; 1537],
+    ws: &mut [u64; 1665],
     optional: &mut [u64; 8],
 ) -> Propagated
     requires { ⌜ Ready (now graph) (now sets) (now ws) (now optional) ⌝ }

@@ -35,7 +35,7 @@ fn reduced_mark(set: NodeBits, k: NodeId, e: DependencyPathEntry) -> bool
 
 // From q on by the entry e, under its mark there. Node k is the child of p by e: where q is p and the mark stays, there is nothing to look for.
 fn step(
-    ws: &mut [u64; 1537],
+    ws: &mut [u64; 1665],
     optional: &mut [u64; 8],
     set: NodeBits,
     k: NodeId,
@@ -69,7 +69,7 @@ fn step(
 
 // The path of node k, walked again from its root under the marks that the set leaves.
 pub fn walk_again(
-    ws: &mut [u64; 1537],
+    ws: &mut [u64; 1665],
     optional: &mut [u64; 8],
     set: NodeBits,
     k: NodeId,
@@ -91,7 +91,7 @@ pub fn walk_again(
 
 // One node of a pass: where its path leads elsewhere now, the node that it leads to takes its place at once.
 fn reduce_node(
-    ws: &mut [u64; 1537],
+    ws: &mut [u64; 1665],
     optional: &mut [u64; 8],
     r: ReducedSet,
     k: NodeId,
@@ -125,7 +125,7 @@ fn reduce_node(
 }
 
 // The set's nodes with an optional entry, ascending, as they are at the start.
-fn pass(ws: &mut [u64; 1537], optional: &mut [u64; 8], set: NodeBits) -> ReducedSet
+fn pass(ws: &mut [u64; 1665], optional: &mut [u64; 8], set: NodeBits) -> ReducedSet
     requires { ⌜ Held (now ws) (now optional) × Members (registryOf (now ws)) (membersOf (set .words)) ⌝ }
     ensures { λ r. ⌜ Reduces (pass (registryOf (now (ws .entry))) (membersOf (set .words))) r (now (ws .exit)) (now (optional .exit)) ⌝ }
 {
@@ -152,7 +152,7 @@ fn pass(ws: &mut [u64; 1537], optional: &mut [u64; 8], set: NodeBits) -> Reduced
 
 // Passes until one changes nothing.
 pub fn reduce_maybe_optional_chains(
-    ws: &mut [u64; 1537],
+    ws: &mut [u64; 1665],
     optional: &mut [u64; 8],
     set: NodeBits,
 ) -> ReducedSet

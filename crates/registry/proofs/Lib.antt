@@ -1,4 +1,5 @@
 pub mod Pack
 pub mod Stored
 pub mod View
+pub mod Buckets
 pub mod Noted

@@ -20,8 +20,9 @@ use Rattle.rows.specs.Members.{membersOf}
 use Rattle.registry.specs.declared.Node.{Node}
 use Rattle.registry.specs.declared.Node.the-variants.{Root, Child}
 use Rattle.registry.specs.Nodes.{nodeOver, Inside, optionalOver, notedWith}
-use Rattle.registry.specs.Words.{countIn, nodesOf, registryOf, Held}
+use Rattle.registry.specs.Words.{endIn, countIn, nodesOf, registryOf, Held}
 use Rattle.registry.proofs.View.{registry-length, registry-snoc}
+use Rattle.registry.proofs.Buckets.{none-linked}
 
 abbrev optional? : DependencyPathEntry → Bool
 optional? e = e .optional
@@ -86,10 +87,11 @@ noted-new ws vs os ps n k h e nodes members j =
     ∙ ap (λ r. hasOptional r j) (sym (registry-snoc ws vs n nodes))
 
 -- words that count no node
-pub none-held : (ws os : List ℕ) → length ws ≡ 1537 → countIn ws ≡ 0 → membersOf os ≡ [] → Held ws os × (registryOf ws ≡ [])
-none-held ws os long none empty = (
+pub none-held : (ws os : List ℕ) → length ws ≡ 1665 → countIn ws ≡ 0 → ((b : ℕ) → b < 128 → endIn ws b ≡ 0) → membersOf os ≡ [] → Held ws os × (registryOf ws ≡ [])
+none-held ws os long none ends empty = (
   record {
     sized = record { long = long; room = omega arith };
+    linked = none-linked ws none ends;
     sound = subst Sound (sym nothing) sound-empty;
     noted = λ k. ap (λ s. contains s k) empty ∙ sym (ap (λ r. hasOptional r k) nothing ∙ past-none [] k (omega arith));
   },

@@ -2,7 +2,7 @@
 use Prim.Native.Nat.{ℕ, _+_, _*_, _/_, _%_, _<_}
 use native.Mathlib.Omega.{arith}
 use mathlib.Core.Bool.{Bool, true, false}
-use mathlib.Core.Path.{_≡_, refl, subst}
+use mathlib.Core.Path.{_≡_, refl, ap, _∙_, subst}
 use lib.Dec.{eqb}
 use Rattle.entries.specs.declared.IdentifierId.{IdentifierId}
 use Rattle.entries.specs.declared.NodeId.{NodeId}
@@ -15,7 +15,7 @@ use Rattle.entries.specs.Property.{propertyOf, isNumber, valueOf}
 use Rattle.model.specs.Answer.{flag}
 use Rattle.registry.specs.declared.Node.{Node}
 use Rattle.registry.specs.declared.Node.the-variants.{Root, Child}
-use Rattle.registry.specs.Words.{ParentFits, unpack}
+use Rattle.registry.specs.Words.{ParentFits, parentUnit, linkUnit, unpackBy, unpack}
 
 flag-back : (b : Bool) → eqb (flag b) 1 ≡ b
 flag-back true = refl
@@ -65,3 +65,45 @@ packed-child p e o k p< eo o< ek k< =
 
 pub packs-child : {n : Node} {p : NodeId} {e : DependencyPathEntry} → ParentFits n → n ≡ Child p e → p .0 < rootMark
 packs-child h e = subst ParentFits e h
+
+-- The link stands above all fields: unpacking passes it over, and division by its unit gives it back.
+
+module _ (h link : ℕ) where
+  past-link-48 : (h + link * 2251799813685248) / 281474976710656 ≡ h / 281474976710656 + link * 8
+  past-link-48 = omega arith
+
+  past-link-49 : (h + link * 2251799813685248) / 562949953421312 ≡ h / 562949953421312 + link * 4
+  past-link-49 = omega arith
+
+  past-link-50 : (h + link * 2251799813685248) / 1125899906842624 ≡ h / 1125899906842624 + link * 2
+  past-link-50 = omega arith
+
+  past-link-32 : (h + link * 2251799813685248) / 4294967296 ≡ h / 4294967296 + link * 524288
+  past-link-32 = omega arith
+
+  identifier-below : (h + link * 2251799813685248) % 4294967296 ≡ h % 4294967296
+  identifier-below = omega arith
+
+  parent-below : (h + link * 2251799813685248) / 4294967296 % 65536 ≡ h / 4294967296 % 65536
+  parent-below = rw past-link-32 (omega arith)
+
+  optional-below : (h + link * 2251799813685248) / 281474976710656 % 2 ≡ h / 281474976710656 % 2
+  optional-below = rw past-link-48 (omega arith)
+
+  number-below : (h + link * 2251799813685248) / 562949953421312 % 2 ≡ h / 562949953421312 % 2
+  number-below = rw past-link-49 (omega arith)
+
+  reactive-below : (h + link * 2251799813685248) / 1125899906842624 % 2 ≡ h / 1125899906842624 % 2
+  reactive-below = rw past-link-50 (omega arith)
+
+fields-below : (b : Bool) (h v s link : ℕ) → unpackBy b (h + link * linkUnit) v s ≡ unpackBy b h v s
+fields-below true h v s link = simp (identifier-below h link, reactive-below h link)
+fields-below false h v s link = simp (parent-below h link, number-below h link, optional-below h link)
+
+pub linked-word : (h v s link : ℕ) → unpack (h + link * linkUnit) v s ≡ unpack h v s
+unfolding unpack
+linked-word h v s link =
+    ap (λ (p : ℕ). unpackBy (eqb p rootMark) (h + link * linkUnit) v s) (parent-below h link) ∙ fields-below (eqb (h / parentUnit % 65536) rootMark) h v s link
+
+pub link-back : (h link : ℕ) → h < linkUnit → (h + link * linkUnit) / linkUnit ≡ link
+link-back h link l = omega arith

@@ -1,17 +1,17 @@
 -- What the words hold after a node more has been stored.
-use Prim.Native.Nat.{ℕ, zero, suc, _+_, _*_, _-_, _≤_, _<_}
+use Prim.Native.Nat.{ℕ, zero, suc, _+_, _*_, _/_, _≤_, _<_}
 use native.Mathlib.Omega.{arith}
 use native.Mathlib.Numerals.{add-one}
 use native.Mathlib.Nat.{add-zero, zero-add, not-suc-le-zero}
-use mathlib.Core.Path.{_≡_, refl, _∙_, ap, sym}
+use mathlib.Core.Path.{_≡_, refl, _∙_, ap}
 use mathlib.Core.Logic.{_≢_}
-use mathlib.Core.Bool.{true, false, cond}
+use mathlib.Core.Bool.{false}
 use mathlib.Core.List.{List, [], _∷_, _++_}
 use lib.ListN.{length, getD, set, length-set}
 use lib.Seq.{getD-set-same, getD-set-other, lt-length-set}
 use Rattle.registry.specs.declared.Node.{Node}
 use Rattle.registry.specs.Nodes.{sameKey, findNode}
-use Rattle.registry.specs.Words.{unpack, nodeAt, countIn, nodesFrom, nodesOf}
+use Rattle.registry.specs.Words.{linkUnit, unpack, nodeAt, linkAt, endIn, countIn, nodesFrom, nodesOf}
 
 nodes-length : (ws : List ℕ) (k n : ℕ) → length (nodesFrom ws k n) ≡ n
 nodes-length ws k zero = refl
@@ -38,66 +38,96 @@ nodes-snoc : (ws : List ℕ) (k n : ℕ) → nodesFrom ws k (suc n) ≡ nodesFro
 nodes-snoc ws k zero = rw (add-zero k)
 nodes-snoc ws k (suc n) = ap (λ (l : List Node). nodeAt ws k ∷ l) (let e : k + suc n ≡ suc k + n = omega arith in rw e (nodes-snoc ws (suc k) n))
 
--- a node in three words at place k, and k + 1 as the number of nodes
-abbrev pub stored : List ℕ → ℕ → ℕ → ℕ → ℕ → List ℕ
-stored ws k h v s = set (set (set (set ws (k * 3) h) (k * 3 + 1) v) (k * 3 + 2) s) 1536 (k + 1)
+-- a node in three words at place k, and k + 1 as the end of bucket b and as the number of nodes
+abbrev pub stored : List ℕ → ℕ → ℕ → ℕ → ℕ → ℕ → List ℕ
+stored ws k b h v s = set (set (set (set (set ws (k * 3) h) (k * 3 + 1) v) (k * 3 + 2) s) (1537 + b) (k + 1)) 1536 (k + 1)
 
-module _ (ws : List ℕ) (k h v s : ℕ) (room : k < 512) (long : length ws ≡ 1537) where
-  pub stored-count : countIn (stored ws k h v s) ≡ k + 1
-  stored-count = let e : 1536 < length ws = omega arith in simp (getD-set-same, lt-length-set)
+module _ (ws : List ℕ) (k b h v s : ℕ) (room : k < 512) (small : b < 128) (long : length ws ≡ 1665) where
+  pub stored-count : countIn (stored ws k b h v s) ≡ k + 1
+  stored-count =
+      let same : length (set (set (set (set ws (k * 3) h) (k * 3 + 1) v) (k * 3 + 2) s) (1537 + b) (k + 1)) ≡ 1665 = simp length-set long in
+      getD-set-same (set (set (set (set ws (k * 3) h) (k * 3 + 1) v) (k * 3 + 2) s) (1537 + b) (k + 1)) 1536 (k + 1) 0 (omega arith)
 
-  elsewhere : (i : ℕ) → i < k * 3 → getD (stored ws k h v s) i 0 ≡ getD ws i 0
+  elsewhere : (i : ℕ) → i < k * 3 → getD (stored ws k b h v s) i 0 ≡ getD ws i 0
   elsewhere i l =
       let a : i ≢ k * 3 = λ e. omega arith in
-      let b : i ≢ k * 3 + 1 = λ e. omega arith in
-      let c : i ≢ k * 3 + 2 = λ e. omega arith in
-      let d : i ≢ 1536 = λ e. omega arith in
+      let c : i ≢ k * 3 + 1 = λ e. omega arith in
+      let d : i ≢ k * 3 + 2 = λ e. omega arith in
+      let f : i ≢ 1537 + b = λ e. omega arith in
+      let g : i ≢ 1536 = λ e. omega arith in
       simp getD-set-other
 
-  stored-below : (j : ℕ) → j < k → nodeAt (stored ws k h v s) j ≡ nodeAt ws j
+  pub stored-below : (j : ℕ) → j < k → nodeAt (stored ws k b h v s) j ≡ nodeAt ws j
   stored-below j l = rw (elsewhere (j * 3) (omega arith), elsewhere (j * 3 + 1) (omega arith), elsewhere (j * 3 + 2) (omega arith))
 
-  stored-at : nodeAt (stored ws k h v s) k ≡ unpack h v s
-  stored-at =
+  pub link-below : (j : ℕ) → j < k → linkAt (stored ws k b h v s) j ≡ linkAt ws j
+  link-below j l = rw (elsewhere (j * 3) (omega arith))
+
+  first-word : getD (stored ws k b h v s) (k * 3) 0 ≡ h
+  first-word =
       let a : k * 3 ≢ k * 3 + 1 = λ e. omega arith in
-      let b : k * 3 ≢ k * 3 + 2 = λ e. omega arith in
-      let c : k * 3 + 1 ≢ k * 3 + 2 = λ e. omega arith in
-      let d : k * 3 ≢ 1536 = λ e. omega arith in
+      let c : k * 3 ≢ k * 3 + 2 = λ e. omega arith in
+      let d : k * 3 ≢ 1537 + b = λ e. omega arith in
+      let e : k * 3 ≢ 1536 = λ e. omega arith in
+      let l : k * 3 < length ws = omega arith in
+      simp (getD-set-other, getD-set-same)
+
+  second-word : getD (stored ws k b h v s) (k * 3 + 1) 0 ≡ v
+  second-word =
+      let a : k * 3 + 1 ≢ k * 3 + 2 = λ e. omega arith in
+      let d : k * 3 + 1 ≢ 1537 + b = λ e. omega arith in
       let e : k * 3 + 1 ≢ 1536 = λ e. omega arith in
-      let f : k * 3 + 2 ≢ 1536 = λ e. omega arith in
-      let l0 : k * 3 < length ws = omega arith in
-      let l1 : k * 3 + 1 < length ws = omega arith in
-      let l2 : k * 3 + 2 < length ws = omega arith in
+      let l : k * 3 + 1 < length ws = omega arith in
       simp (getD-set-other, getD-set-same, lt-length-set)
 
-  stored-nodes : nodesFrom (stored ws k h v s) 0 (suc k) ≡ nodesFrom ws 0 k ++ (unpack h v s ∷ [])
-  stored-nodes =
-      nodes-snoc (stored ws k h v s) 0 k
-      ∙ rw (zero-add k, stored-at, nodes-same (stored ws k h v s) ws 0 k (λ j l. stored-below j (omega arith)))
+  third-word : getD (stored ws k b h v s) (k * 3 + 2) 0 ≡ s
+  third-word =
+      let d : k * 3 + 2 ≢ 1537 + b = λ e. omega arith in
+      let e : k * 3 + 2 ≢ 1536 = λ e. omega arith in
+      let l : k * 3 + 2 < length ws = omega arith in
+      simp (getD-set-other, getD-set-same, lt-length-set)
 
-  pub stored-long : length (stored ws k h v s) ≡ 1537
+  pub stored-at : nodeAt (stored ws k b h v s) k ≡ unpack h v s
+  stored-at = rw (first-word, second-word, third-word)
+
+  pub stored-link : linkAt (stored ws k b h v s) k ≡ h / linkUnit
+  stored-link = rw first-word
+
+  pub stored-end : endIn (stored ws k b h v s) b ≡ k + 1
+  stored-end =
+      let d : 1537 + b ≢ 1536 = λ e. omega arith in
+      let l : 1537 + b < length ws = omega arith in
+      simp (getD-set-other, getD-set-same, lt-length-set)
+
+  pub end-elsewhere : (c : ℕ) → c < 128 → c ≢ b → endIn (stored ws k b h v s) c ≡ endIn ws c
+  end-elsewhere c l other =
+      let a : 1537 + c ≢ k * 3 = λ e. omega arith in
+      let d : 1537 + c ≢ k * 3 + 1 = λ e. omega arith in
+      let f : 1537 + c ≢ k * 3 + 2 = λ e. omega arith in
+      let g : 1537 + c ≢ 1537 + b = λ e. other (omega arith) in
+      let i : 1537 + c ≢ 1536 = λ e. omega arith in
+      simp getD-set-other
+
+  stored-nodes : nodesFrom (stored ws k b h v s) 0 (suc k) ≡ nodesFrom ws 0 k ++ (unpack h v s ∷ [])
+  stored-nodes =
+      nodes-snoc (stored ws k b h v s) 0 k
+      ∙ rw (zero-add k, stored-at, nodes-same (stored ws k b h v s) ws 0 k (λ j l. stored-below j (omega arith)))
+
+  pub stored-long : length (stored ws k b h v s) ≡ 1665
   stored-long = simp length-set long
 
-pub pushed : (ws : List ℕ) (h v s : ℕ) (n : Node) → countIn ws < 512 → length ws ≡ 1537 → unpack h v s ≡ n → nodesOf (stored ws (countIn ws) h v s) ≡ nodesOf ws ++ (n ∷ [])
+pub pushed : (ws : List ℕ) (b h v s : ℕ) (n : Node) → countIn ws < 512 → b < 128 → length ws ≡ 1665 → unpack h v s ≡ n → nodesOf (stored ws (countIn ws) b h v s) ≡ nodesOf ws ++ (n ∷ [])
 unfolding nodesOf
-pushed ws h v s n room long e =
-    ap (nodesFrom (stored ws (countIn ws) h v s) 0) (stored-count ws (countIn ws) h v s room long ∙ add-one (countIn ws))
-    ∙ stored-nodes ws (countIn ws) h v s room long ∙ ap (λ (m : Node). nodesFrom ws 0 (countIn ws) ++ (m ∷ [])) e
+pushed ws b h v s n room small long e =
+    ap (nodesFrom (stored ws (countIn ws) b h v s) 0) (stored-count ws (countIn ws) b h v s room small long ∙ add-one (countIn ws))
+    ∙ stored-nodes ws (countIn ws) b h v s room small long ∙ ap (λ (m : Node). nodesFrom ws 0 (countIn ws) ++ (m ∷ [])) e
 
--- The search from number i on: what is still to be searched, and what has been passed.
-module _ (ws : List ℕ) (n : Node) (i end : ℕ) where
-  abbrev pub searchFrom : ℕ
-  searchFrom = i + findNode (nodesFrom ws i (end - i)) n
+-- Where no node has the key, the search gives how many there are.
 
-pub search-hit : (ws : List ℕ) (n : Node) (i end : ℕ) → i < end → sameKey (nodeAt ws i) n ≡ true → searchFrom ws n i end ≡ i
-search-hit ws n i end l h = let e : end - i ≡ suc (end - (i + 1)) = omega arith in rw (e, h) (omega arith)
+none-from : (ws : List ℕ) (n : Node) (k m : ℕ) → ((j : ℕ) → k ≤ j → j < k + m → sameKey (nodeAt ws j) n ≡ false) → findNode (nodesFrom ws k m) n ≡ m
+none-from ws n k zero h = refl
+none-from ws n k (suc m) h = rw (h k (omega arith) (omega arith)) (ap suc (none-from ws n (suc k) m (λ j a l. h j (omega arith) (omega arith))))
 
-pub search-miss : (ws : List ℕ) (n : Node) (i end : ℕ) → i < end → sameKey (nodeAt ws i) n ≡ false → searchFrom ws n i end ≡ searchFrom ws n (i + 1) end
-search-miss ws n i end l h =
-    let e : end - i ≡ suc (end - (i + 1)) = omega arith in
-    let found = findNode (nodesFrom ws (suc i) (end - (i + 1))) n in
-    let step : i + suc found ≡ i + 1 + found = omega arith in
-    rw (e, h) (step ∙ ap (λ (j : ℕ). i + 1 + findNode (nodesFrom ws j (end - (i + 1))) n) (sym (add-one i)))
-
-pub search-over : (ws : List ℕ) (n : Node) (i end : ℕ) → end ≤ i → i ≤ end → searchFrom ws n i end ≡ end
-search-over ws n i end l m = let e : end - i ≡ 0 = omega arith in rw e (omega arith)
+pub none-found : (ws : List ℕ) (n : Node) → ((j : ℕ) → j < countIn ws → sameKey (nodeAt ws j) n ≡ false) → findNode (nodesOf ws) n ≡ countIn ws
+unfolding nodesOf
+none-found ws n h = none-from ws n 0 (countIn ws) (λ j a l. h j (omega arith))

@@ -7,10 +7,12 @@ use mathlib.Core.Logic.{_⊎_, inl, inr}
 use mathlib.Core.Bool.{Bool, true, false, cond}
 use mathlib.Core.List.{List, [], _∷_, _++_, append-assoc, append-nil}
 use lib.ListN.{length, getD, length-append}
+use lib.Dec.{eqb}
 use Rattle.entries.specs.declared.NodeId.{NodeId}
-use Rattle.model.specs.Tests.{decide}
-use Rattle.model.specs.Registry.{nodeLimit, PropertyPathNode, PropertyPathRegistry, find, ensure, Reached, findOrMake}
-use Rattle.model.specs.RegistryLaws.{found-or-made, WasFound, WasMade, Sound, root-reached, child-reached}
+use Rattle.entries.specs.Path.{sameEntry, ReactiveScopeDependency}
+use Rattle.model.specs.Tests.{never, eqb-true, and-first, and-second}
+use Rattle.model.specs.Registry.{nodeLimit, Origin, root, childOf, PropertyPathNode, PropertyPathRegistry, isRootFor, isChild, isChildBy, find, ensure, Reached, findOrMake}
+use Rattle.model.specs.RegistryLaws.{found-or-made, WasFound, WasMade, Stands, Sound, root-reached, child-reached, entry-property, entry-optional}
 use Rattle.model.specs.RegistryLaws as Placed
 use Rattle.registry.specs.declared.Node.{Node}
 use Rattle.registry.specs.declared.Node.the-variants.{Root, Child}
@@ -67,6 +69,45 @@ origin-over before (n ∷ ns) (suc k) d l = origin-over (before ++ (nodeOver bef
 pub origin-at : (ws : List ℕ) (k : ℕ) → k < countIn ws → Placed.nodeAt (registryOf ws) k .origin ≡ originOf (nodeAt ws k)
 unfolding registryOf registryFrom
 origin-at ws k l = let size = nodesOf-length ws in origin-over [] (nodesOf ws) k (nodeAt ws k) (omega arith) ∙ ap originOf (nodesOf-at ws k l)
+
+-- In a sound registry a node is the only one with its key, and so the first.
+
+find-same : (t u : PropertyPathNode → Bool) (reg : PropertyPathRegistry) → ((n : PropertyPathNode) → t n ≡ u n) → find t reg ≡ find u reg
+find-same t u [] h = refl
+find-same t u (n ∷ ns) h = rw (h n, find-same t u ns h)
+
+test-over : (before : PropertyPathRegistry) (ns : List Node) (k : ℕ) (d n : Node) → k < length ns → testFor n (Placed.nodeAt (nodesOver before ns) k) ≡ sameKey (getD ns k d) n
+test-over before [] k d n l = absurd (not-suc-le-zero l)
+test-over before (m ∷ ms) zero d n l = test-key before m n
+test-over before (m ∷ ms) (suc k) d n l = test-over (before ++ (nodeOver before m ∷ [])) ms k d n (omega arith)
+
+test-at : (ws : List ℕ) (k : ℕ) (n : Node) → k < countIn ws → testFor n (Placed.nodeAt (registryOf ws) k) ≡ sameKey (nodeAt ws k) n
+unfolding registryOf registryFrom
+test-at ws k n l = let size = nodesOf-length ws in test-over [] (nodesOf ws) k (nodeAt ws k) n (omega arith) ∙ ap (λ m. sameKey m n) (nodesOf-at ws k l)
+
+sound-only : (reg : PropertyPathRegistry) (k : ℕ) (n : Node) (o : Origin) (d : ReactiveScopeDependency) → Stands reg k o d → testFor n (record { origin = o; fullPath = d }) ≡ true → find (testFor n) reg ≡ k
+sound-only reg k (Root i r s) root d st t =
+    let number : d .identifier .0 ≡ i .0 = eqb-true (d .identifier .0) (i .0) t in
+    subst (λ x. find (isRootFor (record { 0 = x })) reg ≡ k) number (st .only)
+sound-only reg k (Root i r s) (childOf q f) d st t = never t refl
+sound-only reg k (Child p e) root d st t = never t refl
+sound-only reg k (Child p e) (childOf q f) d st t = find-same (isChildBy p e) (isChildBy q f) reg (λ n. alike (n .origin)) ∙ st .only
+  where
+    number : q .0 ≡ p .0
+    number = eqb-true (q .0) (p .0) (and-first (eqb (q .0) (p .0)) _ t)
+
+    same : sameEntry f e ≡ true
+    same = and-second (eqb (q .0) (p .0)) _ t
+
+    alike : (o : Origin) → isChild p e o ≡ isChild q f o
+    alike root = refl
+    alike (childOf x g) = rw (number, entry-property f e same, entry-optional f e same)
+
+pub found-at : (ws : List ℕ) (k : ℕ) (n : Node) → Sound (registryOf ws) → k < countIn ws → sameKey (nodeAt ws k) n ≡ true → findNode (nodesOf ws) n ≡ k
+found-at ws k n h l t =
+    let size = registry-length ws in
+    let m = Placed.nodeAt (registryOf ws) k in
+    sym (find-view ws n) ∙ sound-only (registryOf ws) k n (m .origin) (m .fullPath) (h k (omega arith)) (test-at ws k n l ∙ t)
 
 -- What the model finds or makes.
 

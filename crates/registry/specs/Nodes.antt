@@ -1,11 +1,12 @@
 -- Nodes as the words keep them, and the model's registry that a list of them stands for.
-use Prim.Native.Nat.{ℕ, zero, suc, _<_}
+use Prim.Native.Nat.{ℕ, zero, suc, _+_, _*_, _/_, _%_, _<_}
 use mathlib.Core.Bool.{Bool, true, false, _&&_, _||_, cond}
 use mathlib.Core.List.{List, [], _∷_, _++_}
 use lib.ListN.{length}
 use lib.Dec.{eqb, ltb}
 use Rattle.entries.specs.declared.NodeId.{NodeId}
 use Rattle.entries.specs.Path.{sameEntry}
+use Rattle.entries.specs.Property.{valueOf}
 use Rattle.model.specs.Sets.{NodeSet, contains, insert}
 use Rattle.model.specs.Registry.{PropertyPathNode, PropertyPathRegistry, isRootFor, isChildBy, Origin, root, childOf, Reached, findOrMake, rootNode, childNode, fullPathOf}
 use Rattle.registry.specs.declared.Node.{Node}
@@ -17,6 +18,11 @@ sameKey (Root i r s) (Root j q t) = eqb (i .0) (j .0)
 sameKey (Root i r s) (Child q f) = false
 sameKey (Child p e) (Root j q t) = false
 sameKey (Child p e) (Child q f) = eqb (p .0) (q .0) && sameEntry e f
+
+-- the bucket in which a node is looked for, below 128: nodes with the same key have the same
+abbrev pub bucketOf : Node → ℕ
+bucketOf (Root i r s) = i .0 % 128
+bucketOf (Child p e) = (p .0 % 128 * 31 + valueOf (e .property) % 128 + valueOf (e .property) / 70368744177664) % 128
 
 -- where a node hangs
 abbrev pub originOf : Node → Origin

@@ -1,6 +1,7 @@
--- The nodes that a list of words holds: three words a node, and how many there are in word 1536.
+-- The nodes that a list of words holds: three words a node, how many there are in word 1536, and behind it a word for each of the 128 buckets.
 use Prim.Native.Nat.{ℕ, zero, suc, _+_, _*_, _/_, _%_, _≤_, _<_}
 use mathlib.Core.Path.{_≡_}
+use mathlib.Core.Logic.{_≢_}
 use mathlib.Core.Bool.{Bool, true, false, cond}
 use mathlib.Core.List.{List, [], _∷_, _++_}
 use lib.ListN.{length, getD}
@@ -16,7 +17,7 @@ use Rattle.registry.specs.declared.Node.{Node}
 use Rattle.registry.specs.declared.Entered.{Entered}
 use Rattle.registry.specs.declared.Entered.the-variants.{At, Full}
 use Rattle.registry.specs.declared.Node.the-variants.{Root, Child}
-use Rattle.registry.specs.Nodes.{registryFrom}
+use Rattle.registry.specs.Nodes.{bucketOf, registryFrom}
 
 -- a parent's number fits its bits, and is no root's mark
 abbrev pub ParentFits : Node → Type 0
@@ -33,8 +34,8 @@ abbrev pub spanIn : Node → ℕ
 spanIn (Root i r s) = s
 spanIn (Child p e) = e .span
 
--- The first word of a node: identifier (32 bits, of a root), parent (16 bits), optional and number (a bit each, of a child), reactive (a bit, of a root);
--- what a one in each part is worth.
+-- The first word of a node: identifier (32 bits, of a root), parent (16 bits), optional and number (a bit each, of a child), reactive (a bit, of a root),
+-- and the link above them; what a one in each part is worth.
 abbrev pub parentUnit : ℕ
 parentUnit = 4294967296
 
@@ -49,6 +50,10 @@ numberUnit = 562949953421312
 -- the bit of a reactive root
 abbrev pub reactiveUnit : ℕ
 reactiveUnit = 1125899906842624
+
+-- a link of 1
+abbrev pub linkUnit : ℕ
+linkUnit = 2251799813685248
 
 -- the node that three words hold, a root or a child
 abbrev pub unpackBy : Bool → ℕ → ℕ → ℕ → Node
@@ -69,6 +74,18 @@ nodeAt ws k = unpack (getD ws (k * 3) 0) (getD ws (k * 3 + 1) 0) (getD ws (k * 3
 abbrev pub countIn : List ℕ → ℕ
 countIn ws = getD ws 1536 0
 
+-- The bucket of node k of the words.
+abbrev pub bucketAt : List ℕ → ℕ → ℕ
+bucketAt ws k = bucketOf (nodeAt ws k)
+
+-- The link of node k.
+abbrev pub linkAt : List ℕ → ℕ → ℕ
+linkAt ws k = getD ws (k * 3) 0 / linkUnit
+
+-- The end of bucket b.
+abbrev pub endIn : List ℕ → ℕ → ℕ
+endIn ws b = getD ws (1537 + b) 0
+
 -- n nodes from number k on
 abbrev pub nodesFrom : List ℕ → ℕ → ℕ → List Node
 nodesFrom ws k zero = []
@@ -84,17 +101,29 @@ registryOf ws = registryFrom (nodesOf ws)
 
 -- room for the most nodes, and no more than these
 pub record Sized (ws : List ℕ) : Type 0 where
-  pub long : length ws ≡ 1537
+  pub long : length ws ≡ 1665
   pub room : countIn ws ≤ nodeLimit
+
+-- Of the nodes below number `limit`, e - 1 is the last one in bucket b, and where e is 0 there is none.
+pub record BehindLast (ws : List ℕ) (b limit e : ℕ) : Type 0 where
+  pub within : e ≤ limit
+  pub last : (k : ℕ) → k + 1 ≡ e → bucketAt ws k ≡ b
+  pub later : (j : ℕ) → e ≤ j → j < limit → bucketAt ws j ≢ b
+
+-- The end of each bucket is behind its last node, and the link of each node behind the last one before it in its bucket.
+pub record Linked (ws : List ℕ) : Type 0 where
+  pub ends : (b : ℕ) → b < 128 → BehindLast ws b (countIn ws) (endIn ws b)
+  pub links : (k : ℕ) → k < countIn ws → BehindLast ws (bucketAt ws k) k (linkAt ws k)
 
 -- The words hold a registry as its operations make it.
 pub record HoldsRegistry (ws : List ℕ) : Type 0 where
   pub sized : Sized ws
   pub sound : Sound (registryOf ws)
 
--- The same, and the eight words `os` hold the set of its nodes with an optional entry.
+-- The same, its nodes are linked, and the eight words `os` hold the set of its nodes with an optional entry.
 pub record Held (ws os : List ℕ) : Type 0 where
   pub sized : Sized ws
+  pub linked : Linked ws
   pub sound : Sound (registryOf ws)
   pub noted : (k : NodeId) → contains (membersOf os) k ≡ hasOptional (registryOf ws) k
 

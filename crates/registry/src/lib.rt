@@ -1,15 +1,17 @@
 // The registry of property paths: nodes numbered from 0 as made, in words that the caller lends: three words a node, and the number of nodes behind them.
-// Eight more words are the set of the nodes with an optional entry, so that a reduction finds them at once.
+// A node is looked for among those of its bucket, of which there are 128. 128 more words say where each bucket's last node is, and a node's first word
+// where the one before it is. Eight words of their own are the set of the nodes with an optional entry, so that a reduction finds them at once.
 ghost use mathlib.Core.Path.{_≡_};
 ghost use Prim.Native.Nat.{_<_, _≤_};
 ghost use Rattle.model.specs.Registry.{getOrCreateIdentifier, getOrCreatePropertyEntry};
+ghost use Rattle.model.specs.RegistryLaws.{Sound};
 ghost use Rattle.model.specs.Answer.{flag};
 ghost use mathlib.Core.List.{_++_, _∷_, []};
 ghost use lib.ListN.{length};
 ghost use Rattle.registry.specs.declared.Node.the-variants.{Root, Child};
 ghost use Rattle.rows.specs.Members.{membersOf};
-ghost use Rattle.registry.specs.Nodes.{sameKey, findNode, madeFor, Inside, optionalOver, notedWith};
-ghost use Rattle.registry.specs.Words.{valueIn, spanIn, ParentFits, unpack, nodeAt, countIn, nodesOf, registryOf, Sized, Held, Arrives};
+ghost use Rattle.registry.specs.Nodes.{sameKey, bucketOf, findNode, madeFor, Inside, optionalOver, notedWith};
+ghost use Rattle.registry.specs.Words.{valueIn, spanIn, ParentFits, unpack, nodeAt, countIn, nodesOf, registryOf, linkUnit, linkAt, endIn, Sized, Linked, Held, Arrives};
 use entries::DependencyPathEntry;
 use entries::IdentifierId;
 use entries::NodeId;
@@ -56,6 +58,20 @@ impl Node {
             },
         }
     }
+
+    // The bucket in which a node is looked for. A property that is a number has the bits of a float, in which those of a small number are the high ones.
+    fn bucket(self) -> usize
+        ensures { λ r. ⌜ (r ≡ bucketOf self) × (r < 128) ⌝ }
+    {
+        match self {
+            Node::Root(identifier, _, _) => identifier.0 as usize % 128,
+            Node::Child(parent, entry) => {
+                let property = entry.property;
+                let value = property.value() as usize;
+                (parent.0 % 128 * 31 + value % 128 + value / 70368744177664) % 128
+            }
+        }
+    }
 }
 
 fn bit(b: bool) -> u64
@@ -65,7 +81,7 @@ fn bit(b: bool) -> u64
 }
 
 // A node as three words, and back. The first word has the identifier (of a root) below the parent, and three marks above it, of which the second
-// is worth two of the first and the third four.
+// is worth two of the first and the third four. Above them stands the link to the node before it in its bucket.
 const PARENT: u64 = 4294967296;
 
 const OPTIONAL: u64 = 281474976710656;
@@ -74,10 +90,12 @@ const NUMBER: u64 = 562949953421312;
 
 const REACTIVE: u64 = 1125899906842624;
 
+const LINK: u64 = 2251799813685248;
+
 impl Node {
     pub fn head(self) -> u64
         requires { ⌜ ParentFits self ⌝ }
-        ensures { λ r. ⌜ unpack r (valueIn self) (spanIn self) ≡ self ⌝ }
+        ensures { λ r. ⌜ (unpack r (valueIn self) (spanIn self) ≡ self) × (r < linkUnit) ⌝ }
     {
         match self {
             Node::Root(identifier, reactive, _) => {
@@ -139,13 +157,13 @@ impl Node {
 
 // The words.
 
-pub fn count(ws: &[u64; 1537]) -> usize
+pub fn count(ws: &[u64; 1665]) -> usize
     ensures { λ r. ⌜ r ≡ countIn (now (ws .entry)) ⌝ }
 {
     ws[1536] as usize
 }
 
-pub fn load(ws: &[u64; 1537], k: NodeId) -> Node
+pub fn load(ws: &[u64; 1665], k: NodeId) -> Node
     requires { ⌜ k .0 < 512 ⌝ }
     ensures { λ r. ⌜ r ≡ nodeAt (now (ws .entry)) (k .0) ⌝ }
 {
@@ -153,45 +171,71 @@ pub fn load(ws: &[u64; 1537], k: NodeId) -> Node
     Node::unpack(ws[at], ws[at + 1], ws[at + 2])
 }
 
-// A registry of no nodes.
-pub fn clear(ws: &mut [u64; 1537], optional: &mut [u64; 8])
-    requires { ⌜ length (now ws) ≡ 1537 ⌝ }
+// Where the words of the buckets start. An end is the number behind the last node of a bucket, and 0 where there is none.
+const ENDS: usize = 1537;
+
+// The end of bucket b.
+fn end_of(ws: &[u64; 1665], b: usize) -> usize
+    requires { ⌜ b < 128 ⌝ }
+    ensures { λ r. ⌜ r ≡ endIn (now (ws .entry)) b ⌝ }
+{
+    ws[ENDS + b] as usize
+}
+
+// The link of node k: the end of its bucket when k was made.
+fn link(ws: &[u64; 1665], k: usize) -> usize
+    requires { ⌜ k < 512 ⌝ }
+    ensures { λ r. ⌜ r ≡ linkAt (now (ws .entry)) k ⌝ }
+{
+    (ws[k * 3] / LINK) as usize
+}
+
+// A registry of no nodes: the number of nodes and the ends of all buckets are 0.
+pub fn clear(ws: &mut [u64; 1665], optional: &mut [u64; 8])
+    requires { ⌜ length (now ws) ≡ 1665 ⌝ }
     ensures { λ _. ⌜ Held (now (ws .exit)) (now (optional .exit)) × (registryOf (now (ws .exit)) ≡ []) ⌝ }
 {
-    ws[1536] = 0;
+    let mut at: usize = 1536;
+    while at < 1665 {
+        ws[at] = 0;
+        at += 1;
+    }
     let none = NodeBits::empty();
     let words = none.words;
     *optional = words;
 }
 
-// One node more.
-fn push(ws: &mut [u64; 1537], n: Node)
-    requires { ⌜ Sized (now ws) × (countIn (now ws) < 512) × ParentFits n ⌝ }
-    ensures { λ _. ⌜ Sized (now (ws .exit)) × (nodesOf (now (ws .exit)) ≡ nodesOf (now (ws .entry)) ++ (n ∷ [])) ⌝ }
+// One node more, which is the last of its bucket.
+fn push(ws: &mut [u64; 1665], n: Node)
+    requires { ⌜ Sized (now ws) × Linked (now ws) × (countIn (now ws) < 512) × ParentFits n ⌝ }
+    ensures { λ _. ⌜ Sized (now (ws .exit)) × Linked (now (ws .exit)) × (nodesOf (now (ws .exit)) ≡ nodesOf (now (ws .entry)) ++ (n ∷ [])) ⌝ }
 {
     let k = ws[1536] as usize;
     let at = k * 3;
-    ws[at] = n.head();
+    let end = ENDS + n.bucket();
+    let link = ws[end];
+    ws[at] = n.head() + link * LINK;
     ws[at + 1] = n.value();
     ws[at + 2] = n.span();
+    ws[end] = (k + 1) as u64;
     ws[1536] = (k + 1) as u64;
 }
 
-// The number of the first node with the key of n, or how many there are.
-pub fn find(ws: &[u64; 1537], n: Node) -> usize
-    requires { ⌜ Sized (now ws) ⌝ }
+// The number of the node with the key of n, or how many there are. A key occurs once, so that the search may go from the last node of the bucket to the first.
+fn find(ws: &[u64; 1665], n: Node) -> usize
+    requires { ⌜ Sized (now ws) × Linked (now ws) × Sound (registryOf (now ws)) ⌝ }
     ensures { λ r. ⌜ r ≡ findNode (nodesOf (now (ws .entry))) n ⌝ }
 {
-    let end = count(ws);
-    let mut i: usize = 0;
-    while i < end {
-        let m = load(ws, NodeId(i));
+    let mut end = end_of(ws, n.bucket());
+    while 0 < end {
+        let k = end - 1;
+        let m = load(ws, NodeId(k));
         if m.same(n) {
-            return i;
+            return k;
         }
-        i += 1;
+        end = link(ws, k);
     }
-    end
+    count(ws)
 }
 
 // The node reached, or that the words have no room for it.
@@ -231,7 +275,7 @@ fn note(optional: &mut [u64; 8], n: Node, k: NodeId)
 }
 
 // The node with the key of n, made where there is none.
-fn find_or_make(ws: &mut [u64; 1537], optional: &mut [u64; 8], n: Node) -> Entered
+fn find_or_make(ws: &mut [u64; 1665], optional: &mut [u64; 8], n: Node) -> Entered
     requires { ⌜ Held (now ws) (now optional) × Inside n (countIn (now ws)) ⌝ }
     ensures { λ r. ⌜ Arrives (madeFor (registryOf (now (ws .entry))) n) r (now (ws .exit)) (now (optional .exit)) ⌝ }
 {
@@ -251,7 +295,7 @@ fn find_or_make(ws: &mut [u64; 1537], optional: &mut [u64; 8], n: Node) -> Enter
 }
 
 pub fn get_or_create_identifier(
-    ws: &mut [u64; 1537],
+    ws: &mut [u64; 1665],
     optional: &mut [u64; 8],
     identifier: IdentifierId,
     reactive: bool,
@@ -264,7 +308,7 @@ pub fn get_or_create_identifier(
 }
 
 pub fn get_or_create_property_entry(
-    ws: &mut [u64; 1537],
+    ws: &mut [u64; 1665],
     optional: &mut [u64; 8],
     parent: NodeId,
     entry: DependencyPathEntry,

@@ -33,7 +33,7 @@ pub struct PathRoot {
 }
 
 // What node k's path has of its root, which is reached from parent to parent.
-fn root_of(ws: &[u64; 1537], k: NodeId) -> PathRoot
+fn root_of(ws: &[u64; 1665], k: NodeId) -> PathRoot
     requires { ⌜ HoldsRegistry (now ws) × (k .0 < countIn (now ws)) ⌝ }
     ensures { λ r. ⌜ r ≡ rootOf (fullPathOf (registryOf (now (ws .entry))) k) ⌝ }
 {
@@ -76,7 +76,7 @@ fn put_origin(out: &mut [u8], at: usize, n: Node) -> usize
 }
 
 // A node: its parent, its root's identifier, the entry by which it hangs, its span and its root's reactive mark.
-fn put_node(ws: &[u64; 1537], k: NodeId, out: &mut [u8], at: usize) -> usize
+fn put_node(ws: &[u64; 1665], k: NodeId, out: &mut [u8], at: usize) -> usize
     requires { ⌜ HoldsRegistry (now ws) × (k .0 < countIn (now ws)) × (at + 23 ≤ length (now out)) ⌝ }
     ensures { λ r. ⌜ Writes (now (out .entry)) (now (out .exit)) at (nodeBytes spanWidth (nodeAt (registryOf (now (ws .entry))) (k .0))) r ⌝ }
 {
@@ -92,7 +92,7 @@ fn put_node(ws: &[u64; 1537], k: NodeId, out: &mut [u8], at: usize) -> usize
 }
 
 // All nodes, in the order of their making.
-fn put_nodes(ws: &[u64; 1537], out: &mut [u8], start: usize) -> usize
+fn put_nodes(ws: &[u64; 1665], out: &mut [u8], start: usize) -> usize
     requires { ⌜ HoldsRegistry (now ws) × (start + 23 * 512 ≤ length (now out)) ⌝ }
     ensures { λ r. ⌜ Writes (now (out .entry)) (now (out .exit)) start (concatMap (nodeBytes spanWidth) (registryOf (now (ws .entry)))) r ⌝ }
 {
@@ -166,7 +166,7 @@ fn put_head(out: &mut [u8], nodes: usize, blocks: usize, rounds: u8, settled: bo
 
 // The whole sheet, from the buffer's start on.
 pub fn put_sheet(
-    ws: &[u64; 1537],
+    ws: &[u64; 1665],
     sets: &[u64; 1024],
     ids: &[u32; 128],
     blocks: usize,

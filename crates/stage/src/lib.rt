@@ -30,11 +30,11 @@ fn propagate(
     ids: &[u32; 128],
     places: &[usize; 128],
     blocks: usize,
-    ws: &mut [u64; 1537],
+    ws: &mut [u64; 1665],
     optional: &mut [u64; 8],
     sets: &mut [u64; 1024],
 ) -> Propagated
-    requires { ⌜ NotedJob (now s) (now ids) (now places) blocks × (length (now ws) ≡ 1537) × Lent (now sets) ⌝ }
+    requires { ⌜ NotedJob (now s) (now ids) (now places) blocks × (length (now ws) ≡ 1665) × Lent (now sets) ⌝ }
     ensures { λ r. ⌜ PropagatesJob (now (s .entry)) (now (ids .entry)) (now (places .entry)) blocks r (now (sets .exit)) (now (ws .exit)) (now (optional .exit)) ⌝ }
 {
     let entered = assumed::enter_blocks(s, places, blocks, ws, optional, sets);
@@ -52,7 +52,7 @@ fn put_answer(
     ids: &[u32; 128],
     places: &[usize; 128],
     head: JobHead,
-    ws: &[u64; 1537],
+    ws: &[u64; 1665],
     sets: &[u64; 1024],
     run: Run,
     out: &mut [u8],
@@ -82,7 +82,7 @@ fn put(
     ids: &[u32; 128],
     places: &[usize; 128],
     head: JobHead,
-    ws: &[u64; 1537],
+    ws: &[u64; 1665],
     sets: &[u64; 1024],
     run: Run,
     out: &mut [u8],
@@ -116,7 +116,7 @@ fn perform_read(
     requires { ⌜ AcceptedJob (now s) (now ids) (now places) head × (leastBuffer ≤ length (now out)) ⌝ }
     ensures { λ r. ⌜ Meets (jobVerdict operation (now (s .entry))) r (now (out .entry)) (now (out .exit)) ⌝ }
 {
-    let mut ws = [0u64; 1537];
+    let mut ws = [0u64; 1665];
     let mut optional = [0u64; 8];
     let mut sets = [0u64; 1024];
     let propagated = propagate(

@@ -1,29 +1,37 @@
--- The number that the search from i on would give is the one that the search from 0 gives, as long as no node passed has the key.
-use Prim.Native.Nat.{_≤_, _-_}
-use mathlib.Core.Path.{_≡_, sym, ap, _∙_}
-use native.Mathlib.Nat.{sub-zero, zero-add}
+-- The search goes along the bucket from its last node to its first. All nodes that it has passed or left out have another key, and where it meets the
+-- key, that node is the only one with it.
+use Prim.Native.Nat.{_-_}
+use mathlib.Core.Path.{sym, ap, _∙_}
+use denote.Ref.{now}
 use borrow.Author.Needs.{needs}
-use Rattle.registry.specs.Nodes.{sameKey, findNode}
-use Rattle.registry.specs.Words.{nodesOf}
-use Rattle.registry.proofs.Stored.{searchFrom, search-hit, search-miss, search-over}
+use Rattle.registry.specs.Nodes.{sameKey}
+use Rattle.registry.proofs.View.{found-at}
+use Rattle.registry.proofs.Buckets.{Passed, passed-start, passed-more, link-within, passed-all}
 use Rattle.registry.proofs.find.Statement.{statement}
 use Rattle.registry.proofs.find.Tie as tie
 
 abbrev Inv-loop : tie.InvT-loop
-Inv-loop ws n end i₀ i = (i ≤ end) × (end ≤ 512) × (searchFrom ws n i end ≡ findNode (nodesOf ws) n)
+Inv-loop ws n end₀ end = Passed ws n end
 
 abbrev μ-loop : tie.MeasureT-loop
-μ-loop ws n end i₀ i = end - i
+μ-loop ws n end₀ end = end
 
-count-requires : tie.Need-count-requires Inv-loop μ-loop
-count-requires c κs = search needs
+bucket-requires : tie.Need-bucket-requires Inv-loop μ-loop
+bucket-requires c κs = search needs
+
+end-of-requires : tie.Need-end-of-requires Inv-loop μ-loop
+end-of-requires c κs = search needs
 
 loop-holds : tie.Need-loop-holds Inv-loop μ-loop
-unfolding nodesOf
-loop-holds c = (search needs, search needs, rw (sub-zero (c .count .result), c .count .ensures, zero-add))
+loop-holds c =
+    let s = c .before .before in
+    passed-start (now (s .args .ws)) (s .args .n) (s .pre .1) _ _ (c .before .bucket .ensures .0) (c .before .bucket .ensures .1) (c .end-of .ensures)
+
+sub-k : tie.Need-sub-k Inv-loop μ-loop
+sub-k c = search needs
 
 load-requires : tie.Need-load-requires Inv-loop μ-loop
-load-requires c κs = search needs
+load-requires c κs = let room = c .before .before .before .before .pre .0 .room in let within = c .before .loop .inv .within in search needs
 
 same-requires : tie.Need-same-requires Inv-loop μ-loop
 same-requires c κs = search needs
@@ -31,24 +39,39 @@ same-requires c κs = search needs
 returns : tie.Need-returns Inv-loop μ-loop
 returns c =
     let l = c .before .before .before .before in
-    sym (search-hit _ _ (l .loop .i) (l .before .count .result) (search needs) (ap (λ m. sameKey m (l .before .before .args .n)) (sym (c .before .before .load .ensures)) ∙ sym (c .before .same .ensures) ∙ c .if1 .taken)) ∙ l .loop .inv .2
+    let s = l .before .before .before in
+    let within = l .loop .inv .within in
+    sym (found-at (now (s .args .ws)) _ (s .args .n) (s .pre .2) (search needs) (ap (λ m. sameKey m (s .args .n)) (sym (c .before .before .load .ensures)) ∙ sym (c .before .same .ensures) ∙ c .if1 .taken))
 
-add-i : tie.Need-add-i Inv-loop μ-loop
-add-i c = search needs
+link-requires : tie.Need-link-requires Inv-loop μ-loop
+link-requires c κs =
+    let l = c .before .before .before .before in
+    let room = l .before .before .before .pre .0 .room in
+    let within = l .loop .inv .within in
+    search needs
 
 loop-less : tie.Need-loop-less Inv-loop μ-loop
-loop-less c = search needs
+loop-less c =
+    let l = c .before .before .before .before .before in
+    let s = l .before .before .before in
+    let low = link-within (now (s .args .ws)) (s .args .n) (s .pre .1) (l .loop .end) (l .loop .end - 1) (l .loop .inv) (search needs) in
+    search needs
 
 loop-again : tie.Need-loop-again Inv-loop μ-loop
 loop-again c =
-    let l = c .before .before .before .before in (
-      search needs,
-      search needs,
-      sym (search-miss _ _ (l .loop .i) (l .before .count .result) (search needs) (ap (λ m. sameKey m (l .before .before .args .n)) (sym (c .before .before .load .ensures)) ∙ sym (c .before .same .ensures) ∙ c .if1 .left)) ∙ l .loop .inv .2,
-    )
+    let l = c .before .before .before .before .before in
+    let s = l .before .before .before in
+    passed-more (now (s .args .ws)) (s .args .n) (s .pre .1) (l .loop .end) _ _ (l .loop .inv) (search needs)
+    (ap (λ m. sameKey m (s .args .n)) (sym (c .before .before .before .load .ensures)) ∙ sym (c .before .before .same .ensures) ∙ c .before .if1 .left) (c .link .ensures)
+
+count-requires : tie.Need-count-requires Inv-loop μ-loop
+count-requires c κs = search needs
 
 returns-2 : tie.Need-returns-2 Inv-loop μ-loop
-returns-2 c = sym (search-over _ _ (c .before .loop .i) (c .before .before .count .result) (search needs) (search needs)) ∙ c .before .loop .inv .2
+returns-2 c =
+    let l = c .before .before in
+    let s = l .before .before .before in
+    c .count .ensures ∙ sym (passed-all (now (s .args .ws)) (s .args .n) (s .pre .1) (l .loop .end) (l .loop .inv) (search needs))
 
 pub find-spec : {M : Type 1} → statement M
 find-spec =
@@ -56,12 +79,15 @@ find-spec =
     (tie.spec
     Inv-loop
     μ-loop
-    count-requires
+    bucket-requires
+    end-of-requires
     loop-holds
+    sub-k
     load-requires
     same-requires
     returns
-    add-i
+    link-requires
     loop-less
     loop-again
+    count-requires
     returns-2)

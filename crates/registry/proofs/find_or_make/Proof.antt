@@ -20,7 +20,7 @@ push-requires : tie.Need-push-requires
 push-requires c κs =
     let a = c .before .before .before .before .before .before .before in
     let room = a .pre .0 .sized .room in
-    (a .pre .0 .sized, search needs, inside-packs (a .args .n) (countIn (now (a .args .ws))) room (a .pre .1))
+    (a .pre .0 .sized, a .pre .0 .linked, search needs, inside-packs (a .args .n) (countIn (now (a .args .ws))) room (a .pre .1))
 
 note-requires : tie.Need-note-requires
 note-requires c κs =
@@ -33,8 +33,8 @@ returns-2 c =
     let a = c .before .before .before .before .before .before .before .before .before .before in
     let w = now (a .args .ws) in
     let counted = c .before .before .before .before .before .before .count .ensures in
-    let arrived = arrived-new w _ _ _ (c .before .before .before .before .before .before .before .before .find .ensures) counted _ (c .before .before .before .before .before .if1 .left) (c .before .before .push .ensures .1) in (
-      record { sized = c .before .before .push .ensures .0; sound = arrived-sound w _ (a .args .n) _ (a .pre .0 .sound) (a .pre .1) arrived; noted = noted-new w _ (now (a .args .optional)) _ (a .args .n) _ (a .pre .0) counted (c .before .before .push .ensures .1) (c .note .ensures) },
+    let arrived = arrived-new w _ _ _ (c .before .before .before .before .before .before .before .before .find .ensures) counted _ (c .before .before .before .before .before .if1 .left) (c .before .before .push .ensures .2) in (
+      record { sized = c .before .before .push .ensures .0; linked = c .before .before .push .ensures .1; sound = arrived-sound w _ (a .args .n) _ (a .pre .0 .sound) (a .pre .1) arrived; noted = noted-new w _ (now (a .args .optional)) _ (a .args .n) _ (a .pre .0) counted (c .before .before .push .ensures .2) (c .note .ensures) },
       arrived,
     )
 

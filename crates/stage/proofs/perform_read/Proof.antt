@@ -16,7 +16,7 @@ use Rattle.stage.proofs.perform_read.Tie as tie
 propagate-requires : tie.Need-propagate-requires
 propagate-requires c κs =
     let a = c .before .before .before .before .before in
-    (a .pre .0 .noted, length-replicate {A = ℕ} 1537 0, record { long = length-replicate {A = ℕ} 1024 0 })
+    (a .pre .0 .noted, length-replicate {A = ℕ} 1665 0, record { long = length-replicate {A = ℕ} 1024 0 })
 
 returns : tie.Need-returns
 returns c =

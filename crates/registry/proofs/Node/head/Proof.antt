@@ -58,13 +58,19 @@ add-result-4 : tie.Need-add-result-4
 add-result-4 c = let small = packs-child (c .before .before .before .before .before .before .pre) (c .before .before .before .before .self2 .given .1) in search needs
 
 returns : tie.Need-returns
-returns c = rw (c .before .before .before .self .given .1) (packed-root _ _ _ (c .before .bit .result) (search needs) (c .before .bit .ensures .0) (c .before .bit .ensures .1))
+returns c = (
+  rw (c .before .before .before .self .given .1) (packed-root _ _ _ (c .before .bit .result) (search needs) (c .before .bit .ensures .0) (c .before .bit .ensures .1)),
+  search needs,
+)
 
 returns-2 : tie.Need-returns-2
 returns-2 c =
-    rw (c .before .before .before .before .self2 .given .1)
-    (packed-child _ _ (c .bit3 .result) (c .before .bit2 .result) (packs-child (c .before .before .before .before .before .before .pre) (c .before .before .before .before .self2 .given .1)) (c .bit3 .ensures .0) (c .bit3 .ensures .1)
-    (c .before .bit2 .ensures .0 ∙ ap flag (c .before .before .is-number .ensures)) (c .before .bit2 .ensures .1))
+    let small = packs-child (c .before .before .before .before .before .before .pre) (c .before .before .before .before .self2 .given .1) in (
+      rw (c .before .before .before .before .self2 .given .1)
+          (packed-child _ _ (c .bit3 .result) (c .before .bit2 .result) small (c .bit3 .ensures .0) (c .bit3 .ensures .1)
+          (c .before .bit2 .ensures .0 ∙ ap flag (c .before .before .is-number .ensures)) (c .before .bit2 .ensures .1)),
+      search needs,
+    )
 
 pub head-spec : {M : Type 1} → statement M
 head-spec =
