@@ -59,7 +59,7 @@ impl Node {
         }
     }
 
-    // The bucket in which a node is looked for. A property that is a number has the bits of a float, in which those of a small number are the high ones.
+    // The bucket in which a node is looked for.
     fn bucket(self) -> usize
         ensures { λ r. ⌜ (r ≡ bucketOf self) × (r < 128) ⌝ }
     {
@@ -68,7 +68,9 @@ impl Node {
             Node::Child(parent, entry) => {
                 let property = entry.property;
                 let value = property.value() as usize;
-                (parent.0 % 128 * 31 + value % 128 + value / 70368744177664) % 128
+                (parent.0 % 65536 * 791547 + (value % 4294967296 + value / 70368744177664) * 597521)
+                    / 8192
+                    % 128
             }
         }
     }

@@ -1,4 +1,5 @@
--- The two arms are the clauses of `bucketOf`; each ends in a remainder by 128.
+-- The two arms are the clauses of `bucketOf`. The factors are small enough that no product of 64 bits wraps.
+use Prim.Native.Nat.{_/_, _<_}
 use borrow.Author.Needs.{needs}
 use Rattle.registry.proofs.Node.bucket.Statement.{statement}
 use Rattle.registry.proofs.Node.bucket.Tie as tie
@@ -21,8 +22,11 @@ mul-result c = search needs
 add-result : tie.Need-add-result
 add-result c = search needs
 
+mul-result-2 : tie.Need-mul-result-2
+mul-result-2 c = let high : c .before .value .result / 70368744177664 < 262144 = search needs in search needs
+
 add-result-2 : tie.Need-add-result-2
-add-result-2 c = search needs
+add-result-2 c = let high : c .before .value .result / 70368744177664 < 262144 = search needs in search needs
 
 returns : tie.Need-returns
 returns c = (rw (c .before .before .self .given .1), search needs)
@@ -40,6 +44,7 @@ bucket-spec =
     value-requires
     mul-result
     add-result
+    mul-result-2
     add-result-2
     returns
     returns-2)
