@@ -26,6 +26,10 @@ module _ {A : Type 0} where
   all-select P test [] a = tt
   all-select P test (x ∷ xs) a = by-cond (All P) (test x) (λ e. (a .0, all-select P test xs (a .1))) (λ e. all-select P test xs (a .1))
 
+  pub select-same : (p q : A → Bool) (xs : List A) → All (λ x. p x ≡ q x) xs → select p xs ≡ select q xs
+  select-same p q [] a = refl
+  select-same p q (x ∷ xs) a = rw (a .0, select-same p q xs (a .1))
+
   pub all-append : (P : A → Type 0) (xs ys : List A) → All P xs → All P ys → All P (xs ++ ys)
   all-append P [] ys a b = b
   all-append P (x ∷ xs) ys a b = (a .0, all-append P xs ys (a .1) b)
@@ -39,6 +43,12 @@ module _ {A : Type 0} where
   all-set P [] k y a h = tt
   all-set P (x ∷ xs) zero y a h = (h, a .1)
   all-set P (x ∷ xs) (suc k) y a h = (a .0, all-set P xs k y (a .1) h)
+
+  -- at a place that was set stands what was set, or the place is outside
+  pub set-here : (P : A → Type 0) (xs : List A) (k : ℕ) (y d : A) → P y → P d → P (getD (set xs k y) k d)
+  set-here P [] k y d h o = o
+  set-here P (x ∷ xs) zero y d h o = h
+  set-here P (x ∷ xs) (suc k) y d h o = set-here P xs k y d h o
 
 pub all-mapped : {A B : Type 0} (P : B → Type 0) (f : A → B) (xs : List A) → ((x : A) → P (f x)) → All P (map f xs)
 all-mapped P f [] h = tt

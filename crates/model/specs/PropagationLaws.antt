@@ -1,5 +1,5 @@
 -- Along a job's propagation the registry stays sound and each set is an ascending set of its nodes, so each reduction ends by a pass that changed
--- nothing; and no step makes the registry shorter.
+-- nothing; no step makes the registry shorter; and a block that has joined has a reduced set from then on.
 use Prim.Native.Nat.{ℕ, zero, suc, _≤_, _<_}
 use native.Mathlib.Nat.{le-refl, le-trans, not-suc-le-zero}
 use native.Mathlib.Omega.{arith}
@@ -7,20 +7,23 @@ use mathlib.Core.Path.{_≡_, refl, sym, ap, subst, _∙_}
 use mathlib.Core.Bool.{Bool, true, false, _||_, not}
 use mathlib.Core.List.{List, [], _∷_, map, foldl}
 use lib.ListN.{length, getD, set, length-set}
+use lib.Seq.{getD-set-other}
+use lib.Dec.{eqb}
 use Rattle.entries.specs.declared.NodeId.{NodeId}
 use Rattle.entries.specs.Path.{ReactiveScopeDependency}
+use Rattle.model.specs.Tests.{decide, eqb-true, eqb-false}
 use Rattle.model.specs.Sets.{NodeSet, contains, insert, union, intersection, sameSet}
 use Rattle.model.specs.Registry.{PropertyPathRegistry, ownMark, getOrCreateProperty}
-use Rattle.model.specs.Reduction.{Reduced, reduceMaybeOptionalChains}
+use Rattle.model.specs.Reduction.{Reduced, reduceNodes, pass, reduceMaybeOptionalChains}
 use Rattle.model.specs.Visit.{TraversalState}
 use Rattle.model.specs.Rounds.{Rounds, roundsFrom, walk, jobOrder, reverseJobOrder}
 use Rattle.model.specs.Propagation.{Work, setOf, JoiningRule, unchanged, doneNeighbours, intersectionOf, joinWith, join, Graph, forward, backward, round, hasChanged, propagateNonNull}
 use Rattle.model.specs.Job.{Block}
 use Rattle.model.specs.Stage.{Entered, enterPaths, enterBlock, Started, enterBlocks, graphOf, propagated}
-use Rattle.model.specs.ListLaws.{All, all-map, all-select, all-getD, all-set, all-mapped}
+use Rattle.model.specs.ListLaws.{All, all-map, all-select, all-getD, all-set, set-here, all-mapped}
 use Rattle.model.specs.SetLaws.{insert-from, select-from, union-from, insert-all, union-all}
 use Rattle.model.specs.RegistryLaws.{Extends, extends-refl, extends-trans, extends-length, Sound, sound-empty, Proper, path-proper, path-extends}
-use Rattle.model.specs.ReductionLaws.{Members, members-extends, Shrunk, reduction-last, reduction-shrunk, reduction-extends, reduction-sound, Repeats, reduction-only}
+use Rattle.model.specs.ReductionLaws.{Members, members-extends, Shrunk, reduction-last, reduction-shrunk, reduction-extends, reduction-sound, Repeats, reduction-only, IsReduced, reduced-extends, reduction-reduced}
 use Rattle.model.specs.VisitLaws.{Preorder}
 use Rattle.model.specs.RoundsLaws.{walk-does, rounds-do, walk-same, rounds-same}
 
@@ -80,6 +83,32 @@ join-proper neighbours b w p =
       sound = reduction-sound (w .registry) s (p .sound);
       members = all-set (Members (r .registry)) (w .sets) b (r .set) (all-map (Members (w .registry)) (Members (r .registry)) (λ t m. members-extends t x m) (w .sets) (p .members)) (out .members);
     }
+
+-- Blocks whose sets are reduced already.
+
+abbrev pub ReducedAt : Work → ℕ → Type 0
+ReducedAt w b = IsReduced (w .registry) (setOf (w .sets) b)
+
+reduced-empty : (reg : PropertyPathRegistry) → IsReduced reg []
+unfolding pass reduceNodes
+reduced-empty reg = refl
+
+module _ (neighbours : List ℕ) (b : ℕ) (w : Work) (p : ProperWork w) where
+  -- the set of a block that joins is reduced
+  pub join-reduces : ReducedAt (joinWith neighbours b w) b
+  unfolding joinWith
+  join-reduces =
+      let s = joinedSet neighbours b w in
+      let r = reduceMaybeOptionalChains (w .registry) s in
+      set-here (IsReduced (r .registry)) (w .sets) b (r .set) [] (reduction-reduced (w .registry) s (p .sound) (members-joined neighbours b w p)) (reduced-empty (r .registry))
+
+  -- and the set of any other stays so
+  pub join-keeps-reduced : (a : ℕ) → ReducedAt w a → ReducedAt (joinWith neighbours b w) a
+  unfolding joinWith
+  join-keeps-reduced a h =
+      let r = reduceMaybeOptionalChains (w .registry) (joinedSet neighbours b w) in
+      decide (eqb a b) (λ e. subst (ReducedAt (joinWith neighbours b w)) (sym (eqb-true a b e)) join-reduces)
+      (λ e. rw (getD-set-other (w .sets) b a (r .set) [] (eqb-false a b e)) (reduced-extends (w .registry) (setOf (w .sets) a) (p .sound) (members-setOf w p a) (join-extends neighbours b w) h))
 
 -- Rounds.
 

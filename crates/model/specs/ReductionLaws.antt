@@ -1,11 +1,12 @@
 -- The passes of a reduction are enough: in a sound registry each change takes an optional mark out of the set's paths, so the last pass changed
--- nothing, more passes change nothing, and the reduction is the repetition that document 01 describes.
+-- nothing, more passes change nothing, and the reduction is the repetition that document 01 describes. What it returns is reduced, stays so when nodes are made,
+-- and reducing it again changes nothing.
 use Prim.Native.Nat.{ℕ, zero, suc, _+_, _≤_, _<_}
 use native.Mathlib.Nat.{le-refl, le-trans, not-suc-le-zero}
 use native.Mathlib.Omega.{arith}
 use mathlib.Core.Path.{_≡_, refl, sym, ap, subst, _∙_}
 use mathlib.Core.Logic.{_⊎_, inl, inr}
-use mathlib.Core.Bool.{Bool, true, false, _&&_, _||_, not, cond}
+use mathlib.Core.Bool.{Bool, true, false, _&&_, _||_, not, cond, or-false}
 use mathlib.Core.List.{List, [], _∷_, _++_}
 use lib.ListN.{length, getD}
 use lib.Dec.{eqb}
@@ -17,9 +18,9 @@ use Rattle.model.specs.Sets.{NodeSet, sameNode, contains, insert, remove
 use Rattle.model.specs.Registry.{PropertyPathRegistry, Reached, fullPathOf, getOrCreateIdentifier, getOrCreatePropertyEntry, withOptional, walkFrom, walkPath, ownMark}
 use Rattle.model.specs.Reduction.{Reduced, reducedMark, reduceNode, reduceNodes, hasOptional, pass, passes, optionalMarks, optionalMarksOf, reduceMaybeOptionalChains}
 use Rattle.model.specs.Tests.{by-cond, decide, never, eqb-same, eqb-true, eqb-false, eqb-apart, and-first}
-use Rattle.model.specs.ListLaws.{All, all-map, all-both, all-select}
+use Rattle.model.specs.ListLaws.{All, all-map, all-both, all-select, select-same}
 use Rattle.model.specs.SetLaws.{same-node, Ascending, From, from-above, insert-from, select-from, insert-all, contains-all, contains-insert, contains-select, all-contained, sum-insert, sum-remove, sum-same}
-use Rattle.model.specs.RegistryLaws.{Extends, extends-refl, extends-trans, extends-length, extends-path, entry-optional, Sound, Proper, root-reached, child-reached, walk-proper, walk-extends, path-proper, path-extends, leads-back}
+use Rattle.model.specs.RegistryLaws.{Extends, extends-refl, extends-trans, extends-length, extends-path, entry-optional, Sound, Proper, root-reached, child-reached, walk-proper, walk-extends, path-proper, path-extends, walk-extended, leads-back}
 
 -- Optional marks.
 
@@ -384,3 +385,98 @@ pub reduction-only : (v : PropertyPathRegistry → NodeSet → Reduced) → Repe
     → reduceMaybeOptionalChains reg s ≡ v reg s
 unfolding reduceMaybeOptionalChains
 reduction-only v r reg s h m = passes-same v r (suc (optionalMarksOf reg s)) reg s h m (le-refl _)
+
+-- Sets that are reduced already.
+
+-- a pass over the set changes nothing and makes nothing
+abbrev pub IsReduced : PropertyPathRegistry → NodeSet → Type 0
+IsReduced reg s = pass reg s ≡ unchanged reg s
+
+-- a node's path, walked again, leads back to the node and makes nothing
+abbrev LeadsBack : PropertyPathRegistry → NodeSet → NodeId → Type 0
+LeadsBack reg s k = walkPath (reducedMark s) reg (fullPathOf reg k) ≡ record { registry = reg; node = k }
+
+-- a walk that comes back to its node took no mark away, so it is the walk under the path's own marks
+node-back : (s : NodeSet) (reg : PropertyPathRegistry) (k : NodeId) → Sound reg → k .0 < length reg → sameNode (walkPath (reducedMark s) reg (fullPathOf reg k) .node) k ≡ true → LeadsBack reg s k
+unfolding optionalMarks
+node-back s reg k h le same =
+    let d = fullPathOf reg k in
+    let r = root-reached reg (d .identifier) (d .reactive) (d .span) h in
+    let start = getOrCreateIdentifier reg (d .identifier) (d .reactive) (d .span) in
+    let low = walk-lowers (reducedMark s) (lowers s) start (d .path) (r .proper) in
+    let none : marksReached start ≡ 0 = ap optionalMarks (r .path) in
+    let to = walkFrom (reducedMark s) start (d .path) in
+    let back : marksReached to ≡ marksAt reg k =
+    ap (marksAt (to .registry)) (same-node (to .node) k same) ∙ ap (λ (p : ReactiveScopeDependency). optionalMarks (p .path)) (extends-path k (path-extends (reducedMark s) reg d) le) in
+    low .kept (omega arith) ∙ leads-back reg h (suc (k .0)) k (le-refl _) le (d .reactive) (d .span)
+
+node-still : (r : Reduced) (k : NodeId) → LeadsBack (r .registry) (r .set) k → reduceNode r k ≡ r
+unfolding reduceNode
+node-still r k e =
+    ap (λ (at : Reached). record { registry = at .registry; set = cond (sameNode (at .node) k) (r .set) (insert (at .node) (remove k (r .set))); changed = r .changed || not (sameNode (at .node) k) }) e
+    ∙ rw (eqb-same (k .0), or-false (r .changed))
+
+nodes-still : (r : Reduced) (ks : List NodeId) → All (LeadsBack (r .registry) (r .set)) ks → reduceNodes r ks ≡ r
+unfolding reduceNodes
+nodes-still r [] a = refl
+nodes-still r (k ∷ ks) a = ap (λ (x : Reduced). reduceNodes x ks) (node-still r k (a .0)) ∙ nodes-still r ks (a .1)
+
+-- where the flag says that nothing has changed, each node led back
+nodes-back : (r : Reduced) (ks : List NodeId) → Sound (r .registry) → All (λ k. k .0 < length (r .registry)) ks → reduceNodes r ks .changed ≡ false
+    → (r .changed ≡ false) × All (LeadsBack (r .registry) (r .set)) ks
+unfolding reduceNodes reduceNode
+nodes-back r [] h a e = (e, tt)
+nodes-back r (k ∷ ks) h a e =
+    let longer = extends-length (node-extends r k) in
+    let rest = nodes-back (reduceNode r k) ks (node-sound r k h) (all-map (λ j. j .0 < length (r .registry)) (λ j. j .0 < length (reduceNode r k .registry)) (λ j l. omega arith) ks (a .1)) e in
+    let at = walkPath (reducedMark (r .set)) (r .registry) (fullPathOf (r .registry) k) in
+    let flags = neither (r .changed) (sameNode (at .node) k) (rest .0) in
+    let back = node-back (r .set) (r .registry) k h (a .0) (flags .1) in
+    (flags .0, (back, subst (λ (x : Reduced). All (LeadsBack (x .registry) (x .set)) ks) (node-still r k back) (rest .1)))
+  where
+    neither : (b c : Bool) → b || not c ≡ false → (b ≡ false) × (c ≡ true)
+    neither true c f = never refl f
+    neither false true f = (refl, refl)
+    neither false false f = never refl f
+
+module _ (reg : PropertyPathRegistry) (s : NodeSet) (h : Sound reg) (m : Members reg s) where
+  pass-back : pass reg s .changed ≡ false → All (LeadsBack reg s) (select (hasOptional reg) s)
+  unfolding pass
+  pass-back e = nodes-back (unchanged reg s) (select (hasOptional reg) s) h (all-select (λ k. k .0 < length reg) (hasOptional reg) s (m .inside)) e .1
+
+  -- a pass that changes nothing makes nothing
+  pass-still : pass reg s .changed ≡ false → IsReduced reg s
+  unfolding pass
+  pass-still e = nodes-still (unchanged reg s) (select (hasOptional reg) s) (pass-back e)
+
+  -- it stays so when nodes are made
+  pub reduced-extends : {reg′ : PropertyPathRegistry} → Extends reg reg′ → IsReduced reg s → IsReduced reg′ s
+  unfolding pass
+  reduced-extends {reg′} x e =
+      let path : (k : NodeId) → k .0 < length reg → fullPathOf reg′ k ≡ fullPathOf reg k = λ k l. extends-path k x l in
+      let same = select-same (hasOptional reg) (hasOptional reg′) s (all-map (λ k. k .0 < length reg) (λ k. hasOptional reg k ≡ hasOptional reg′ k) (λ k l. rw (path k l)) s (m .inside)) in
+      let inside = all-select (λ k. k .0 < length reg) (hasOptional reg) s (m .inside) in
+      nodes-still (unchanged reg′ s) (select (hasOptional reg′) s)
+      (subst (All (LeadsBack reg′ s)) same
+      (all-map (λ k. (k .0 < length reg) × LeadsBack reg s k) (LeadsBack reg′ s) (λ k b. rw (path k (b .0)) (walk-extended (reducedMark s) x (fullPathOf reg k) (b .1))) (select (hasOptional reg) s)
+      (all-both (λ k. k .0 < length reg) (LeadsBack reg s) (select (hasOptional reg) s) inside (pass-back (ap (λ (r : Reduced). r .changed) e)))))
+
+  -- and the reduction leaves it as it is
+  pub reduced-already : IsReduced reg s → reduceMaybeOptionalChains reg s ≡ unchanged reg s
+  unfolding reduceMaybeOptionalChains
+  reduced-already e = passes-stop (optionalMarksOf reg s) reg s (ap (λ (r : Reduced). r .changed) e) ∙ e
+
+passes-reduced : (most : ℕ) (reg : PropertyPathRegistry) (s : NodeSet) → Sound reg → Members reg s → optionalMarksOf reg s < most
+    → IsReduced (passes most reg s .registry) (passes most reg s .set)
+passes-reduced zero reg s h m lt = absurd (not-suc-le-zero lt)
+passes-reduced (suc most) reg s h m lt =
+    decide (pass reg s .changed)
+    (λ e.
+    let less = pass-less reg s h m e in
+    rw (passes-on most reg s e) (passes-reduced most (pass reg s .registry) (pass reg s .set) (pass-sound reg s h) (pass-shrunk reg s h m .members) (omega arith)))
+    (λ e. let still = pass-still reg s h m e in rw (passes-stop most reg s e) (subst (λ (r : Reduced). IsReduced (r .registry) (r .set)) (sym still) still))
+
+-- What a reduction returns is reduced.
+pub reduction-reduced : (reg : PropertyPathRegistry) (s : NodeSet) → Sound reg → Members reg s → IsReduced (reduceMaybeOptionalChains reg s .registry) (reduceMaybeOptionalChains reg s .set)
+unfolding reduceMaybeOptionalChains
+reduction-reduced reg s h m = passes-reduced (suc (optionalMarksOf reg s)) reg s h m (le-refl _)

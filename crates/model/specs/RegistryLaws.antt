@@ -315,6 +315,43 @@ found test new reg k h e = go (found-or-made test new reg)
     go (inl f) = λ i. record { registry = f .same i; node = record { 0 = e i } }
     go (inr m) = absurd (let l = m .last in omega arith)
 
+-- A walk that makes nothing goes the same way in each registry that extends its own.
+
+-- what was there is found again
+found-again : (test : PropertyPathNode → Bool) (new new′ : PropertyPathNode) {a b : PropertyPathRegistry} → Extends a b → Extends (ensure test new a) a
+    → (findOrMake test new a ≡ record { registry = a; node = record { 0 = find test a } }) × (findOrMake test new′ b ≡ record { registry = b; node = record { 0 = find test a } })
+found-again test new new′ {a} {b} x back = go (found-or-made test new a)
+  where
+    go : WasFound test new a ⊎ WasMade test new a
+        → (findOrMake test new a ≡ record { registry = a; node = record { 0 = find test a } }) × (findOrMake test new′ b ≡ record { registry = b; node = record { 0 = find test a } })
+    go (inl f) =
+        let longer = extends-length x in
+        let inside = f .inside in
+        (found test new a (record { 0 = find test a }) inside refl, found test new′ b (record { 0 = find test a }) (omega arith) (find-extends test x inside))
+    go (inr m) = absurd (let shorter = extends-length back in let longer = ap length (m .appended) ∙ length-append a (new ∷ []) in omega arith)
+
+walk-again-from : (mark : NodeId → DependencyPathEntry → Bool) {a b : PropertyPathRegistry} → Extends a b → (q : NodeId) (es : List DependencyPathEntry) {k : NodeId}
+    → walkFrom mark (record { registry = a; node = q }) es ≡ record { registry = a; node = k } → walkFrom mark (record { registry = b; node = q }) es ≡ record { registry = b; node = k }
+unfolding walkFrom
+walk-again-from mark {a} {b} x q [] e = λ i. record { registry = b; node = e i .node }
+walk-again-from mark {a} {b} x q (f ∷ fs) {k} e =
+    let g = withOptional f (mark q f) in
+    let new = childNode q (fullPathOf a q) g in
+    let new′ = childNode q (fullPathOf b q) g in
+    let test = isChildBy q g in
+    let back = subst (λ (r : Reached). Extends (ensure test new a) (r .registry)) e (walk-extends mark (findOrMake test new a) fs) in
+    let there = found-again test new new′ x back in
+    ap (λ (at : Reached). walkFrom mark at fs) (there .1) ∙ walk-again-from mark x (record { 0 = find test a }) fs (sym (ap (λ (at : Reached). walkFrom mark at fs) (there .0)) ∙ e)
+
+pub walk-extended : (mark : NodeId → DependencyPathEntry → Bool) {a b : PropertyPathRegistry} → Extends a b → (d : ReactiveScopeDependency) {k : NodeId}
+    → walkPath mark a d ≡ record { registry = a; node = k } → walkPath mark b d ≡ record { registry = b; node = k }
+walk-extended mark {a} {b} x d {k} e =
+    let new = rootNode (d .identifier) (d .reactive) (d .span) in
+    let test = isRootFor (d .identifier) in
+    let back = subst (λ (r : Reached). Extends (ensure test new a) (r .registry)) e (walk-extends mark (findOrMake test new a) (d .path)) in
+    let there = found-again test new new x back in
+    ap (λ (at : Reached). walkFrom mark at (d .path)) (there .1) ∙ walk-again-from mark x (record { 0 = find test a }) (d .path) (sym (ap (λ (at : Reached). walkFrom mark at (d .path)) (there .0)) ∙ e)
+
 -- A node's own path, walked from its root under its own marks, leads to the node, and makes nothing.
 pub leads-back : (reg : PropertyPathRegistry) → Sound reg → (below : ℕ) (k : NodeId) → k .0 < below → k .0 < length reg → (r : Bool) (s : ℕ)
     → walkFrom ownMark (getOrCreateIdentifier reg (fullPathOf reg k .identifier) r s) (fullPathOf reg k .path) ≡ record { registry = reg; node = k }

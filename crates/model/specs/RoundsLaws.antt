@@ -1,20 +1,50 @@
--- What each join does, a walk does; what each round does, all rounds do. The count of rounds and what `settled` says.
-use Prim.Native.Nat.{ℕ, zero, suc, _+_, _≤_}
+-- What each join does, a walk does; what a join makes of its block holds of each block that a walk has visited; what each round does, all rounds do. The count of rounds and what `settled` says.
+use Prim.Native.Nat.{ℕ, zero, suc, _+_, _≤_, _<_}
 use native.Mathlib.Omega.{arith}
 use mathlib.Core.Path.{_≡_, refl, sym, ap, _∙_}
 use mathlib.Core.Bool.{Bool, true, false}
 use mathlib.Core.List.{List, [], _∷_}
-use lib.ListN.{replicate}
-use Rattle.model.specs.Tests.{decide, never}
-use Rattle.model.specs.Visit.{TraversalState, Unmarked, Visited, visit}
-use Rattle.model.specs.VisitLaws.{Preorder, each-does, visit-does, visits-same}
-use Rattle.model.specs.Rounds.{walk, Rounds, roundsFrom}
+use lib.ListN.{replicate, getD-replicate}
+use lib.Dec.{eqb}
+use Rattle.model.specs.Tests.{decide, never, eqb-true, eqb-false}
+use Rattle.model.specs.ListLaws.{All, all-map}
+use Rattle.model.specs.Visit.{TraversalState, Unmarked, Done, isMarked, Visited, marked, each, visit}
+use Rattle.model.specs.VisitLaws.{Preorder, each-does, visit-does, visits-same, Makes, each-makes, visit-makes, visits-mark}
+use Rattle.model.specs.Rounds.{placesFrom, jobOrder, walk, Rounds, roundsFrom}
 
 pub walk-does : {W : Type 0} (R : W → W → Type 0) → Preorder R → (near : ℕ → List ℕ) (join : ℕ → List TraversalState → W → W) → ((b : ℕ) (ms : List TraversalState) (w : W) → R w (join b ms w))
     → (n : ℕ) (order : List ℕ) (w : W) → R w (walk n near join order w)
 unfolding walk
 walk-does R pre near join does n order w =
     each-does R pre (visit near join) (visit-does R pre near join does) order (record { marks = replicate n Unmarked; work = w })
+
+-- what holds of all of n places from k on holds of each
+places-all : (P : ℕ → Type 0) (k n : ℕ) → All P (placesFrom k n) → (b : ℕ) → k ≤ b → b < k + n → P b
+unfolding placesFrom
+places-all P k zero a b l u = absurd (omega arith)
+places-all P k (suc n) a b l u =
+    decide (eqb k b) (λ e. rw (sym (eqb-true k b e)) (a .0)) (λ e. let other = eqb-false k b e in places-all P (suc k) n (a .1) b (omega arith) (omega arith))
+
+-- P holds of the work throughout; G holds of a block once it has joined.
+module _ {W : Type 0} (P : W → Type 0) (G : W → ℕ → Type 0) (near : ℕ → List ℕ) (join : ℕ → List TraversalState → W → W)
+    (keeps : (b : ℕ) (ms : List TraversalState) (w : W) → P w → P (join b ms w)) (stays : (b : ℕ) (ms : List TraversalState) (w : W) → P w → (a : ℕ) → G w a → G (join b ms w) a)
+    (makes : (b : ℕ) (ms : List TraversalState) (w : W) → P w → G (join b ms w) b) (n : ℕ) where
+  abbrev start : W → Visited W
+  start w = record { marks = replicate n Unmarked; work = w }
+
+  walk-made : (order : List ℕ) (w : W) → P w → Makes P G (start w) (each (visit near join) order (start w))
+  walk-made order w p = each-makes P G (visit near join) (visit-makes P G near join keeps stays makes) order (start w) p
+
+  pub walk-keeps : (order : List ℕ) (w : W) → P w → (b : ℕ) → G w b → G (walk n near join order w) b
+  unfolding walk
+  walk-keeps order w p b g = walk-made order w p .kept b g
+
+  -- a walk in job order visits each of the n blocks
+  pub walk-makes : (w : W) → P w → (b : ℕ) → b < n → G (walk n near join (jobOrder n) w) b
+  unfolding walk jobOrder
+  walk-makes w p b l =
+      walk-made (jobOrder n) w p .made b (ap isMarked (getD-replicate n b Unmarked Done l))
+      (places-all (λ a. marked a (each (visit near join) (jobOrder n) (start w)) ≡ true) zero n (visits-mark P G near join keeps stays makes (jobOrder n) (start w) p) b (omega arith) (omega arith))
 
 module _ {W : Type 0} (changed : W → Bool) (round : W → W) where
   -- what a round's flag decides

@@ -1,13 +1,17 @@
 -- The depth of a visit is enough: `visit` satisfies the recursion that names no depth, and nothing else does. What holds between the work before and
--- after each join holds between the work before and after a visit, a walk and all rounds.
+-- after each join holds between the work before and after a visit, a walk and all rounds. What a join makes of its block, and every join keeps, holds of
+-- each block that a visit marks.
 use Prim.Native.Nat.{ℕ, zero, suc, _≤_, _<_}
 use native.Mathlib.Nat.{le-refl, le-trans}
 use native.Mathlib.Omega.{arith}
-use mathlib.Core.Path.{_≡_, refl, sym, ap, _∙_}
+use mathlib.Core.Path.{_≡_, refl, sym, ap, subst, _∙_}
 use mathlib.Core.Bool.{Bool, true, false}
 use mathlib.Core.List.{List, [], _∷_}
 use lib.ListN.{getD, set}
-use Rattle.model.specs.Tests.{decide, never}
+use lib.Seq.{getD-set-other}
+use lib.Dec.{eqb}
+use Rattle.model.specs.Tests.{decide, never, eqb-true, eqb-false}
+use Rattle.model.specs.ListLaws.{All, all-map, set-here}
 use Rattle.model.specs.Visit.{TraversalState, Unmarked, Active, Done, isMarked, Visited, unmarkedIn, marked, enter, leave, each, visitWithin, visit}
 
 -- Marks.
@@ -188,3 +192,72 @@ module _ {W : Type 0} (P : W → Type 0) (near : ℕ → List ℕ) (f g : ℕ �
   pub visits-same : (bs : List ℕ) (x : Visited W) → P (x .work) → each (visit near f) bs x ≡ each (visit near g) bs x
   unfolding visit
   visits-same bs x p = each-same (visit near f) (visit near g) (visit-does Keeps keeps-order near f keeps) (λ b y q. within-same (unmarkedIn (y .marks)) b y q) bs x p
+
+-- What a join makes of its block.
+
+marked-set : (ms : List TraversalState) (b : ℕ) (m : TraversalState) → isMarked m ≡ true → (a : ℕ) → isMarked (getD ms a Done) ≡ true → isMarked (getD (set ms b m) a Done) ≡ true
+marked-set ms b m t a e =
+    decide (eqb a b) (λ s. rw (eqb-true a b s) (set-here (λ x. isMarked x ≡ true) ms b m Done t refl)) (λ o. rw (getD-set-other ms b a m Done (eqb-false a b o)) e)
+
+-- P holds of the work throughout; G holds of a block once it has joined.
+module _ {W : Type 0} (P : W → Type 0) (G : W → ℕ → Type 0) where
+  -- from one step to another: where G held it holds, and it holds of the blocks marked in between
+  pub record Makes (v v′ : Visited W) : Type 0 where
+    pub proper : P (v′ .work)
+    pub kept : (a : ℕ) → G (v .work) a → G (v′ .work) a
+    pub marks : (a : ℕ) → marked a v ≡ true → marked a v′ ≡ true
+    pub made : (a : ℕ) → marked a v ≡ false → marked a v′ ≡ true → G (v′ .work) a
+
+  makes-none : (v : Visited W) → P (v .work) → Makes v v
+  makes-none v p = record { proper = p; kept = λ a g. g; marks = λ a m. m; made = λ a o m. never m o }
+
+  makes-after : {u v w : Visited W} → Makes u v → Makes v w → Makes u w
+  makes-after {v = v} x y = record {
+    proper = y .proper;
+    kept = λ a g. y .kept a (x .kept a g);
+    marks = λ a m. y .marks a (x .marks a m);
+    made = λ a o m. decide (marked a v) (λ t. y .kept a (x .made a o t)) (λ f. y .made a f m);
+  }
+
+  pub each-makes : (step : ℕ → Visited W → Visited W) → ((b : ℕ) (v : Visited W) → P (v .work) → Makes v (step b v)) → (bs : List ℕ) (v : Visited W) → P (v .work) → Makes v (each step bs v)
+  unfolding each
+  each-makes step h [] v p = makes-none v p
+  each-makes step h (b ∷ bs) v p = let one = h b v p in makes-after one (each-makes step h bs (step b v) (one .proper))
+
+  module _ (near : ℕ → List ℕ) (join : ℕ → List TraversalState → W → W) (keeps : (b : ℕ) (ms : List TraversalState) (w : W) → P w → P (join b ms w))
+      (stays : (b : ℕ) (ms : List TraversalState) (w : W) → P w → (a : ℕ) → G w a → G (join b ms w) a) (makes : (b : ℕ) (ms : List TraversalState) (w : W) → P w → G (join b ms w) b) where
+    -- the block is entered, and left after its neighbours
+    around : (b : ℕ) (v mid : Visited W) → Makes (enter b v) mid → Makes v (leave join b mid)
+    around b v mid x = record {
+      proper = keeps b (mid .marks) (mid .work) (x .proper);
+      kept = λ a g. stays b (mid .marks) (mid .work) (x .proper) a (x .kept a g);
+      marks = λ a m. marked-set (mid .marks) b Done refl a (x .marks a (marked-set (v .marks) b Active refl a m));
+      made = λ a o m. decide (eqb a b) (λ s. subst (G (leave join b mid .work)) (sym (eqb-true a b s)) (makes b (mid .marks) (mid .work) (x .proper)))
+          (λ f. let other = eqb-false a b f in
+          stays b (mid .marks) (mid .work) (x .proper) a
+          (x .made a (ap isMarked (getD-set-other (v .marks) b a Active Done other) ∙ o) (ap isMarked (sym (getD-set-other (mid .marks) b a Done Done other)) ∙ m)));
+    }
+
+    within-makes : (most b : ℕ) (v : Visited W) → P (v .work) → Makes v (visitWithin most near join b v)
+    unfolding visitWithin
+    within-makes zero b v p = makes-none v p
+    within-makes (suc most) b v p =
+        decide (marked b v) (λ e. rw (within-step near join most b v .0 e) (makes-none v p))
+        (λ e. rw (within-step near join most b v .1 e) (around b v _ (each-makes (visitWithin most near join) (within-makes most) (near b) (enter b v) p)))
+
+    pub visit-makes : (b : ℕ) (v : Visited W) → P (v .work) → Makes v (visit near join b v)
+    unfolding visit
+    visit-makes b v p = within-makes (unmarkedIn (v .marks)) b v p
+
+    visit-marked : (b : ℕ) (v : Visited W) → marked b (visit near join b v) ≡ true
+    visit-marked b v =
+        decide (marked b v) (λ e. rw (visit-recurs near join b v .0 e) e)
+        (λ e. rw (visit-recurs near join b v .1 e) (set-here (λ x. isMarked x ≡ true) (each (visit near join) (near b) (enter b v) .marks) b Done Done refl refl))
+
+    pub visits-mark : (bs : List ℕ) (v : Visited W) → P (v .work) → All (λ b. marked b (each (visit near join) bs v) ≡ true) bs
+    unfolding each
+    visits-mark [] v p = tt
+    visits-mark (b ∷ bs) v p =
+        let next = visit near join b v in
+        let one = visit-makes b v p in
+        (each-makes (visit near join) visit-makes bs next (one .proper) .marks b (visit-marked b v), visits-mark bs next (one .proper))

@@ -10,11 +10,10 @@ use Rattle.rows.specs.declared.NodeBits.{NodeBits}
 use Rattle.rows.specs.declared.Next.the-variants.{At}
 use Rattle.rows.specs.Members.{membersOf, membersFrom, firstOf}
 use Rattle.rows.proofs.Ahead.{Ahead, next-at}
-use Rattle.rows.proofs.Selections.{select-same}
 use Rattle.registry.specs.Words.{countIn, registryOf, Held}
 use Rattle.registry.proofs.View.{registry-length}
 use Rattle.model.specs.Lists.{select}
-use Rattle.model.specs.ListLaws.{All, all-map, all-select}
+use Rattle.model.specs.ListLaws.{All, all-map, all-select, select-same}
 use Rattle.model.specs.Tests.{eqb-same, eqb-apart}
 use Rattle.model.specs.Sets.{NodeSet, sameNode, contains, insert, remove, intersection}
 use Rattle.model.specs.Registry.{nodeLimit, PropertyPathRegistry, Reached, fullPathOf, walkPath}

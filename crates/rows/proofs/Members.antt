@@ -14,13 +14,13 @@ use lib.Dec.{eqb}
 use borrow.Author.Tests.{eq-eqb, ne-eqb}
 use Rattle.entries.specs.declared.NodeId.{NodeId}
 use Rattle.model.specs.Lists.{select}
-use Rattle.model.specs.ListLaws.{All, all-map, all-select}
+use Rattle.model.specs.ListLaws.{All, all-map, all-select, select-same}
 use Rattle.model.specs.Sets.{NodeSet, sameNode, contains, insert, remove, union, intersection, sameSet}
 use Rattle.model.specs.SetLaws.{From, Ascending, same-node, select-from, contains-all}
 use Rattle.model.specs.Tests.{decide, never, and-first, and-second, or-second}
 use Rattle.rows.specs.Members.{bit, hasBit, nodesFrom, membersFrom, membersOf}
 use Rattle.rows.proofs.Words.{or-bit, and-bit, without, without-bit, power-bit, zero-bit, words-same}
-use Rattle.rows.proofs.Selections.{select-same, contains-selected, remove-selected, intersection-selected, insert-selected, union-selected}
+use Rattle.rows.proofs.Selections.{contains-selected, remove-selected, intersection-selected, insert-selected, union-selected}
 
 -- the nodes from a place on
 

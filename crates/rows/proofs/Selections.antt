@@ -7,7 +7,7 @@ use mathlib.Core.List.{[], _∷_}
 use borrow.Author.Tests.{lt-ltb, le-ltb, eq-eqb, ne-eqb, eqb-true, eqb-false}
 use Rattle.entries.specs.declared.NodeId.{NodeId}
 use Rattle.model.specs.Lists.{select}
-use Rattle.model.specs.ListLaws.{All, all-map, all-select}
+use Rattle.model.specs.ListLaws.{All, all-map, all-select, select-same}
 use Rattle.model.specs.Sets.{NodeSet, sameNode, contains, insert, remove, union, intersection}
 use Rattle.model.specs.SetLaws.{From, same-node, from-above, select-from, contains-all, all-contained}
 use Rattle.model.specs.Tests.{decide, never}
@@ -16,10 +16,6 @@ same-swap : (a b : NodeId) → sameNode a b ≡ sameNode b a
 same-swap a b =
     decide (sameNode a b) (λ e. rw (eqb-true (a .0) (b .0) e))
     (λ e. e ∙ sym (ne-eqb (b .0) (a .0) (λ h. eqb-false (a .0) (b .0) e (sym h))))
-
-pub select-same : (p q : NodeId → Bool) (s : NodeSet) → All (λ x. p x ≡ q x) s → select p s ≡ select q s
-select-same p q [] a = refl
-select-same p q (x ∷ xs) a = rw (a .0, select-same p q xs (a .1))
 
 select-twice : (p q : NodeId → Bool) (s : NodeSet) → select q (select p s) ≡ select (λ x. p x && q x) s
 select-twice p q [] = refl
