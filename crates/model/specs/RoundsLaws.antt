@@ -7,7 +7,7 @@ use mathlib.Core.List.{List, [], _∷_}
 use lib.ListN.{replicate, getD-replicate}
 use lib.Dec.{eqb}
 use Rattle.model.specs.Tests.{decide, never, eqb-true, eqb-false}
-use Rattle.model.specs.ListLaws.{All, all-map}
+use Rattle.model.specs.ListLaws.{All}
 use Rattle.model.specs.Visit.{TraversalState, Unmarked, Done, isMarked, Visited, marked, each, visit}
 use Rattle.model.specs.VisitLaws.{Preorder, each-does, visit-does, visits-same, Makes, each-makes, visit-makes, visits-mark}
 use Rattle.model.specs.Rounds.{placesFrom, jobOrder, walk, Rounds, roundsFrom}
@@ -34,6 +34,10 @@ module _ {W : Type 0} (P : W → Type 0) (G : W → ℕ → Type 0) (near : ℕ 
 
   walk-made : (order : List ℕ) (w : W) → P w → Makes P G (start w) (each (visit near join) order (start w))
   walk-made order w p = each-makes P G (visit near join) (visit-makes P G near join keeps stays makes) order (start w) p
+
+  pub walk-proper : (order : List ℕ) (w : W) → P w → P (walk n near join order w)
+  unfolding walk
+  walk-proper order w p = walk-made order w p .proper
 
   pub walk-keeps : (order : List ℕ) (w : W) → P w → (b : ℕ) → G w b → G (walk n near join order w) b
   unfolding walk

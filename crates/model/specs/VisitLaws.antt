@@ -11,7 +11,7 @@ use lib.ListN.{getD, set}
 use lib.Seq.{getD-set-other}
 use lib.Dec.{eqb}
 use Rattle.model.specs.Tests.{decide, never, eqb-true, eqb-false}
-use Rattle.model.specs.ListLaws.{All, all-map, set-here}
+use Rattle.model.specs.ListLaws.{All, set-here}
 use Rattle.model.specs.Visit.{TraversalState, Unmarked, Active, Done, isMarked, Visited, unmarkedIn, marked, enter, leave, each, visitWithin, visit}
 
 -- Marks.

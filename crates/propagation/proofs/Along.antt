@@ -1,10 +1,11 @@
 -- The laws of the visits here, and loops that visit one block after another.
 use Prim.Native.Nat.{ℕ, _≤_, _<_}
+use native.Mathlib.Omega.{arith}
 use native.Mathlib.Nat.{le-refl, le-trans, lt-of-lt-of-le}
 use mathlib.Core.Path.{_≡_, sym, ap, subst, _∙_}
 use mathlib.Core.Bool.{Bool, true, false}
 use mathlib.Core.List.{List, [], _∷_}
-use lib.ListN.{length}
+use lib.ListN.{length, getD}
 use Rattle.model.specs.Registry.{nodeLimit}
 use Rattle.model.specs.RegistryLaws.{extends-length}
 use Rattle.model.specs.Visit.{TraversalState, Visited, unmarkedIn, marked, enter, leave, each}
@@ -14,7 +15,9 @@ use Rattle.model.specs.PropagationLaws.{join-extends}
 use Rattle.graph.specs.Bytes.{sizeIn, neighbours}
 use Rattle.propagation.specs.declared.Progress.{Progress}
 use Rattle.propagation.specs.declared.Progress.the-variants.{Changed, Full}
-use Rattle.propagation.specs.Joins.{visitedOf, joinIn, visitIn, Stands, Holds, HoldsVisited, Joins, Visits}
+use Rattle.propagation.specs.Joins.{visitedOf, joinIn, visitIn, Stands, ReducedBefore, Holds, HoldsVisited, Joins, Visits}
+use Rattle.propagation.proofs.Marks.{more-marked}
+use Rattle.propagation.proofs.Reductions.{stands-proper, reduced-work, reduced-rows, visit-keeps-reduced}
 
 -- No step takes a node away.
 
@@ -68,27 +71,48 @@ module _ (want : Work) (n : ℕ) (r : Progress) (sets ws os : List ℕ) (h : Joi
   joined-full e = subst (λ a. Joins want n a sets ws os) e h
 
 -- A loop that visits blocks: the visits of the blocks of `order`, those still to come, lead from what the arrays hold to `end`.
-pub record Along (g : List ℕ) (backward : Bool) (order : List ℕ) (end : Visited Work) (marks sets ws os : List ℕ) (c : Bool) : Type 0 where
+pub record Along (g : List ℕ) (backward reduced : Bool) (order : List ℕ) (end : Visited Work) (marks sets ws os : List ℕ) (c : Bool) : Type 0 where
   pub long : length marks ≡ 128
   pub stands : Stands (sizeIn g) sets ws os
+  pub before : ReducedBefore reduced (sizeIn g) sets ws
   pub rest : each (visitIn g backward) order (visitedOf (sizeIn g) marks sets ws c) ≡ end
 
-module _ {g : List ℕ} {backward : Bool} {end : Visited Work} {marks sets ws os : List ℕ} {c : Bool} where
+module _ {g : List ℕ} {backward reduced : Bool} {end : Visited Work} {marks sets ws os : List ℕ} {c : Bool} where
   -- the same with the blocks to come in another form
-  pub along-by : {order order′ : List ℕ} → order ≡ order′ → Along g backward order end marks sets ws os c → Along g backward order′ end marks sets ws os c
-  along-by e a = subst (λ (bs : List ℕ). Along g backward bs end marks sets ws os c) e a
+  pub along-by : {order order′ : List ℕ} → order ≡ order′ → Along g backward reduced order end marks sets ws os c → Along g backward reduced order′ end marks sets ws os c
+  along-by e a = subst (λ (bs : List ℕ). Along g backward reduced bs end marks sets ws os c) e a
 
-  pub along-end : Along g backward [] end marks sets ws os c → visitedOf (sizeIn g) marks sets ws c ≡ end
+  pub along-end : Along g backward reduced [] end marks sets ws os c → visitedOf (sizeIn g) marks sets ws c ≡ end
   unfolding each
   along-end a = a .rest
 
-  module _ {b : ℕ} {order : List ℕ} (a : Along g backward (b ∷ order) end marks sets ws os c) where
+  module _ {b : ℕ} {order : List ℕ} (a : Along g backward reduced (b ∷ order) end marks sets ws os c) where
+    -- a block that is marked already is passed over
+    pub along-marked : b < sizeIn g → sizeIn g ≤ 128 → (getD marks b 0 ≡ 0 → ⊥) → Along g backward reduced order end marks sets ws os c
+    unfolding each
+    along-marked inside few marked-here =
+        let long = a .long in
+        let here = more-marked (sizeIn g) marks b inside (omega arith) marked-here in
+        record {
+          long = a .long;
+          stands = a .stands;
+          before = a .before;
+          rest = ap (each (visitIn g backward) order) (sym (visit-marked g backward b (visitedOf (sizeIn g) marks sets ws c) here)) ∙ a .rest;
+        }
+
     module _ (r : Progress) (marks′ sets′ ws′ os′ : List ℕ) (h : Visits (visitIn g backward b (visitedOf (sizeIn g) marks sets ws c)) (sizeIn g) r marks′ sets′ ws′ os′) where
-      pub along-more : (c′ : Bool) → r ≡ Changed c′ → Along g backward order end marks′ sets′ ws′ os′ c′
+      pub along-more : (c′ : Bool) → r ≡ Changed c′ → Along g backward reduced order end marks′ sets′ ws′ os′ c′
       unfolding each
       along-more c′ e =
           let to = visited-to _ _ r marks′ sets′ ws′ os′ h c′ e in
-          record { long = to .long; stands = to .stands; rest = ap (each (visitIn g backward) order) (sym (to .same)) ∙ a .rest }
+          let v = visitedOf (sizeIn g) marks sets ws c in
+          record {
+            long = to .long;
+            stands = to .stands;
+            before = λ t. reduced-rows (sizeIn g) sets′ ws′ c′ (visitIn g backward b v .work) (ap (λ (x : Visited Work). x .work) (to .same))
+                (λ k l. visit-keeps-reduced g backward b v (stands-proper (a .stands) c) k (reduced-work (sizeIn g) sets ws c (a .before t) k l));
+            rest = ap (each (visitIn g backward) order) (sym (to .same)) ∙ a .rest;
+          }
 
       pub along-full : r ≡ Full → nodeLimit < length (end .work .registry)
       unfolding each

@@ -1,20 +1,22 @@
--- A block's join, from what its calls leave, and the block's being Done after it.
+-- A block's join, from what its calls leave or from nothing's joining a reduced set, and the block's being Done after it.
 use Prim.Native.Nat.{ℕ, _<_}
 use mathlib.Core.Path.{_≡_, sym, ap, ap₂, subst, _∙_}
-use mathlib.Core.Bool.{Bool, true, false, _||_, not}
-use mathlib.Core.List.{List}
+use mathlib.Core.Bool.{Bool, true, false, _||_, not, or-false}
+use mathlib.Core.List.{List, []}
 use lib.ListN.{length, set, length-set}
+use lib.Seq.{set-getD}
 use Rattle.model.specs.ListLaws.{All}
 use Rattle.model.specs.Sets.{NodeSet, union, sameSet}
 use Rattle.model.specs.Registry.{nodeLimit}
 use Rattle.model.specs.Reduction.{Reduced, reduceMaybeOptionalChains}
-use Rattle.model.specs.ReductionLaws.{Members}
+use Rattle.model.specs.ReductionLaws.{Members, unchanged, IsReduced, reduced-already}
 use Rattle.model.specs.Visit.{leave}
 use Rattle.model.specs.Propagation.{Work, setOf, doneNeighbours, intersectionOf, joinWith, join}
 use Rattle.model.specs.PropagationLaws.{ProperWork, joinedSet, members-joined, join-proper}
 use Rattle.rows.specs.Members.{membersOf}
 use Rattle.rows.specs.Rows.{rowOf, rowsOf, RowSet}
 use Rattle.rows.proofs.Rows.{row-at}
+use Rattle.rows.proofs.Members.{same-self, same-lists}
 use Rattle.registry.specs.Words.{registryOf, Held}
 use Rattle.reduction.specs.declared.ReducedSet.{ReducedSet}
 use Rattle.reduction.specs.Reduces.{reducedOf, Reduces}
@@ -22,8 +24,9 @@ use Rattle.reduction.proofs.Passes.{reduces-to, reduces-full}
 use Rattle.graph.specs.Bytes.{sizeIn, neighbours}
 use Rattle.propagation.specs.declared.Progress.{Progress}
 use Rattle.propagation.specs.declared.Progress.the-variants.{Changed, Full}
-use Rattle.propagation.specs.Joins.{marksOf, workOf, visitedOf, joinIn, doneSets, Ready, Holds, Joins, Visits}
+use Rattle.propagation.specs.Joins.{marksOf, workOf, visitedOf, joinIn, doneSets, Ready, AllReduced, Holds, Joins, Visits}
 use Rattle.propagation.proofs.Marks.{mark-set}
+use Rattle.propagation.proofs.Reductions.{stands-proper}
 
 -- What is known once the set that is to be reduced is made.
 pub record Made (g : List ℕ) (backward : Bool) (b : ℕ) (marks sets ws os own found all : List ℕ) : Type 0 where
@@ -49,8 +52,7 @@ module _ {g : List ℕ} {backward : Bool} {b : ℕ} {marks sets ws os own found 
 
   module _ (changed : Bool) where
     proper : ProperWork (workOf (sizeIn g) sets ws changed)
-    unfolding workOf
-    proper = record { sound = made .ready .stands .held .sound; members = made .ready .stands .members }
+    proper = stands-proper (made .ready .stands) changed
 
     joined-is : membersOf all ≡ joinedSet (done g backward b marks) b (workOf (sizeIn g) sets ws changed)
     unfolding workOf doneSets
@@ -67,6 +69,21 @@ module _ {g : List ℕ} {backward : Bool} {b : ℕ} {marks sets ws os own found 
     want-is : want g backward b marks sets ws changed ≡ joinedBy reduced
     unfolding joinIn join joinWith workOf
     want-is = ap (λ (s : NodeSet). joinedBy (reduceMaybeOptionalChains (registryOf ws) s)) (sym joined-is)
+
+    -- where nothing joins a set that is reduced already, the work stays
+    pub join-still : AllReduced (sizeIn g) sets ws → sameSet (membersOf own) (membersOf all) ≡ true → Holds (want g backward b marks sets ws changed) (sizeIn g) changed sets ws os
+    unfolding workOf
+    join-still before none =
+        let rows = rowsOf sets (sizeIn g) in
+        let same : membersOf all ≡ setOf rows b = sym (same-lists (membersOf own) (membersOf all) none) ∙ own-row in
+        let still : IsReduced (registryOf ws) (membersOf all) = subst (IsReduced (registryOf ws)) (sym same) (before b (made .inside)) in
+        record {
+          stands = made .ready .stands;
+          same =
+              want-is ∙ ap joinedBy (reduced-already (registryOf ws) (membersOf all) (made .ready .stands .held .sound) join-members still)
+              ∙ ap (λ (s : NodeSet). joinedBy (unchanged (registryOf ws) s)) same
+              ∙ rw (set-getD rows b [], same-self (setOf rows b), or-false changed);
+        }
 
     module _ (r : ReducedSet) (vs ps : List ℕ) (to : Reduces reduced r vs ps) where
       pub join-full : r .full ≡ true → nodeLimit < length (want g backward b marks sets ws changed .registry)

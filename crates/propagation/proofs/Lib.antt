@@ -1,5 +1,6 @@
 pub mod Marks
 pub mod Intersecting
+pub mod Reductions
 pub mod Joining
 pub mod Along
 pub mod Visiting

@@ -7,19 +7,22 @@ use mathlib.Core.Path.{_≡_, refl, sym, ap, subst, _∙_}
 use mathlib.Core.Bool.{Bool, true, false}
 use mathlib.Core.List.{List}
 use lib.ListN.{length}
-use Rattle.model.specs.Tests.{decide}
+use lib.Dec.{ltb}
+use Rattle.model.specs.Tests.{decide, never}
 use Rattle.model.specs.Registry.{nodeLimit}
 use Rattle.model.specs.Rounds.{Rounds, roundsFrom}
 use Rattle.model.specs.RoundsLaws as laws
 use Rattle.model.specs.Propagation.{Work, doneNeighbours, unchanged, forward, backward, round, hasChanged, propagateNonNull}
+use Rattle.model.specs.PropagationLaws.{ProperWork, ReducedAt}
 use Rattle.rows.specs.Rows.{rowsOf}
 use Rattle.registry.specs.Words.{registryOf}
 use Rattle.graph.specs.Bytes.{sizeIn, graphIn}
 use Rattle.propagation.specs.declared.Progress.{Progress}
 use Rattle.propagation.specs.declared.Progress.the-variants.{Changed, Full}
-use Rattle.propagation.specs.Joins.{workOf, joinIn, Stands, Holds, Joins}
+use Rattle.propagation.specs.Joins.{workOf, joinIn, Stands, AllReduced, ReducedBefore, Holds, Joins}
 use Rattle.propagation.specs.Propagates.{walkIn, HoldsRounds}
 use Rattle.propagation.proofs.Along.{Adds, adds-order, joined-to, joined-full}
+use Rattle.propagation.proofs.Reductions.{stands-proper, reduced-rows, walk-keeps-reduced, walk-stays-proper, walk-reduces}
 use Rattle.propagation.proofs.Walking.{walk-adds}
 
 -- One round.
@@ -37,6 +40,13 @@ module _ (g : List ℕ) where
       subst (Adds w) (sym (two-walks w))
       (le-trans (walk-adds g false (unchanged (w .registry) (w .sets))) (walk-adds g true (walkIn g false (unchanged (w .registry) (w .sets)))))
 
+  -- after a round each block's set is reduced
+  round-reduces : (w : Work) → ProperWork w → (b : ℕ) → b < sizeIn g → ReducedAt (roundIn g w) b
+  round-reduces w p b l =
+      let start = unchanged (w .registry) (w .sets) in
+      let q : ProperWork start = record { sound = p .sound; members = p .members } in
+      subst (λ (u : Work). ReducedAt u b) (sym (two-walks w)) (walk-keeps-reduced g true (walkIn g false start) (walk-stays-proper g false start q) b (walk-reduces g start q b l))
+
   module _ (sets ws : List ℕ) where
     -- a round does not look at whether a set has changed before it
     from-unchanged : (c : Bool) → roundIn g (workOf (sizeIn g) sets ws c) ≡ walkIn g true (walkIn g false (workOf (sizeIn g) sets ws false))
@@ -49,6 +59,10 @@ module _ (g : List ℕ) where
         subst (λ (w : Work). nodeLimit < length (w .registry)) (sym (from-unchanged true))
         (lt-of-lt-of-le (joined-full _ (sizeIn g) r ts vs ps j e) (walk-adds g true (walkIn g false (workOf (sizeIn g) sets ws false))))
 
+    -- after its forward walk each set is reduced
+    pub round-halfway : {os : List ℕ} → Stands (sizeIn g) sets ws os → {c : Bool} {ts vs ps : List ℕ} → Holds (walkIn g false (workOf (sizeIn g) sets ws false)) (sizeIn g) c ts vs ps → AllReduced (sizeIn g) ts vs
+    round-halfway s {c} {ts} {vs} h = reduced-rows (sizeIn g) ts vs c (walkIn g false (workOf (sizeIn g) sets ws false)) (h .same) (walk-reduces g (workOf (sizeIn g) sets ws false) (stands-proper s false))
+
     pub round-done : {c : Bool} {ts vs ps : List ℕ} → Holds (walkIn g false (workOf (sizeIn g) sets ws false)) (sizeIn g) c ts vs ps → (r : Progress) (us xs os : List ℕ)
         → Joins (walkIn g true (workOf (sizeIn g) ts vs c)) (sizeIn g) r us xs os → Joins (roundIn g (workOf (sizeIn g) sets ws true)) (sizeIn g) r us xs os
     round-done h r us xs os j = subst (λ (w : Work). Joins w (sizeIn g) r us xs os) (ap (walkIn g true) (sym (h .same)) ∙ sym (from-unchanged true)) j
@@ -56,12 +70,13 @@ module _ (g : List ℕ) where
 -- The loop over rounds: `ran` of them are run, and those still allowed lead to `end`.
 pub record Rounding (g : List ℕ) (end : Rounds Work) (sets ws os : List ℕ) (ran : ℕ) : Type 0 where
   pub stands : Stands (sizeIn g) sets ws os
+  pub before : ReducedBefore (ltb 0 ran) (sizeIn g) sets ws
   pub rest : roundsFrom hasChanged (roundIn g) (100 - ran) ran (workOf (sizeIn g) sets ws true) ≡ end
 
 pub rounds-start : (g sets ws os : List ℕ) → Stands (sizeIn g) sets ws os
     → Rounding g (propagateNonNull doneNeighbours (graphIn g) (registryOf ws) (rowsOf sets (sizeIn g))) sets ws os 0
 unfolding propagateNonNull roundsFrom round workOf
-rounds-start g sets ws os s = record { stands = s; rest = refl }
+rounds-start g sets ws os s = record { stands = s; before = λ t. never t refl; rest = refl }
 
 module _ {g : List ℕ} {end : Rounds Work} {sets ws os : List ℕ} {ran : ℕ} (r : Rounding g end sets ws os ran) where
   abbrev now : Work
@@ -105,6 +120,7 @@ module _ {g : List ℕ} {end : Rounds Work} {sets ws os : List ℕ} {ran : ℕ} 
         pub rounds-more : c ≡ true → Rounding g end ts vs ps (ran + 1)
         rounds-more e = record {
           stands = held .stands;
+          before = λ t. reduced-rows (sizeIn g) ts vs c (roundIn g now) (held .same) (round-reduces g now (stands-proper (r .stands) true));
           rest =
               ap (λ (k : ℕ). roundsFrom hasChanged (roundIn g) (100 - (ran + 1)) k (workOf (sizeIn g) ts vs true)) (add-one ran)
               ∙ ap (roundsFrom hasChanged (roundIn g) (100 - (ran + 1)) (suc ran)) (sym (left true e))

@@ -13,71 +13,60 @@ use Rattle.model.specs.Propagation.{Work}
 use Rattle.graph.specs.Bytes.{sizeIn, neighboursFrom, neighbours, Next}
 use Rattle.propagation.specs.declared.Progress.{Progress}
 use Rattle.propagation.specs.declared.Progress.the-variants.{Changed, Full}
-use Rattle.propagation.specs.Joins.{marksOf, workOf, visitedOf, joinIn, visitIn, Ready, Visits}
-use Rattle.propagation.proofs.Marks.{mark-set, zero-unmarked, more-marked}
-use Rattle.propagation.proofs.Along.{join-adds, visit-fewer, visit-marked, visit-unmarked, visited-to, Along, along-by, along-more, along-full, along-end}
+use Rattle.propagation.specs.Joins.{marksOf, workOf, visitedOf, joinIn, visitIn, Ready, ReducedBefore, Visits}
+use Rattle.propagation.proofs.Marks.{mark-set, zero-unmarked}
+use Rattle.propagation.proofs.Along.{join-adds, visit-fewer, visit-unmarked, visited-to, Along, along-by, along-marked, along-more, along-full, along-end}
 
 -- what a visit requires
-pub record Enters (g : List ℕ) (b : ℕ) (marks sets ws os : List ℕ) : Type 0 where
+pub record Enters (g : List ℕ) (b : ℕ) (marks sets ws os : List ℕ) (reduced : Bool) : Type 0 where
   pub ready : Ready g sets ws os
+  pub before : ReducedBefore reduced (sizeIn g) sets ws
   pub inside : b < sizeIn g
   pub long : length marks ≡ 128
+  pub unmarked : getD marks b 0 ≡ 0
 
 -- The loop over the neighbours of block b: those from `from` on are still to be visited, and no more blocks are unmarked than at `entered`.
-pub record Neighbouring (g : List ℕ) (backward : Bool) (b : ℕ) (entered : Visited Work) (marks sets ws os : List ℕ) (c : Bool) (from : ℕ) : Type 0 where
-  pub along : Along g backward (neighboursFrom g backward b from) (each (visitIn g backward) (neighbours g backward b) entered) marks sets ws os c
+pub record Neighbouring (g : List ℕ) (backward reduced : Bool) (b : ℕ) (entered : Visited Work) (marks sets ws os : List ℕ) (c : Bool) (from : ℕ) : Type 0 where
+  pub along : Along g backward reduced (neighboursFrom g backward b from) (each (visitIn g backward) (neighbours g backward b) entered) marks sets ws os c
   pub fewer : unmarkedIn (marksOf (sizeIn g) marks) ≤ unmarkedIn (entered .marks)
 
-module _ {g : List ℕ} {b : ℕ} {marks sets ws os : List ℕ} (e : Enters g b marks sets ws os) where
+module _ {g : List ℕ} {b : ℕ} {marks sets ws os : List ℕ} {reduced : Bool} (e : Enters g b marks sets ws os reduced) where
   pub block-inside : b < 128
   block-inside = let few = e .ready .fits .size in let h = e .inside in omega arith
 
-  here-long : b < length marks
-  here-long = let l = e .long in let h = block-inside in omega arith
+  unmarked-here : isMarked (getD (marksOf (sizeIn g) marks) b Done) ≡ false
+  unmarked-here = zero-unmarked (sizeIn g) marks b (e .inside) (let l = e .long in let h = block-inside in omega arith) (e .unmarked)
+
+  entered-fewer : unmarkedIn (marksOf (sizeIn g) (set marks b 1)) < unmarkedIn (marksOf (sizeIn g) marks)
+  entered-fewer = rw (mark-set (sizeIn g) marks b (e .inside) 1) (let one = unmarked-enter (marksOf (sizeIn g) marks) b unmarked-here in omega arith)
 
   module _ (backward changed : Bool) where
-    -- a block that is marked is left as it is
-    pub end-marked : (getD marks b 0 ≡ 0 → ⊥) → Visits (visitIn g backward b (visitedOf (sizeIn g) marks sets ws changed)) (sizeIn g) (Changed changed) marks sets ws os
-    end-marked h = record {
-      long = e .long;
-      stands = e .ready .stands;
-      same = visit-marked g backward b (visitedOf (sizeIn g) marks sets ws changed) (more-marked (sizeIn g) marks b (e .inside) here-long h);
+    -- the block is Active while its neighbours are visited, and then left
+    opened : visitIn g backward b (visitedOf (sizeIn g) marks sets ws changed)
+        ≡ leave (joinIn g backward) b (each (visitIn g backward) (neighbours g backward b) (visitedOf (sizeIn g) (set marks b 1) sets ws changed))
+    opened =
+        visit-unmarked g backward b (visitedOf (sizeIn g) marks sets ws changed) unmarked-here
+        ∙ ap (λ (ms : List TraversalState). leave (joinIn g backward) b (each (visitIn g backward) (neighbours g backward b) (record { marks = ms; work = workOf (sizeIn g) sets ws changed })))
+        (sym (mark-set (sizeIn g) marks b (e .inside) 1))
+
+    pub neighbours-start : Neighbouring g backward reduced b (visitedOf (sizeIn g) (set marks b 1) sets ws changed) (set marks b 1) sets ws os changed 0
+    neighbours-start = record {
+      along = record { long = length-set marks b 1 ∙ e .long; stands = e .ready .stands; before = e .before; rest = refl };
+      fewer = le-refl _;
     }
 
-    module _ (here : getD marks b 0 ≡ 0) where
-      unmarked-here : isMarked (getD (marksOf (sizeIn g) marks) b Done) ≡ false
-      unmarked-here = zero-unmarked (sizeIn g) marks b (e .inside) here-long here
-
-      -- any other is Active while its neighbours are visited, and then left
-      opened : visitIn g backward b (visitedOf (sizeIn g) marks sets ws changed)
-          ≡ leave (joinIn g backward) b (each (visitIn g backward) (neighbours g backward b) (visitedOf (sizeIn g) (set marks b 1) sets ws changed))
-      opened =
-          visit-unmarked g backward b (visitedOf (sizeIn g) marks sets ws changed) unmarked-here
-          ∙ ap (λ (ms : List TraversalState). leave (joinIn g backward) b (each (visitIn g backward) (neighbours g backward b) (record { marks = ms; work = workOf (sizeIn g) sets ws changed })))
-          (sym (mark-set (sizeIn g) marks b (e .inside) 1))
-
-      entered-fewer : unmarkedIn (marksOf (sizeIn g) (set marks b 1)) < unmarkedIn (marksOf (sizeIn g) marks)
-      entered-fewer = rw (mark-set (sizeIn g) marks b (e .inside) 1) (let one = unmarked-enter (marksOf (sizeIn g) marks) b unmarked-here in omega arith)
-
-      pub neighbours-start : Neighbouring g backward b (visitedOf (sizeIn g) (set marks b 1) sets ws changed) (set marks b 1) sets ws os changed 0
-      neighbours-start = record {
-        along = record { long = length-set marks b 1 ∙ e .long; stands = e .ready .stands; rest = refl };
-        fewer = le-refl _;
-      }
-
 -- The facts in the loop over the neighbours: those at the entry, and the invariant.
-pub record Looping (g : List ℕ) (backward : Bool) (b : ℕ) (marks sets ws os : List ℕ) (changed : Bool) (marks′ sets′ ws′ os′ : List ℕ) (c : Bool) (from : ℕ) : Type 0 where
-  pub entry : Enters g b marks sets ws os
-  pub here : getD marks b 0 ≡ 0
-  pub inv : Neighbouring g backward b (visitedOf (sizeIn g) (set marks b 1) sets ws changed) marks′ sets′ ws′ os′ c from
+pub record Looping (g : List ℕ) (backward reduced : Bool) (b : ℕ) (marks sets ws os : List ℕ) (changed : Bool) (marks′ sets′ ws′ os′ : List ℕ) (c : Bool) (from : ℕ) : Type 0 where
+  pub entry : Enters g b marks sets ws os reduced
+  pub inv : Neighbouring g backward reduced b (visitedOf (sizeIn g) (set marks b 1) sets ws changed) marks′ sets′ ws′ os′ c from
 
-module _ {g : List ℕ} {backward : Bool} {b : ℕ} {marks sets ws os : List ℕ} {changed : Bool} {marks′ sets′ ws′ os′ : List ℕ} {c : Bool} {from : ℕ}
-    (l : Looping g backward b marks sets ws os changed marks′ sets′ ws′ os′ c from) where
+module _ {g : List ℕ} {backward reduced : Bool} {b : ℕ} {marks sets ws os : List ℕ} {changed : Bool} {marks′ sets′ ws′ os′ : List ℕ} {c : Bool} {from : ℕ}
+    (l : Looping g backward reduced b marks sets ws os changed marks′ sets′ ws′ os′ c from) where
   pub still-ready : Ready g sets′ ws′ os′
   still-ready = record { fits = l .entry .ready .fits; stands = l .inv .along .stands }
 
   pub call-falls : unmarkedIn (marksOf (sizeIn g) marks′) < unmarkedIn (marksOf (sizeIn g) marks)
-  call-falls = let f = l .inv .fewer in let e = entered-fewer (l .entry) backward changed (l .here) in omega arith
+  call-falls = let f = l .inv .fewer in let e = entered-fewer (l .entry) in omega arith
 
   -- no neighbour is still to come: the block is left
   pub end-left : neighboursFrom g backward b from ≡ [] → (r : Progress) (marks″ sets″ ws″ os″ : List ℕ)
@@ -85,23 +74,31 @@ module _ {g : List ℕ} {backward : Bool} {b : ℕ} {marks sets ws os : List ℕ
       → Visits (visitIn g backward b (visitedOf (sizeIn g) marks sets ws changed)) (sizeIn g) r marks″ sets″ ws″ os″
   end-left none r marks″ sets″ ws″ os″ h =
       subst (λ (v : Visited Work). Visits v (sizeIn g) r marks″ sets″ ws″ os″)
-      (ap (leave (joinIn g backward) b) (along-end (along-by none (l .inv .along))) ∙ sym (opened (l .entry) backward changed (l .here))) h
+      (ap (leave (joinIn g backward) b) (along-end (along-by none (l .inv .along))) ∙ sym (opened (l .entry) backward changed)) h
 
-  -- neighbour k is visited
-  module _ {k next : ℕ} (to : Next g backward b from k next) (r : Progress) (marks″ sets″ ws″ os″ : List ℕ)
-      (h : Visits (visitIn g backward k (visitedOf (sizeIn g) marks′ sets′ ws′ c)) (sizeIn g) r marks″ sets″ ws″ os″) where
-    abbrev here-along : Along g backward (k ∷ neighboursFrom g backward b next) (each (visitIn g backward) (neighbours g backward b) (visitedOf (sizeIn g) (set marks b 1) sets ws changed)) marks′ sets′ ws′ os′ c
+  -- the next neighbour is k
+  module _ {k next : ℕ} (to : Next g backward b from k next) where
+    abbrev here-along : Along g backward reduced (k ∷ neighboursFrom g backward b next) (each (visitIn g backward) (neighbours g backward b) (visitedOf (sizeIn g) (set marks b 1) sets ws changed)) marks′ sets′ ws′ os′ c
     here-along = along-by (to .rest) (l .inv .along)
 
-    pub end-full : r ≡ Full → nodeLimit < length (visitIn g backward b (visitedOf (sizeIn g) marks sets ws changed) .work .registry)
-    end-full e =
-        subst (λ (v : Visited Work). nodeLimit < length (v .work .registry)) (sym (opened (l .entry) backward changed (l .here)))
-        (lt-of-lt-of-le (along-full here-along r marks″ sets″ ws″ os″ h e) (join-adds g backward b _ _))
+    pub neighbour-inside : k < 128
+    neighbour-inside = let few = l .entry .ready .fits .size in let h = to .inside in omega arith
 
-    pub neighbours-more : (c″ : Bool) → r ≡ Changed c″ → Neighbouring g backward b (visitedOf (sizeIn g) (set marks b 1) sets ws changed) marks″ sets″ ws″ os″ c″ next
-    neighbours-more c″ e = record {
-      along = along-more here-along r marks″ sets″ ws″ os″ h c″ e;
-      fewer =
-          le-trans (subst (λ (v : Visited Work). unmarkedIn (v .marks) ≤ unmarkedIn (marksOf (sizeIn g) marks′)) (visited-to _ _ r marks″ sets″ ws″ os″ h c″ e .same)
-          (visit-fewer g backward k (visitedOf (sizeIn g) marks′ sets′ ws′ c))) (l .inv .fewer);
-    }
+    -- it is marked already
+    pub neighbours-marked : (getD marks′ k 0 ≡ 0 → ⊥) → Neighbouring g backward reduced b (visitedOf (sizeIn g) (set marks b 1) sets ws changed) marks′ sets′ ws′ os′ c next
+    neighbours-marked h = record { along = along-marked here-along (to .inside) (l .entry .ready .fits .size) h; fewer = l .inv .fewer }
+
+    -- it is visited
+    module _ (r : Progress) (marks″ sets″ ws″ os″ : List ℕ) (h : Visits (visitIn g backward k (visitedOf (sizeIn g) marks′ sets′ ws′ c)) (sizeIn g) r marks″ sets″ ws″ os″) where
+      pub end-full : r ≡ Full → nodeLimit < length (visitIn g backward b (visitedOf (sizeIn g) marks sets ws changed) .work .registry)
+      end-full e =
+          subst (λ (v : Visited Work). nodeLimit < length (v .work .registry)) (sym (opened (l .entry) backward changed))
+          (lt-of-lt-of-le (along-full here-along r marks″ sets″ ws″ os″ h e) (join-adds g backward b _ _))
+
+      pub neighbours-more : (c″ : Bool) → r ≡ Changed c″ → Neighbouring g backward reduced b (visitedOf (sizeIn g) (set marks b 1) sets ws changed) marks″ sets″ ws″ os″ c″ next
+      neighbours-more c″ e = record {
+        along = along-more here-along r marks″ sets″ ws″ os″ h c″ e;
+        fewer =
+            le-trans (subst (λ (v : Visited Work). unmarkedIn (v .marks) ≤ unmarkedIn (marksOf (sizeIn g) marks′)) (visited-to _ _ r marks″ sets″ ws″ os″ h c″ e .same)
+            (visit-fewer g backward k (visitedOf (sizeIn g) marks′ sets′ ws′ c))) (l .inv .fewer);
+      }

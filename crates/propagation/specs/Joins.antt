@@ -7,7 +7,7 @@ use lib.ListN.{length, take}
 use Rattle.model.specs.ListLaws.{All}
 use Rattle.model.specs.Sets.{NodeSet, intersection}
 use Rattle.model.specs.Registry.{nodeLimit}
-use Rattle.model.specs.ReductionLaws.{Members}
+use Rattle.model.specs.ReductionLaws.{Members, IsReduced}
 use Rattle.model.specs.Visit.{TraversalState, Unmarked, Active, Done, Visited, visit}
 use Rattle.model.specs.Propagation.{Work, setOf, doneNeighbours, intersectionOf, join}
 use Rattle.rows.specs.Members.{membersOf}
@@ -72,6 +72,14 @@ pub record Stands (n : ℕ) (sets ws os : List ℕ) : Type 0 where
 pub record Ready (g sets ws os : List ℕ) : Type 0 where
   pub fits : GraphFits g
   pub stands : Stands (sizeIn g) sets ws os
+
+-- a pass over any of n rows changes nothing and makes nothing
+abbrev pub AllReduced : ℕ → List ℕ → List ℕ → Type 0
+AllReduced n sets ws = (b : ℕ) → b < n → IsReduced (registryOf ws) (setOf (rowsOf sets n) b)
+
+-- the same, where the flag says so
+abbrev pub ReducedBefore : Bool → ℕ → List ℕ → List ℕ → Type 0
+ReducedBefore reduced n sets ws = reduced ≡ true → AllReduced n sets ws
 
 -- the arrays hold the work that was to be reached
 pub record Holds (want : Work) (n : ℕ) (changed : Bool) (sets ws os : List ℕ) : Type 0 where

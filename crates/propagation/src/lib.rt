@@ -4,14 +4,14 @@ ghost use mathlib.Core.Path.{_≡_};
 ghost use mathlib.Core.Bool.{true, false};
 ghost use mathlib.Core.List.{[]};
 ghost use Prim.Native.Nat.{_<_};
-ghost use lib.ListN.{length};
+ghost use lib.ListN.{length, getD};
 ghost use Rattle.model.specs.Visit.{leave};
 ghost use Rattle.model.specs.Propagation.{doneNeighbours, intersectionOf, round, propagateNonNull};
 ghost use Rattle.rows.specs.Members.{membersOf};
 ghost use Rattle.rows.specs.Rows.{rowsOf};
 ghost use Rattle.registry.specs.Words.{registryOf};
 ghost use Rattle.graph.specs.Bytes.{sizeIn, neighbours, GraphFits, graphIn};
-ghost use Rattle.propagation.specs.Joins.{marksOf, workOf, visitedOf, joinIn, visitIn, doneSets, intersectionWith, Intersects, Ready, Joins, Visits};
+ghost use Rattle.propagation.specs.Joins.{marksOf, workOf, visitedOf, joinIn, visitIn, doneSets, intersectionWith, Intersects, Ready, ReducedBefore, Joins, Visits};
 ghost use Rattle.propagation.specs.Propagates.{inOrder, walkIn, Propagates};
 use graph::Near;
 use rows::NodeBits;
@@ -109,7 +109,8 @@ fn intersection_of_done(
     }
 }
 
-// The block's set is joined with that intersection and reduced.
+// The block's set is joined with that intersection and reduced. Where `reduced` says that each block's set was reduced before, and nothing joins, it is
+// reduced as it is.
 fn join(
     graph: &[u8; 10497],
     backward: bool,
@@ -118,9 +119,10 @@ fn join(
     sets: &mut [u64; 1024],
     ws: &mut [u64; 1665],
     optional: &mut [u64; 8],
+    reduced: bool,
     changed: bool,
 ) -> Progress
-    requires { ⌜ Ready (now graph) (now sets) (now ws) (now optional) × (b < sizeIn (now graph)) ⌝ }
+    requires { ⌜ Ready (now graph) (now sets) (now ws) (now optional) × ReducedBefore reduced (sizeIn (now graph)) (now sets) (now ws) × (b < sizeIn (now graph)) ⌝ }
     ensures { λ r. ⌜ (let n = sizeIn (now (graph .entry)) in
         Joins (joinIn (now (graph .entry)) backward b (marksOf n (now (marks .entry))) (workOf n (now (sets .entry)) (now (ws .entry)) changed))
         n r (now (sets .exit)) (now (ws .exit)) (now (optional .exit))) ⌝ }
@@ -128,6 +130,9 @@ fn join(
     let own = rows::row(sets, b);
     let found = intersection_of_done(graph, backward, b, marks, sets);
     let all = own.union(found);
+    if reduced && own.same_set(all) {
+        return Progress::Changed(changed);
+    }
     let r = reduction::reduce_maybe_optional_chains(ws, optional, all);
     if r.full {
         return Progress::Full;
@@ -147,20 +152,31 @@ fn leave(
     sets: &mut [u64; 1024],
     ws: &mut [u64; 1665],
     optional: &mut [u64; 8],
+    reduced: bool,
     changed: bool,
 ) -> Progress
-    requires { ⌜ Ready (now graph) (now sets) (now ws) (now optional) × (b < sizeIn (now graph)) × (length (now marks) ≡ 128) ⌝ }
+    requires { ⌜ Ready (now graph) (now sets) (now ws) (now optional) × ReducedBefore reduced (sizeIn (now graph)) (now sets) (now ws) × (b < sizeIn (now graph)) × (length (now marks) ≡ 128) ⌝ }
     ensures { λ r. ⌜ (let n = sizeIn (now (graph .entry)) in
         Visits (leave (joinIn (now (graph .entry)) backward) b (visitedOf n (now (marks .entry)) (now (sets .entry)) (now (ws .entry)) changed))
         n r (now (marks .exit)) (now (sets .exit)) (now (ws .exit)) (now (optional .exit))) ⌝ }
 {
-    let joined = join(graph, backward, b, marks, sets, ws, optional, changed);
+    let joined = join(
+        graph,
+        backward,
+        b,
+        marks,
+        sets,
+        ws,
+        optional,
+        reduced,
+        changed,
+    );
     marks[b] = 2;
     joined
 }
 
-// `recursively_propagate_non_null`: a block that is unmarked is Active while its neighbours are visited. The work after them is `leave`'s, called at
-// two places, so that its locals are in no frame of the recursion.
+// `recursively_propagate_non_null` of an unmarked block: it is Active while its unmarked neighbours are visited. The work after them is `leave`'s, called
+// at two places, so that its locals are in no frame of the recursion.
 fn visit(
     graph: &[u8; 10497],
     backward: bool,
@@ -169,31 +185,60 @@ fn visit(
     sets: &mut [u64; 1024],
     ws: &mut [u64; 1665],
     optional: &mut [u64; 8],
+    reduced: bool,
     changed: bool,
 ) -> Progress
-    requires { ⌜ Ready (now graph) (now sets) (now ws) (now optional) × (b < sizeIn (now graph)) × (length (now marks) ≡ 128) ⌝ }
+    requires { ⌜ Ready (now graph) (now sets) (now ws) (now optional) × ReducedBefore reduced (sizeIn (now graph)) (now sets) (now ws) × (b < sizeIn (now graph)) × (length (now marks) ≡ 128) × (getD (now marks) b 0 ≡ 0) ⌝ }
     ensures { λ r. ⌜ (let n = sizeIn (now (graph .entry)) in
         Visits (visitIn (now (graph .entry)) backward b (visitedOf n (now (marks .entry)) (now (sets .entry)) (now (ws .entry)) changed))
         n r (now (marks .exit)) (now (sets .exit)) (now (ws .exit)) (now (optional .exit))) ⌝ }
 {
-    if marks[b] != 0 {
-        return Progress::Changed(changed);
-    }
     marks[b] = 1;
     let mut so_far = changed;
     let mut from = 0;
     while from < 128 {
         let Near::At(k, next) = graph::next_near(graph, backward, b, from) else {
-            return leave(graph, backward, b, marks, sets, ws, optional, so_far);
+            return leave(
+                graph,
+                backward,
+                b,
+                marks,
+                sets,
+                ws,
+                optional,
+                reduced,
+                so_far,
+            );
         };
-        let Progress::Changed(c) = visit(graph, backward, k, marks, sets, ws, optional, so_far)
-        else {
-            return Progress::Full;
-        };
-        so_far = c;
+        if marks[k] == 0 {
+            let Progress::Changed(c) = visit(
+                graph,
+                backward,
+                k,
+                marks,
+                sets,
+                ws,
+                optional,
+                reduced,
+                so_far,
+            ) else {
+                return Progress::Full;
+            };
+            so_far = c;
+        }
         from = next;
     }
-    leave(graph, backward, b, marks, sets, ws, optional, so_far)
+    leave(
+        graph,
+        backward,
+        b,
+        marks,
+        sets,
+        ws,
+        optional,
+        reduced,
+        so_far,
+    )
 }
 
 // Block i of a walk over n.
@@ -204,7 +249,7 @@ fn in_order(backward: bool, n: usize, i: usize) -> usize
     if backward { n - 1 - i } else { i }
 }
 
-// A visit of each block in turn, with the marks cleared.
+// A visit of each unmarked block in turn, from no mark on.
 fn walk(
     graph: &[u8; 10497],
     backward: bool,
@@ -212,9 +257,10 @@ fn walk(
     sets: &mut [u64; 1024],
     ws: &mut [u64; 1665],
     optional: &mut [u64; 8],
+    reduced: bool,
     changed: bool,
 ) -> Progress
-    requires { ⌜ Ready (now graph) (now sets) (now ws) (now optional) ⌝ }
+    requires { ⌜ Ready (now graph) (now sets) (now ws) (now optional) × ReducedBefore reduced (sizeIn (now graph)) (now sets) (now ws) ⌝ }
     ensures { λ r. ⌜ (let n = sizeIn (now (graph .entry)) in
         Joins (walkIn (now (graph .entry)) backward (workOf n (now (sets .entry)) (now (ws .entry)) changed))
         n r (now (sets .exit)) (now (ws .exit)) (now (optional .exit))) ⌝ }
@@ -225,33 +271,45 @@ fn walk(
     let mut i = 0;
     while i < n {
         let b = in_order(backward, n, i);
-        let Progress::Changed(c) = visit(graph, backward, b, marks, sets, ws, optional, so_far)
-        else {
-            return Progress::Full;
-        };
-        so_far = c;
         i += 1;
+        if marks[b] == 0 {
+            let Progress::Changed(c) = visit(
+                graph,
+                backward,
+                b,
+                marks,
+                sets,
+                ws,
+                optional,
+                reduced,
+                so_far,
+            ) else {
+                return Progress::Full;
+            };
+            so_far = c;
+        }
     }
     Progress::Changed(so_far)
 }
 
-// A forward and a backward walk, from no set changed.
+// A forward and a backward walk, from no set changed. After the forward one each set is reduced.
 fn round(
     graph: &[u8; 10497],
     marks: &mut [u8; 128],
     sets: &mut [u64; 1024],
     ws: &mut [u64; 1665],
     optional: &mut [u64; 8],
+    reduced: bool,
 ) -> Progress
-    requires { ⌜ Ready (now graph) (now sets) (now ws) (now optional) ⌝ }
+    requires { ⌜ Ready (now graph) (now sets) (now ws) (now optional) × ReducedBefore reduced (sizeIn (now graph)) (now sets) (now ws) ⌝ }
     ensures { λ r. ⌜ (let n = sizeIn (now (graph .entry)) in
         Joins (round doneNeighbours (graphIn (now (graph .entry))) (workOf n (now (sets .entry)) (now (ws .entry)) true))
         n r (now (sets .exit)) (now (ws .exit)) (now (optional .exit))) ⌝ }
 {
-    let Progress::Changed(c) = walk(graph, false, marks, sets, ws, optional, false) else {
+    let Progress::Changed(c) = walk(graph, false, marks, sets, ws, optional, reduced, false) else {
         return Progress::Full;
     };
-    walk(graph, true, marks, sets, ws, optional, c)
+    walk(graph, true, marks, sets, ws, optional, true, c)
 }
 
 // At most 100 rounds; the one that changes nothing is the last.
@@ -269,7 +327,8 @@ pub fn propagate_non_null(
     let mut marks = [0u8; 128];
     let mut rounds = 0;
     while rounds < 100 {
-        let Progress::Changed(changed) = round(graph, &mut marks, sets, ws, optional) else {
+        let Progress::Changed(changed) = round(graph, &mut marks, sets, ws, optional, 0 < rounds)
+        else {
             return Propagated::Full;
         };
         rounds += 1;

@@ -5,17 +5,17 @@ use Rattle.propagation.proofs.leave.Statement.{statement}
 use Rattle.propagation.proofs.leave.Tie as tie
 
 join-requires : tie.Need-join-requires
-join-requires c κs = let s = c .before .before .before .before in (s .pre .0, s .pre .1)
+join-requires c κs = let s = c .before .before .before .before in (s .pre .0, s .pre .1, s .pre .2)
 
 element-write-marks : tie.Need-element-write-marks
-element-write-marks c = let s = c .before .before .before .before .before in let few = s .pre .0 .fits .size in let inside = s .pre .1 in omega arith
+element-write-marks c = let s = c .before .before .before .before .before in let few = s .pre .0 .fits .size in let inside = s .pre .2 in omega arith
 
 returns : tie.Need-returns
 returns c =
     let s = c .before .before .before .before .before in
     let a = s .args in
     let j = c .join in
-    leaves (a .graph .now) (a .backward) (a .b) (a .marks .now) (a .sets .now) (a .ws .now) (a .changed) (j .result) _ _ _ (s .pre .1) (s .pre .2) (j .ensures)
+    leaves (a .graph .now) (a .backward) (a .b) (a .marks .now) (a .sets .now) (a .ws .now) (a .changed) (j .result) _ _ _ (s .pre .2) (s .pre .3) (j .ensures)
 
 pub leave-spec : {M : Type 1} → statement M
 leave-spec = tie.close (tie.spec join-requires element-write-marks returns)

@@ -25,7 +25,7 @@ loop-holds : tie.Need-loop-holds Inv-loop μ-loop
 loop-holds c = let a = c .args in rounds-start (a .graph .now) (a .sets .now) (a .ws .now) (a .optional .now) (c .pre .stands)
 
 round-requires : tie.Need-round-requires Inv-loop μ-loop
-round-requires c κs = let l = to-round c .before in record { fits = l .before .pre .fits; stands = l .loop .inv .stands }
+round-requires c κs = let l = to-round c .before in (record { fits = l .before .pre .fits; stands = l .loop .inv .stands }, l .loop .inv .before)
 
 returns : tie.Need-returns Inv-loop μ-loop
 returns c =

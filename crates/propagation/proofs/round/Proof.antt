@@ -1,11 +1,11 @@
--- `round` meets its contract: the backward walk goes on from what the forward one leaves, or the forward one has no room, and neither has the round.
+-- `round` meets its contract: the backward walk goes on from what the forward one leaves, all of it reduced, or the forward one has no room, and neither has the round.
 use mathlib.Core.Bool.{false}
 use borrow.Author.Needs.{needs}
 use Rattle.graph.specs.Bytes.{sizeIn}
 use Rattle.propagation.specs.Joins.{workOf, Holds}
 use Rattle.propagation.specs.Propagates.{walkIn}
 use Rattle.propagation.proofs.Along.{joined-to}
-use Rattle.propagation.proofs.Rounding.{round-full, round-done}
+use Rattle.propagation.proofs.Rounding.{round-full, round-halfway, round-done}
 use Rattle.propagation.proofs.round.Statement.{statement}
 use Rattle.propagation.proofs.round.Tie as tie
 
@@ -31,7 +31,10 @@ returns c =
     round-full (a .graph .now) (a .sets .now) (a .ws .now) (w .walk .result) _ _ _ (w .walk .ensures) (c .enum-told .given .1)
 
 walk-requires-2 : tie.Need-walk-requires-2
-walk-requires-2 c κs = let k = to-walk c in record { fits = entry (k .before .before) .pre .fits; stands = forth k .stands }
+walk-requires-2 c κs =
+    let k = to-walk c in
+    let s = entry (k .before .before) in
+    (record { fits = s .pre .0 .fits; stands = forth k .stands }, λ t. round-halfway (s .args .graph .now) (s .args .sets .now) (s .args .ws .now) (s .pre .0 .stands) (forth k))
 
 returns-2 : tie.Need-returns-2
 returns-2 c =

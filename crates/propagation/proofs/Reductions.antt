@@ -1,0 +1,55 @@
+-- Which sets are reduced already: a visit keeps those that are, and after a forward walk all of them are.
+use Prim.Native.Nat.{ℕ, _<_}
+use mathlib.Core.Path.{_≡_, subst}
+use mathlib.Core.Bool.{Bool, false}
+use mathlib.Core.List.{List}
+use Rattle.model.specs.Visit.{TraversalState, Visited}
+use Rattle.model.specs.VisitLaws.{visit-makes}
+use Rattle.model.specs.RoundsLaws as laws
+use Rattle.model.specs.Propagation.{Work, doneNeighbours, join}
+use Rattle.model.specs.PropagationLaws.{ProperWork, join-proper, ReducedAt, join-reduces, join-keeps-reduced}
+use Rattle.graph.specs.Bytes.{sizeIn, neighbours}
+use Rattle.propagation.specs.Joins.{workOf, joinIn, visitIn, Stands, AllReduced}
+use Rattle.propagation.specs.Propagates.{orderOf, walkIn}
+
+pub stands-proper : {n : ℕ} {sets ws os : List ℕ} → Stands n sets ws os → (c : Bool) → ProperWork (workOf n sets ws c)
+unfolding workOf
+stands-proper s c = record { sound = s .held .sound; members = s .members }
+
+-- of the rows, and of the work that they hold
+pub reduced-work : (n : ℕ) (sets ws : List ℕ) (c : Bool) → AllReduced n sets ws → (b : ℕ) → b < n → ReducedAt (workOf n sets ws c) b
+unfolding workOf
+reduced-work n sets ws c a b l = a b l
+
+pub reduced-rows : (n : ℕ) (sets ws : List ℕ) (c : Bool) (w : Work) → w ≡ workOf n sets ws c → ((b : ℕ) → b < n → ReducedAt w b) → AllReduced n sets ws
+unfolding workOf
+reduced-rows n sets ws c w e a b l = subst (λ (u : Work). ReducedAt u b) e (a b l)
+
+module _ (g : List ℕ) (backward : Bool) where
+  keeps : (b : ℕ) (ms : List TraversalState) (w : Work) → ProperWork w → ProperWork (joinIn g backward b ms w)
+  unfolding joinIn join
+  keeps b ms w p = join-proper (doneNeighbours ms (neighbours g backward b)) b w p
+
+  stays : (b : ℕ) (ms : List TraversalState) (w : Work) → ProperWork w → (a : ℕ) → ReducedAt w a → ReducedAt (joinIn g backward b ms w) a
+  unfolding joinIn join
+  stays b ms w p a h = join-keeps-reduced (doneNeighbours ms (neighbours g backward b)) b w p a h
+
+  makes : (b : ℕ) (ms : List TraversalState) (w : Work) → ProperWork w → ReducedAt (joinIn g backward b ms w) b
+  unfolding joinIn join
+  makes b ms w p = join-reduces (doneNeighbours ms (neighbours g backward b)) b w p
+
+  pub visit-keeps-reduced : (b : ℕ) (v : Visited Work) → ProperWork (v .work) → (a : ℕ) → ReducedAt (v .work) a → ReducedAt (visitIn g backward b v .work) a
+  unfolding visitIn
+  visit-keeps-reduced b v p = visit-makes ProperWork ReducedAt (neighbours g backward) (joinIn g backward) keeps stays makes b v p .kept
+
+  pub walk-keeps-reduced : (w : Work) → ProperWork w → (b : ℕ) → ReducedAt w b → ReducedAt (walkIn g backward w) b
+  unfolding walkIn
+  walk-keeps-reduced = laws.walk-keeps ProperWork ReducedAt (neighbours g backward) (joinIn g backward) keeps stays makes (sizeIn g) (orderOf backward (sizeIn g))
+
+  pub walk-stays-proper : (w : Work) → ProperWork w → ProperWork (walkIn g backward w)
+  unfolding walkIn
+  walk-stays-proper = laws.walk-proper ProperWork ReducedAt (neighbours g backward) (joinIn g backward) keeps stays makes (sizeIn g) (orderOf backward (sizeIn g))
+
+pub walk-reduces : (g : List ℕ) (w : Work) → ProperWork w → (b : ℕ) → b < sizeIn g → ReducedAt (walkIn g false w) b
+unfolding walkIn
+walk-reduces g = laws.walk-makes ProperWork ReducedAt (neighbours g false) (joinIn g false) (keeps g false) (stays g false) (makes g false) (sizeIn g)
