@@ -19,7 +19,7 @@ use Rattle.graph.specs.Bytes.{sizeIn, degreeIn, predecessorIn, blockOfRank, suc
 use Rattle.graph.proofs.Neighbours.{none-among}
 use Rattle.edges.specs.Rows.{RowsFilled}
 use Rattle.edges.specs.Order.{orderFrom, Ordered}
-use Rattle.edges.specs.Successors.{RankFits, RanksFit, names, AllMarked}
+use Rattle.edges.specs.Successors.{RankFits, RanksFit, namesAsPredecessor, AllMarked}
 use Rattle.edges.proofs.Ordering.{order-more}
 
 -- Lists by place.
@@ -110,21 +110,21 @@ module _ (rows : ℕ → List ℕ) (n : ℕ) (order g₀ g₁ g₂ : List ℕ) (
         let d : degreeIn g₂ b - 0 ≡ length (rows b) = let e = degree₂ b l in omega arith in
         ap (λ m. map (predecessorIn g₂ b) (placesFrom 0 m)) d ∙ by-place (predecessorIn g₂ b) (rows b) 0 (λ i h. ap (predecessorIn g₂ b) (zero-add i) ∙ predecessor₂ b i l h)
 
-    bit-is : (b q : ℕ) → b < 128 → q < 128 → succeeds g b q ≡ leb (128 - n) q && (ltb q 128 && names g₂ q b)
+    bit-is : (b q : ℕ) → b < 128 → q < 128 → succeeds g b q ≡ leb (128 - n) q && (ltb q 128 && namesAsPredecessor g₂ q b)
     bit-is b q b< q< =
         ap (λ w. bit w (q % 8)) (getD-set-other g₃ 10496 (8448 + b * 16 + q / 8) n 0 (λ e. omega arith))
         ∙ x₃ .bits b q b< q<
-        ∙ ap (λ x. x || (leb (128 - n) q && (ltb q 128 && names g₂ q b))) (no-bits b q)
+        ∙ ap (λ x. x || (leb (128 - n) q && (ltb q 128 && namesAsPredecessor g₂ q b))) (no-bits b q)
 
     pub bit-below : (b q : ℕ) → b < 128 → q < 128 - n → succeeds g b q ≡ false
     bit-below b q b< l =
         bit-is b q b< (omega arith)
-        ∙ ap (λ x. x && (ltb q 128 && names g₂ q b)) (decide (leb (128 - n) q) (λ t. let m = leb→le (128 - n) q (test-passes t) in absurd (omega arith)) (λ f. f))
+        ∙ ap (λ x. x && (ltb q 128 && namesAsPredecessor g₂ q b)) (decide (leb (128 - n) q) (λ t. let m = leb→le (128 - n) q (test-passes t) in absurd (omega arith)) (λ f. f))
 
     pub bit-from : (b q : ℕ) → b < 128 → 128 - n ≤ q → q < 128 → succeeds g b q ≡ anyOf (eqb b) (rows (blockOfRank g q))
     bit-from b q b< from q< =
         bit-is b q b< q<
-        ∙ within (leb (128 - n) q) (ltb q 128) (names g₂ q b) (passes-test (le→leb (128 - n) q from)) (passes-test (lt→ltb q 128 q<))
+        ∙ within (leb (128 - n) q) (ltb q 128) (namesAsPredecessor g₂ q b) (passes-test (le→leb (128 - n) q from)) (passes-test (lt→ltb q 128 q<))
         ∙ ap (λ (l : List ℕ). anyOf (eqb b) l) (predecessors₂ (blockOfRank g₂ q) (ranked-inside q from q<))
         ∙ ap (λ j. anyOf (eqb b) (rows j)) (sym (rank-is q q<))
 

@@ -31,7 +31,7 @@ use Rattle.safety.specs.GraphLaws.{ProperBlocks, proper-blocks, place-own, plac
 use Rattle.edges.specs.Rows.{placeFrom, placeIn, placesNoted, rowAt, rowsAt, RowsFilled}
 use Rattle.edges.specs.Order.{insertByNumber, sortByNumber, Ordered}
 use Rattle.edges.specs.Successors.{RanksFit, AllMarked}
-use Rattle.edges.specs.Fills.{IdsAt, Holds}
+use Rattle.edges.specs.Fills.{IdsAt, HoldsGraph}
 use Rattle.edges.proofs.Noting.{row-noted}
 use Rattle.edges.proofs.Filling.{row-few, row-small}
 use Rattle.edges.proofs.Ordering.{sort-all, places-below}
@@ -192,7 +192,7 @@ module _ (s ids places : List ℕ) (n : ℕ) (most : n ≤ 128) (g₀ g₁ g₂ 
   abbrev g : List ℕ
   g = set g₃ 10496 n
 
-  pub graph-held : (j : Job) → BlocksAt s n places j → IdsAt ids j → Holds (j .blocks) g
+  pub graph-held : (j : Job) → BlocksAt s n places j → IdsAt ids j → HoldsGraph (j .blocks) g
   graph-held j at noted =
       let bs = j .blocks in
       let count = at .count in
@@ -200,6 +200,7 @@ module _ (s ids places : List ℕ) (n : ℕ) (most : n ≤ 128) (g₀ g₁ g₂ 
       let degree = degree-is (rowsAt s ids places n) n (sortByNumber ids (placesFrom 0 n)) g₀ g₁ g₂ most few small x₁ x₂ inside g₃ zeros x₃ in
       let predecessor = predecessor-is (rowsAt s ids places n) n (sortByNumber ids (placesFrom 0 n)) g₀ g₁ g₂ most few small x₁ x₂ inside g₃ zeros x₃ in
       let rank = rank-is (rowsAt s ids places n) n (sortByNumber ids (placesFrom 0 n)) g₀ g₁ g₂ most few small x₁ x₂ inside g₃ zeros x₃ in
+      let below = bit-below (rowsAt s ids places n) n (sortByNumber ids (placesFrom 0 n)) g₀ g₁ g₂ most few small x₁ x₂ inside g₃ zeros x₃ in
       let row = row-is s ids places n j at noted in
       record {
         fits = record {
@@ -211,7 +212,8 @@ module _ (s ids places : List ℕ) (n : ℕ) (most : n ≤ 128) (g₀ g₁ g₂ 
               let member : All (λ c. c < n) (rowsAt s ids places n b) = subst (All (λ c. c < n)) (sym (row b b<)) (subst (λ m. All (λ c. c < m) (predecessorsOf bs b)) count (predecessors-inside bs (proper s ids places n j at noted) b)) in
               rw (predecessor b i b< (omega arith), size) (all-below (rowsAt s ids places n b) i n member (omega arith));
           successor = λ b r l r< e. rw size (decide (leb (128 - n) r) (λ t. rw (rank r r<) (ranked-inside (rowsAt s ids places n) n (sortByNumber ids (placesFrom 0 n)) g₀ g₁ g₂ most few small x₁ x₂ inside r (leb→le (128 - n) r (test-passes t)) r<))
-              (λ f. never e (bit-below (rowsAt s ids places n) n (sortByNumber ids (placesFrom 0 n)) g₀ g₁ g₂ most few small x₁ x₂ inside g₃ zeros x₃ b r (omega arith) (not-from (128 - n) r f))));
+              (λ f. never e (below b r (omega arith) (not-from (128 - n) r f))));
+          low = λ b r l h. below b r (omega arith) (omega arith);
         };
         size = size ∙ sym count;
         predecessors = λ b l. predecessors-are (rowsAt s ids places n) n (sortByNumber ids (placesFrom 0 n)) g₀ g₁ g₂ most few small x₁ x₂ inside g₃ zeros x₃ b (omega arith) ∙ row b (omega arith);

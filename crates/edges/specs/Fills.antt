@@ -14,7 +14,7 @@ abbrev pub IdsAt : List ℕ → Job → Type 0
 IdsAt ids j = (k : ℕ) → k < length (j .blocks) → getD ids k 0 ≡ blockAt (j .blocks) k .id .0
 
 -- The bytes hold the graph of these blocks: "predecessors in job order", "successors by ascending id".
-pub record Holds (bs : List Block) (g : List ℕ) : Type 0 where
+pub record HoldsGraph (bs : List Block) (g : List ℕ) : Type 0 where
   pub fits : GraphFits g
   pub size : sizeIn g ≡ length bs
   pub predecessors : (b : ℕ) → b < length bs → neighbours g false b ≡ predecessorsOf bs b
@@ -22,4 +22,4 @@ pub record Holds (bs : List Block) (g : List ℕ) : Type 0 where
 
 -- The graph of the job that is read, whose blocks' ids and places are noted.
 abbrev pub FillsGraph : List ℕ → List ℕ → List ℕ → ℕ → List ℕ → Type 0
-FillsGraph s ids places n g = (j : Job) → BlocksAt s n places j → IdsAt ids j → Holds (j .blocks) g
+FillsGraph s ids places n g = (j : Job) → BlocksAt s n places j → IdsAt ids j → HoldsGraph (j .blocks) g

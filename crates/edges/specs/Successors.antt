@@ -27,12 +27,12 @@ abbrev pub RanksFit : List ℕ → ℕ → Type 0
 RanksFit g n = (r : ℕ) → 128 - n ≤ r → r < 128 → RankFits g r
 
 -- The block of rank q names block b as a predecessor.
-abbrev pub names : List ℕ → ℕ → ℕ → Bool
-names g q b = anyOf (eqb b) (predecessorsFrom g (blockOfRank g q) 0)
+abbrev pub namesAsPredecessor : List ℕ → ℕ → ℕ → Bool
+namesAsPredecessor g q b = anyOf (eqb b) (predecessorsFrom g (blockOfRank g q) 0)
 
 -- The bytes g have become h: each block of a rank from `first` up to `end` is a successor of each of its predecessors too, and what stands outside the
 -- successors' part is as it was.
 pub record AllMarked (g h : List ℕ) (first end : ℕ) : Type 0 where
   pub long : length h ≡ 10497
-  pub bits : (b q : ℕ) → b < 128 → q < 128 → succeeds h b q ≡ succeeds g b q || (leb first q && (ltb q end && names g q b))
+  pub bits : (b q : ℕ) → b < 128 → q < 128 → succeeds h b q ≡ succeeds g b q || (leb first q && (ltb q end && namesAsPredecessor g q b))
   pub outside : (p : ℕ) → (p < 8448) ⊎ (10496 ≤ p) → getD h p 0 ≡ getD g p 0

@@ -65,6 +65,11 @@ module _ {g : List ℕ} {b : ℕ} (fits : GraphFits g) (here : b < sizeIn g) whe
         rest = predecessor-here g b i (omega arith) ∙ rw found;
       }
 
+  -- below the blocks' ranks no bit is set
+  pub none-low : (from first : ℕ) → first ≤ 128 - sizeIn g → from ≤ first → successorsFrom g b from ≡ successorsFrom g b first
+  none-low from first le l =
+      none-among g b (first - from) from (omega arith) (λ j h less. fits .low b j here (omega arith)) ∙ ap (successorsFrom g b) (omega arith)
+
   pub none-past : (backward : Bool) (from : ℕ) → 128 ≤ from → neighboursFrom g backward b from ≡ []
   none-past false from l = let d = fits .degree b here in no-predecessor g b from (omega arith)
   none-past true from l = no-successor g b from l

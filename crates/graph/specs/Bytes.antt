@@ -55,12 +55,13 @@ unfoldable pub graphIn : List ℕ → Graph
 unfolding predecessorsFrom successorsFrom
 graphIn g = record { size = sizeIn g; predecessors = neighbours g false; successors = neighbours g true }
 
--- What a reader needs: the numbers stay in their ranges, and a neighbour of a block is a block.
+-- What a reader needs: the numbers stay in their ranges, a neighbour of a block is a block, and the blocks have the last ranks.
 pub record GraphFits (g : List ℕ) : Type 0 where
   pub size : sizeIn g ≤ 128
   pub degree : (b : ℕ) → b < sizeIn g → degreeIn g b ≤ 64
   pub predecessor : (b i : ℕ) → b < sizeIn g → i < degreeIn g b → predecessorIn g b i < sizeIn g
   pub successor : (b r : ℕ) → b < sizeIn g → r < 128 → succeeds g b r ≡ true → blockOfRank g r < sizeIn g
+  pub low : (b r : ℕ) → b < sizeIn g → r < 128 - sizeIn g → succeeds g b r ≡ false
 
 -- k is the next neighbour, and the others come from number `next` on
 pub record Next (g : List ℕ) (backward : Bool) (b from k next : ℕ) : Type 0 where

@@ -12,8 +12,8 @@ pub enum Near {
     Nothing,
 }
 
-// A byte as a number by which places are counted.
-pub fn wide(x: u8) -> usize
+// A byte as a place.
+pub fn as_place(x: u8) -> usize
     ensures { λ r. ⌜ r ≡ x ⌝ }
 {
     x as usize
@@ -22,7 +22,7 @@ pub fn wide(x: u8) -> usize
 pub fn size(graph: &[u8; 10497]) -> usize
     ensures { λ r. ⌜ r ≡ sizeIn (now (graph .entry)) ⌝ }
 {
-    wide(graph[10496])
+    as_place(graph[10496])
 }
 
 fn lowest_bit(w: u8, from: usize) -> usize
@@ -41,27 +41,31 @@ fn next_predecessor(graph: &[u8; 10497], b: usize, from: usize) -> Near
     requires { ⌜ GraphFits (now graph) × (b < sizeIn (now graph)) ⌝ }
     ensures { λ r. ⌜ Finds (now (graph .entry)) false b from r ⌝ }
 {
-    let degree = wide(graph[8192 + b]);
+    let degree = as_place(graph[8192 + b]);
     if from < degree {
-        let k = wide(graph[b * 64 + from]);
+        let k = as_place(graph[b * 64 + from]);
         Near::At(k, from + 1)
     } else {
         Near::Nothing
     }
 }
 
-// A byte with no bit left is passed in one test.
+// The blocks have the last ranks, so a search from below them starts at the first. A byte with no bit left is passed in one test.
 fn next_successor(graph: &[u8; 10497], b: usize, from: usize) -> Near
     requires { ⌜ GraphFits (now graph) × (b < sizeIn (now graph)) ⌝ }
     ensures { λ r. ⌜ Finds (now (graph .entry)) true b from r ⌝ }
 {
+    let first = 128 - size(graph);
     let mut r = from;
+    if r < first {
+        r = first;
+    }
     while r < 128 {
         let at = r / 8;
         let bit = lowest_bit(graph[8448 + b * 16 + at], r % 8);
         let rank = at * 8 + bit;
         if bit < 8 {
-            let k = wide(graph[8320 + rank]);
+            let k = as_place(graph[8320 + rank]);
             return Near::At(k, rank + 1);
         }
         r = rank;

@@ -23,7 +23,7 @@ use Rattle.assumed.specs.declared.Entered.the-variants as entered
 use Rattle.assumed.specs.Start.{StartHeld, EntersBlocks}
 use Rattle.graph.specs.Bytes.{sizeIn, graphIn}
 use Rattle.graph.proofs.Agree.{Agree, propagation-agrees}
-use Rattle.edges.specs.Fills.{IdsAt, Holds, FillsGraph}
+use Rattle.edges.specs.Fills.{IdsAt, HoldsGraph, FillsGraph}
 use Rattle.propagation.specs.Joins.{Stands, Ready}
 use Rattle.propagation.specs.Propagates.{Propagates}
 use Rattle.propagation.specs.declared.Propagated.{Propagated}
@@ -37,7 +37,7 @@ full-start bs h =
     let longer = extends-length (propagation-extends doneNeighbours (graphOf bs) (start .registry) (start .sets)) in
     omega arith
 
-module _ {bs : List Block} {n : ℕ} {ws os sets g : List ℕ} (count : length bs ≡ n) (x : StartHeld (enterBlocks [] bs) n ws os sets) (y : Holds bs g) where
+module _ {bs : List Block} {n : ℕ} {ws os sets g : List ℕ} (count : length bs ≡ n) (x : StartHeld (enterBlocks [] bs) n ws os sets) (y : HoldsGraph bs g) where
   size-same : sizeIn g ≡ n
   size-same = y .size ∙ count
 
