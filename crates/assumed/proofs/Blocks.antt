@@ -3,31 +3,31 @@ use Prim.Native.Nat.{ℕ, zero, suc, _+_, _*_, _≤_, _<_}
 use native.Mathlib.Omega.{arith}
 use native.Mathlib.Nat.{zero-add}
 use mathlib.Core.Path.{_≡_, refl, sym, ap, subst, _∙_}
-use mathlib.Core.Bool.{Bool, true, false}
+use mathlib.Core.Bool.{true, false}
 use mathlib.Core.List.{List, [], _∷_, _++_, append-assoc, append-nil}
 use lib.ListN.{length, getD, set, drop, drop-of-length-le}
 use lib.Seq.{getD-set-same}
-use Rattle.entries.specs.declared.BlockId.{BlockId}
 use Rattle.entries.specs.declared.Refusal.{Refusal}
+use Rattle.entries.specs.Path.{ReactiveScopeDependency}
 use Rattle.model.specs.Read.{Read, got, refused, readMany}
-use Rattle.model.specs.Job.{HD, PA, Block, Job, readBlockId, readPath, readBlock, readJob}
+use Rattle.model.specs.Job.{PA, Block, readBlockId, readPath, readBlock}
 use Rattle.model.specs.Sets.{NodeSet}
 use Rattle.model.specs.Registry.{nodeLimit, PropertyPathRegistry}
 use Rattle.model.specs.RegistryLaws.{Extends, extends-refl, extends-trans, extends-length}
-use Rattle.model.specs.Stage.{Entered, Started, enterBlock, enterBlocks}
+use Rattle.model.specs.Stage.{Entered, Started, enterPaths, enterBlock, enterBlocks}
 use Rattle.registry.specs.Words.{registryOf, Held}
 use Rattle.rows.specs.Members.{membersOf}
 use Rattle.rows.specs.Rows.{Lent, RowSet, rowOf, rowsFrom, rowsOf}
 use Rattle.rows.proofs.Rows.{row-at, rows-count}
 use Rattle.job.specs.Head.{readBlockHead}
-use Rattle.job.specs.Kept.{BlocksAt}
-use Rattle.job.specs.Passing.{passed}
+use Rattle.job.specs.Kept.{blocksOf, PlacedJob}
+use Rattle.job.specs.Passing.{passed, orNone}
 use Rattle.job.specs.declared.BlockHead.{BlockHead}
 use Rattle.job.proofs.Passing.{not-both}
 use Rattle.job.proofs.RecordParts.{BlockParts, block-parts}
-use Rattle.job.proofs.BlocksAt.{block-there}
+use Rattle.job.proofs.BlocksAt.{blocks-read, block-there}
 use Rattle.assumed.specs.declared.EnteredSet.{EnteredSet}
-use Rattle.assumed.specs.Start.{FillsBy, Fills, RoomHeld, EntersBlock, StartHeld}
+use Rattle.assumed.specs.Start.{IsRead, assumedAt, FillsBy, Fills, StartHeld}
 use Rattle.assumed.proofs.Filling.{paths-extend}
 
 -- The parts of a block's record.
@@ -63,6 +63,11 @@ module _ (s : List ℕ) (at : ℕ) (b : Block) (end : ℕ) (read : readBlock 4 s
         let there : ids-end ≡ pathsAt = cc in
         subst (λ (h : BlockHead). readMany (h .assumed) (readPath 4 PA) s pathsAt ≡ got (b .assumed) end) same-head
         (subst (λ n. readMany (parts .head .assumed) (readPath 4 PA) s n ≡ got (b .assumed) end) there (parts .assumed-read))
+
+-- the assumed paths of a block that was read
+pub assumed-are : (s : List ℕ) (at : ℕ) {b : Block} {end : ℕ} → readBlock 4 s at ≡ got b end → assumedAt s at ≡ b .assumed
+unfolding assumedAt
+assumed-are s at e = ap (λ (x : Read Block). orNone x (λ (b : Block) end. b .assumed)) e
 
 -- The blocks that are left.
 
@@ -104,55 +109,67 @@ one-more front more e reg s bs cs is stored same =
     ∙ ap (λ (l : List NodeSet). after l (enterBlocks reg bs)) (sym stored)
     ∙ ap (λ bs. after more (enterBlocks reg bs)) same
 
-pub record Starting (s : List ℕ) (n : ℕ) (places ws os sets : List ℕ) (b : ℕ) : Type 0 where
+-- The blocks that are left start, after the sets before them, what is wanted.
+pub record Starting (bs : List Block) (n : ℕ) (ws os sets : List ℕ) (b : ℕ) : Type 0 where
   pub held : Held ws os
   pub lent : Lent sets
   pub below : b ≤ n
-  pub on : (j : Job) → BlocksAt s n places j → enterBlocks [] (j .blocks) ≡ after (rowsOf sets b) (enterBlocks (registryOf ws) (drop b (j .blocks)))
+  pub same : enterBlocks [] bs ≡ after (rowsOf sets b) (enterBlocks (registryOf ws) (drop b bs))
 
-pub starting : (s : List ℕ) (n : ℕ) (places ws os sets : List ℕ) → Held ws os → registryOf ws ≡ [] → Lent sets → Starting s n places ws os sets 0
+pub starting : (bs : List Block) (n : ℕ) (ws os sets : List ℕ) → Held ws os → registryOf ws ≡ [] → Lent sets → Starting bs n ws os sets 0
 unfolding rowsOf
-starting s n places ws os sets held none lent =
-    record { held = held; lent = lent; below = omega arith; on = λ j at. ap (λ reg. enterBlocks reg (j .blocks)) (sym none) }
+starting bs n ws os sets held none lent = record { held = held; lent = lent; below = omega arith; same = ap (λ reg. enterBlocks reg bs) (sym none) }
 
-module _ {s : List ℕ} {n : ℕ} {places ws os sets : List ℕ} {b : ℕ} (x : Starting s n places ws os sets b) where
-  pub starting-end : n ≤ b → (j : Job) → BlocksAt s n places j → StartHeld (enterBlocks [] (j .blocks)) n ws os sets
-  unfolding enterBlocks
-  starting-end none j at =
-      let all : b ≡ n = let l = x .below in omega arith in
-      let few : length (j .blocks) ≤ b = let size = at .count in omega arith in
-      let gone : drop b (j .blocks) ≡ [] = drop-of-length-le (j .blocks) few in
-      record {
-        held = x .held;
-        lent = x .lent;
-        same = x .on j at ∙ ap (λ bs. after (rowsOf sets b) (enterBlocks (registryOf ws) bs)) gone ∙ ap (λ (l : List NodeSet). record { registry = registryOf ws; sets = l }) (append-nil (rowsOf sets b) ∙ ap (rowsOf sets) all);
-      }
+module _ {s : List ℕ} {n : ℕ} {places : List ℕ} (job : PlacedJob s n places) where
+  count : length (blocksOf s) ≡ n
+  count = ap length (blocks-read (job .job) (job .blocks)) ∙ job .blocks .count
 
-  module _ (some : b < n) (r : EnteredSet) (us ps : List ℕ) (entered : EntersBlock s (getD places b 0) (registryOf ws) r us ps) where
-    -- what the block that is entered does to the whole
-    next-block : (j : Job) → BlocksAt s n places j → (a : Block)
-        × (enterBlocks [] (j .blocks) ≡ after (rowsOf sets b) (enterBlocks (registryOf ws) (a ∷ drop (suc b) (j .blocks)))) × Fills (enterBlock (registryOf ws) a) r us
-    next-block j at =
-        let t = block-there j at b some in
-        (t .0, x .on j at ∙ ap (λ bs. after (rowsOf sets b) (enterBlocks (registryOf ws) bs)) (t .3), entered .1 (t .0) (t .1) (t .2))
+  pub block-read : (b : ℕ) → b < n → IsRead (readBlock 4 s (getD places b 0))
+  block-read b l = let t = block-there (job .job) (job .blocks) b l in record { value = t .0; next = t .1; read = t .2 }
 
-    pub starting-full : r .full ≡ true → (j : Job) → BlocksAt s n places j → nodeLimit < length (enterBlocks [] (j .blocks) .registry)
+  module _ {ws os sets : List ℕ} {b : ℕ} (x : Starting (blocksOf s) n ws os sets b) where
+    pub starting-end : n ≤ b → StartHeld (enterBlocks [] (blocksOf s)) n ws os sets
     unfolding enterBlocks
-    starting-full e j at =
-        let t = next-block j at in
-        let f : nodeLimit < length (enterBlock (registryOf ws) (t .0) .registry) = subst (λ f. FillsBy f (enterBlock (registryOf ws) (t .0)) r us) e (t .2) in
-        let longer = extends-length (blocks-extend (enterBlock (registryOf ws) (t .0) .registry) (drop (suc b) (j .blocks))) in
-        subst (λ (st : Started). nodeLimit < length (st .registry)) (sym (t .1)) (omega arith)
+    starting-end none =
+        let all : b ≡ n = let l = x .below in omega arith in
+        let few : length (blocksOf s) ≤ b = let size = count in omega arith in
+        let gone : drop b (blocksOf s) ≡ [] = drop-of-length-le (blocksOf s) few in
+        record {
+          held = x .held;
+          lent = x .lent;
+          same = x .same ∙ ap (λ bs. after (rowsOf sets b) (enterBlocks (registryOf ws) bs)) gone ∙ ap (λ (l : List NodeSet). record { registry = registryOf ws; sets = l }) (append-nil (rowsOf sets b) ∙ ap (rowsOf sets) all);
+        }
 
-    pub starting-more : r .full ≡ false → (more : List ℕ) → RowSet sets more b (membersOf (r .set .words)) → Starting s n places us ps more (b + 1)
-    unfolding enterBlocks
-    starting-more e more stored = record {
-      held = subst (λ f. RoomHeld f us ps) e (entered .0);
-      lent = stored .lent;
-      below = omega arith;
-      on = λ j at.
-          let t = next-block j at in
-          let is : enterBlock (registryOf ws) (t .0) ≡ record { registry = registryOf us; set = membersOf (r .set .words) } = subst (λ f. FillsBy f (enterBlock (registryOf ws) (t .0)) r us) e (t .2) in
-          t .1 ∙ one-more (rowsOf sets b) (rowsOf more (b + 1)) (enterBlock (registryOf ws) (t .0)) (registryOf us) (membersOf (r .set .words)) (drop (suc b) (j .blocks)) (drop (b + 1) (j .blocks)) is
-          (row-more sets more b (membersOf (r .set .words)) stored) (let next : suc b ≡ b + 1 = omega arith in ap (λ k. drop k (j .blocks)) next);
-    }
+    module _ (some : b < n) (r : EnteredSet) (us ps : List ℕ) (entered : Fills (enterPaths (registryOf ws) [] (assumedAt s (getD places b 0))) r us ps) where
+      -- the block that is entered, and what that does to the whole
+      next-block : (a : Block) × (enterBlocks [] (blocksOf s) ≡ after (rowsOf sets b) (enterBlocks (registryOf ws) (a ∷ drop (suc b) (blocksOf s)))) × Fills (enterBlock (registryOf ws) a) r us ps
+      next-block =
+          let t = block-there (job .job) (job .blocks) b some in
+          let here : drop b (blocksOf s) ≡ t .0 ∷ drop (suc b) (blocksOf s) = subst (λ (bs : List Block). drop b bs ≡ t .0 ∷ drop (suc b) bs) (sym (blocks-read (job .job) (job .blocks))) (t .3) in (
+            t .0,
+            x .same ∙ ap (λ bs. after (rowsOf sets b) (enterBlocks (registryOf ws) bs)) here,
+            subst (λ (ds : List ReactiveScopeDependency). Fills (enterPaths (registryOf ws) [] ds) r us ps) (assumed-are s (getD places b 0) (t .2)) entered,
+          )
+
+      pub starting-full : r .full ≡ true → nodeLimit < length (enterBlocks [] (blocksOf s) .registry)
+      unfolding enterBlocks
+      starting-full e =
+          let t = next-block in
+          let f : nodeLimit < length (enterBlock (registryOf ws) (t .0) .registry) = subst (λ f. FillsBy f (enterBlock (registryOf ws) (t .0)) r us ps) e (t .2) in
+          let longer = extends-length (blocks-extend (enterBlock (registryOf ws) (t .0) .registry) (drop (suc b) (blocksOf s))) in
+          subst (λ (st : Started). nodeLimit < length (st .registry)) (sym (t .1)) (omega arith)
+
+      pub starting-more : r .full ≡ false → (more : List ℕ) → RowSet sets more b (membersOf (r .set .words)) → Starting (blocksOf s) n us ps more (b + 1)
+      unfolding enterBlocks
+      starting-more e more stored =
+          let t = next-block in
+          let is : Held us ps × (enterBlock (registryOf ws) (t .0) ≡ record { registry = registryOf us; set = membersOf (r .set .words) }) = subst (λ f. FillsBy f (enterBlock (registryOf ws) (t .0)) r us ps) e (t .2) in
+          record {
+            held = is .0;
+            lent = stored .lent;
+            below = omega arith;
+            same =
+                t .1
+                ∙ one-more (rowsOf sets b) (rowsOf more (b + 1)) (enterBlock (registryOf ws) (t .0)) (registryOf us) (membersOf (r .set .words)) (drop (suc b) (blocksOf s)) (drop (b + 1) (blocksOf s)) (is .1)
+                (row-more sets more b (membersOf (r .set .words)) stored) (let next : suc b ≡ b + 1 = omega arith in ap (λ k. drop k (blocksOf s)) next);
+          }

@@ -1,8 +1,7 @@
 -- The assumed paths that are left of a block: what enters them after those before enters them all.
-use Prim.Native.Nat.{ℕ, zero, suc, _-_, _≤_, _<_}
+use Prim.Native.Nat.{ℕ, _-_, _≤_, _<_}
 use native.Mathlib.Omega.{arith}
 use mathlib.Core.Path.{_≡_, refl, sym, ap, subst, _∙_}
-use mathlib.Core.Bool.{Bool, true, false}
 use mathlib.Core.List.{List, [], _∷_}
 use lib.ListN.{length}
 use Rattle.entries.specs.declared.NodeId.{NodeId}
@@ -14,13 +13,15 @@ use Rattle.model.specs.Sets.{NodeSet, insert}
 use Rattle.model.specs.Registry.{nodeLimit, PropertyPathRegistry, Reached, ownMark, getOrCreateProperty}
 use Rattle.model.specs.RegistryLaws.{Extends, extends-refl, extends-trans, extends-length, path-extends, path-proper}
 use Rattle.model.specs.Stage.{Entered, enterPaths}
-use Rattle.registry.specs.Words.{countIn, registryOf, Held}
+use Rattle.registry.specs.Words.{registryOf, Held}
 use Rattle.registry.proofs.View.{registry-length}
 use Rattle.rows.specs.Members.{membersOf}
+use Rattle.job.specs.Passing.{orNone}
 use Rattle.job.proofs.Many.{many-first}
 use Rattle.paths.specs.declared.EnteredPath.{EnteredPath}
 use Rattle.paths.specs.declared.EnteredPath.the-variants as path
 use Rattle.paths.specs.Enters.{Enters}
+use Rattle.assumed.specs.Start.{IsRead, pathsAt}
 
 -- Entering paths only adds nodes.
 pub paths-extend : (reg : PropertyPathRegistry) (s : NodeSet) (ds : List ReactiveScopeDependency) → Extends reg (enterPaths reg s ds .registry)
@@ -52,32 +53,49 @@ next-path reg more s t es rest c d k all same reached inserted =
     ∙ ap (λ (at : Reached). enterPaths (at .registry) (insert (at .node) s) rest) (ap (getOrCreateProperty reg) same ∙ reached)
     ∙ ap (λ u. enterPaths more u rest) (sym inserted)
 
-pub record Filling (reg : PropertyPathRegistry) (s : List ℕ) (start count : ℕ) (ws os set : List ℕ) (at left : ℕ) : Type 0 where
+-- The paths that are left were read, and entering them after those before gives what is wanted.
+pub record Filling (want : Entered) (s ws os set : List ℕ) (at left : ℕ) : Type 0 where
   pub held : Held ws os
-  pub on : (ds : List ReactiveScopeDependency) (end : ℕ) → readMany count (readPath 4 PA) s start ≡ got ds end
-      → (es : List ReactiveScopeDependency) × (readMany left (readPath 4 PA) s at ≡ got es end) × (enterPaths reg [] ds ≡ enterPaths (registryOf ws) (membersOf set) es)
+  pub rest : List ReactiveScopeDependency
+  pub end : ℕ
+  pub read : readMany left (readPath 4 PA) s at ≡ got rest end
+  pub same : want ≡ enterPaths (registryOf ws) (membersOf set) rest
 
-module _ {reg : PropertyPathRegistry} {s : List ℕ} {start count : ℕ} {ws os set : List ℕ} {at left : ℕ} (x : Filling reg s start count ws os set at left) where
-  pub filling-end : left ≤ 0 → (ds : List ReactiveScopeDependency) (end : ℕ) → readMany count (readPath 4 PA) s start ≡ got ds end
-      → enterPaths reg [] ds ≡ record { registry = registryOf ws; set = membersOf set }
-  filling-end none ds end e =
-      let rest = x .on ds end e in
+-- the paths that were read
+pub paths-are : (s : List ℕ) (start count : ℕ) {ds : List ReactiveScopeDependency} {end : ℕ} → readMany count (readPath 4 PA) s start ≡ got ds end → pathsAt s start count ≡ ds
+unfolding pathsAt
+paths-are s start count e = ap (λ (x : Read (List ReactiveScopeDependency)). orNone x (λ ds end. ds)) e
+
+pub filling : (reg : PropertyPathRegistry) (s ws os set : List ℕ) (start count : ℕ) → Held ws os → registryOf ws ≡ reg → membersOf set ≡ [] → IsRead (readMany count (readPath 4 PA) s start)
+    → Filling (enterPaths reg [] (pathsAt s start count)) s ws os set start count
+filling reg s ws os set start count held is none x = record {
+  held = held;
+  rest = x .value;
+  end = x .next;
+  read = x .read;
+  same = ap (enterPaths reg []) (paths-are s start count (x .read)) ∙ ap (λ reg. enterPaths reg [] (x .value)) (sym is) ∙ ap (λ t. enterPaths (registryOf ws) t (x .value)) (sym none);
+}
+
+module _ {want : Entered} {s ws os set : List ℕ} {at left : ℕ} (x : Filling want s ws os set at left) where
+  pub filling-end : left ≤ 0 → want ≡ record { registry = registryOf ws; set = membersOf set }
+  filling-end none =
       let zero-left : left ≡ 0 = omega arith in
-      let nothing : got [] at ≡ got (rest .0) end = subst (λ n. readMany n (readPath 4 PA) s at ≡ got (rest .0) end) zero-left (rest .1) in
-      let no : [] ≡ rest .0 = cc in
-      rest .2 ∙ rw (← no) refl
+      let nothing : got [] at ≡ got (x .rest) (x .end) = subst (λ n. readMany n (readPath 4 PA) s at ≡ got (x .rest) (x .end)) zero-left (x .read) in
+      let no : [] ≡ x .rest = cc in
+      x .same ∙ ap (enterPaths (registryOf ws) (membersOf set)) (sym no)
 
   module _ (some : 0 < left) (r : EnteredPath) (us ps : List ℕ) (entered : Enters (readPath 4 PA s at) (getOrCreateProperty (registryOf ws)) r us ps) where
+    -- the first of the paths that are left, and the others
+    first : (d : ReactiveScopeDependency) × (next : ℕ) × (rest : List ReactiveScopeDependency) × (readPath 4 PA s at ≡ got d next) × (readMany (left - 1) (readPath 4 PA) s next ≡ got rest (x .end)) × (d ∷ rest ≡ x .rest)
+    first = many-first (readPath 4 PA) s left at some (x .read)
+
     -- no answer but a node says that the registry has room
-    pub filling-full : ((k : NodeId) (n : ℕ) → r ≡ path.At k n → ⊥) → (ds : List ReactiveScopeDependency) (end : ℕ) → readMany count (readPath 4 PA) s start ≡ got ds end
-        → nodeLimit < length (enterPaths reg [] ds .registry)
-    filling-full other ds end e =
-        let rest = x .on ds end e in
-        let first = many-first (readPath 4 PA) s left at some (rest .1) in
+    pub filling-full : ((k : NodeId) (n : ℕ) → r ≡ path.At k n → ⊥) → nodeLimit < length (want .registry)
+    filling-full other =
         let d = first .0 in
         let node = getOrCreateProperty (registryOf ws) d in
         let longer = extends-length (paths-extend (node .registry) (insert (node .node) (membersOf set)) (first .2)) in
-        rw (rest .2, ← (first .5)) (go r refl entered (first .3) longer)
+        rw (x .same, ← (first .5)) (go r refl entered (first .3) longer)
       where
         go : (q : EnteredPath) → r ≡ q → Enters (readPath 4 PA s at) (getOrCreateProperty (registryOf ws)) q us ps → {d : ReactiveScopeDependency} {n more : ℕ} → readPath 4 PA s at ≡ got d n
             → length (getOrCreateProperty (registryOf ws) d .registry) ≤ more → nodeLimit < more
@@ -98,17 +116,17 @@ module _ {reg : PropertyPathRegistry} {s : List ℕ} {start count : ℕ} {ws os 
           let room = reached .2 .sized .room in
           omega arith
 
-      pub filling-more : (more : List ℕ) → membersOf more ≡ insert k (membersOf set) → Filling reg s start count us ps more n (left - 1)
-      filling-more more inserted = record {
-        held = reached .2;
-        on = λ ds end e.
-            let rest = x .on ds end e in
-            let first = many-first (readPath 4 PA) s left at some (rest .1) in
-            let there : got (reached .0) n ≡ got (first .0) (first .1) = sym (reached .1) ∙ first .3 in
-            let d-same : first .0 ≡ reached .0 = cc in
-            let n-same : first .1 ≡ n = cc in (
-              first .2,
-              subst (λ m. readMany (left - 1) (readPath 4 PA) s m ≡ got (first .2) end) n-same (first .4),
-              rest .2 ∙ next-path (registryOf ws) (registryOf us) (membersOf set) (membersOf more) (rest .0) (first .2) (first .0) (reached .0) k (first .5) d-same (reached .3) inserted,
-            );
-      }
+      pub filling-more : (more : List ℕ) → membersOf more ≡ insert k (membersOf set) → Filling want s us ps more n (left - 1)
+      filling-more more inserted =
+          let there : got (reached .0) n ≡ got (first .0) (first .1) = sym (reached .1) ∙ first .3 in
+          let d-same : first .0 ≡ reached .0 = cc in
+          let n-same : first .1 ≡ n = cc in
+          record {
+            held = reached .2;
+            rest = first .2;
+            end = x .end;
+            read = subst (λ m. readMany (left - 1) (readPath 4 PA) s m ≡ got (first .2) (x .end)) n-same (first .4);
+            same =
+                x .same
+                ∙ next-path (registryOf ws) (registryOf us) (membersOf set) (membersOf more) (x .rest) (first .2) (first .0) (reached .0) k (first .5) d-same (reached .3) inserted;
+          }

@@ -4,19 +4,25 @@ ghost use Prim.Native.Nat.{_≤_};
 ghost use lib.ListN.{length};
 ghost use Rattle.rows.specs.Rows.{Lent};
 ghost use Rattle.registry.specs.Words.{registryOf, Held};
-ghost use Rattle.assumed.specs.Start.{EntersPaths, EntersBlock, EntersBlocks};
+ghost use mathlib.Core.List.{[]};
+ghost use Rattle.model.specs.Read.{readMany};
+ghost use Rattle.model.specs.Job.{PA, readPath, readBlock};
+ghost use Rattle.model.specs.Answer.{spanWidth};
+ghost use Rattle.model.specs.Stage.{enterPaths, enterBlocks};
+ghost use Rattle.job.specs.Kept.{blocksOf, PlacedJob};
+ghost use Rattle.assumed.specs.Start.{IsRead, pathsAt, assumedAt, Fills, Starts};
 use fields::Passed;
 use job::ReadBlockHead;
 use paths::EnteredPath;
 use rows::NodeBits;
 
-// The nodes of the paths entered, or that the registry had no room; also where a record is not there, which no accepted job has.
+// The nodes of the paths entered, or that the registry had no room.
 pub struct EnteredSet {
     pub set: NodeBits,
     pub full: bool,
 }
 
-// `count` assumed paths from a place on.
+// `count` assumed paths from a place on, which were read before.
 fn enter_paths(
     s: &[u8],
     start: usize,
@@ -24,8 +30,8 @@ fn enter_paths(
     ws: &mut [u64; 1665],
     optional: &mut [u64; 8],
 ) -> EnteredSet
-    requires { ⌜ Held (now ws) (now optional) ⌝ }
-    ensures { λ r. ⌜ EntersPaths (now (s .entry)) start count (registryOf (now (ws .entry))) r (now (ws .exit)) (now (optional .exit)) ⌝ }
+    requires { ⌜ Held (now ws) (now optional) × IsRead (readMany count (readPath spanWidth PA) (now s) start) ⌝ }
+    ensures { λ r. ⌜ Fills (enterPaths (registryOf (now (ws .entry))) [] (pathsAt (now (s .entry)) start count)) r (now (ws .exit)) (now (optional .exit)) ⌝ }
 {
     let mut set = NodeBits::empty();
     let mut at = start;
@@ -42,10 +48,10 @@ fn enter_paths(
     EnteredSet { set, full: false }
 }
 
-// The assumed paths of the block at a place.
+// The assumed paths of the block at a place, which was read before.
 fn enter_block(s: &[u8], at: usize, ws: &mut [u64; 1665], optional: &mut [u64; 8]) -> EnteredSet
-    requires { ⌜ Held (now ws) (now optional) ⌝ }
-    ensures { λ r. ⌜ EntersBlock (now (s .entry)) at (registryOf (now (ws .entry))) r (now (ws .exit)) (now (optional .exit)) ⌝ }
+    requires { ⌜ Held (now ws) (now optional) × IsRead (readBlock spanWidth (now s) at) ⌝ }
+    ensures { λ r. ⌜ Fills (enterPaths (registryOf (now (ws .entry))) [] (assumedAt (now (s .entry)) at)) r (now (ws .exit)) (now (optional .exit)) ⌝ }
 {
     let none = EnteredSet {
         set: NodeBits::empty(),
@@ -68,7 +74,7 @@ pub enum Entered {
     Full,
 }
 
-// The assumed paths of all blocks, in job order, into a registry that starts with no node.
+// The assumed paths of all blocks of the job that was read, in job order, into a registry that starts with no node.
 pub fn enter_blocks(
     s: &[u8],
     places: &[usize; 128],
@@ -77,8 +83,8 @@ pub fn enter_blocks(
     optional: &mut [u64; 8],
     sets: &mut [u64; 1024],
 ) -> Entered
-    requires { ⌜ (blocks ≤ 128) × (length (now ws) ≡ 1665) × Lent (now sets) ⌝ }
-    ensures { λ r. ⌜ EntersBlocks (now (s .entry)) blocks (now (places .entry)) r (now (ws .exit)) (now (optional .exit)) (now (sets .exit)) ⌝ }
+    requires { ⌜ PlacedJob (now s) blocks (now places) × (blocks ≤ 128) × (length (now ws) ≡ 1665) × Lent (now sets) ⌝ }
+    ensures { λ r. ⌜ Starts (enterBlocks [] (blocksOf (now (s .entry)))) blocks r (now (ws .exit)) (now (optional .exit)) (now (sets .exit)) ⌝ }
 {
     registry::clear(ws, optional);
     let mut b: usize = 0;

@@ -7,17 +7,15 @@ use mathlib.Core.Logic.{_⊎_, inl, inr}
 use mathlib.Core.List.{List, [], _∷_}
 use lib.ListN.{length, getD, set, length-set}
 use lib.Seq.{sets, length-sets, getD-set-same, getD-set-other}
-use lib.Dec.{eqb}
-use Rattle.model.specs.Tests.{by-cond}
-use Rattle.model.specs.ListLaws.{All}
-use Rattle.model.specs.Read.{Read, got, refused, readNumber}
+use Rattle.model.specs.Read.{Read, got, refused}
+use Rattle.model.specs.Job.{readBlockId}
 use Rattle.job.specs.Head.{readBlockHead}
-use Rattle.job.specs.Passing.{orNone, notes}
+use Rattle.job.specs.Passing.{orNone}
 use Rattle.job.specs.declared.BlockHead.{BlockHead}
 use Rattle.job.proofs.Bounds.{Holds, predecessors-most}
 use Rattle.job.proofs.Noting.{notes-few}
 use Rattle.graph.specs.Bytes.{degreeIn, predecessorIn}
-use Rattle.edges.specs.Rows.{placeFrom, placeIn, placesNoted, rowAt, withRow, RowsFilled}
+use Rattle.edges.specs.Rows.{idsNoted, placeAmong, placesNoted, rowAt, withRow, RowsFilled}
 
 -- An element outside of a list that is stored, and one of it.
 
@@ -45,29 +43,7 @@ few-of most (refused r) list h f = omega arith
 
 pub row-few : (s : List ℕ) (at : ℕ) (ids : List ℕ) (n : ℕ) → length (rowAt s at ids n) ≤ 64
 unfolding rowAt placesNoted
-row-few s at ids n = few-of 64 (readBlockHead s at) _ (predecessors-most s at) (λ head idsAt. notes-few (readNumber 4) s (λ _ x. placeIn ids n x) (head .predecessors) idsAt)
-
--- Its predecessors are places below 128.
-
-place-small : (ids : List ℕ) (k n x : ℕ) → k + n ≤ 128 → placeFrom ids k n x < 128
-place-small ids k zero x l = omega arith
-place-small ids k (suc n) x l = by-cond (λ p. p < 128) (eqb (getD ids k 0) x) (λ e. omega arith) (λ e. place-small ids (suc k) n x (omega arith))
-
-notes-small : (f : ℕ → ℕ) (P : ℕ → Type 0) → ((x : ℕ) → P (f x)) → (s : List ℕ) (n at : ℕ) → All P (notes (λ _ x. f x) n (readNumber 4) s at)
-notes-small f P h s zero at = tt
-notes-small f P h s (suc n) at = go (notes-small f P h s n) (readNumber 4 s at)
-  where
-    go : ((next : ℕ) → All P (notes (λ _ x. f x) n (readNumber 4) s next)) → (x : Read ℕ) → All P (orNone x (λ a next. f a ∷ notes (λ _ x. f x) n (readNumber 4) s next))
-    go rest (got a next) = (h a, rest next)
-    go rest (refused r) = tt
-
-pub row-small : (s : List ℕ) (at : ℕ) (ids : List ℕ) (n : ℕ) → n ≤ 128 → All (λ x. x < 128) (rowAt s at ids n)
-unfolding rowAt placesNoted placeIn
-row-small s at ids n most = go (readBlockHead s at)
-  where
-    go : (x : Read BlockHead) → All (λ x. x < 128) (orNone x (λ (head : BlockHead) idsAt. notes (λ _ x. placeFrom ids 0 n x) (head .predecessors) (readNumber 4) s idsAt))
-    go (got head idsAt) = notes-small (placeFrom ids 0 n) (λ x. x < 128) (λ x. place-small ids 0 n x (omega arith)) s (head .predecessors) idsAt
-    go (refused r) = tt
+row-few s at ids n = few-of 64 (readBlockHead s at) _ (predecessors-most s at) (λ head idsAt. notes-few readBlockId s (λ _ i. placeAmong (idsNoted ids n) i) (head .predecessors) idsAt)
 
 -- One row more.
 

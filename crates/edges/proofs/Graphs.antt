@@ -49,7 +49,7 @@ order-at : (P : ℕ → Type 0) (g : List ℕ) (d first r : ℕ) → first + d �
 order-at P g zero first r e l a = let here : first ≡ r = omega arith in subst (λ i. P (blockOfRank g i)) here (subst (All P) (order-more g first (omega arith)) a .0)
 order-at P g (suc d) first r e l a = order-at P g d (first + 1) r (omega arith) l (subst (All P) (order-more g first (omega arith)) a .1)
 
-module _ (rows : ℕ → List ℕ) (n : ℕ) (order g₀ g₁ g₂ : List ℕ) (most : n ≤ 128) (few : (b : ℕ) → length (rows b) ≤ 64) (small : (b i : ℕ) → getD (rows b) i 0 < 128)
+module _ (rows : ℕ → List ℕ) (n : ℕ) (order g₀ g₁ g₂ : List ℕ) (most : n ≤ 128) (few : (b : ℕ) → length (rows b) ≤ 64) (small : (b i : ℕ) → b < n → getD (rows b) i 0 < 128)
     (x₁ : RowsFilled rows n g₀ g₁) (x₂ : Ordered g₁ g₂ (128 - n) order) (inside : All (λ j. j < n) order) where
   pub ranked-inside : (r : ℕ) → 128 - n ≤ r → r < 128 → blockOfRank g₂ r < n
   ranked-inside r from r< = order-at (λ j. j < n) g₂ (r - (128 - n)) (128 - n) r (omega arith) r< (subst (All (λ j. j < n)) (sym (x₂ .ranks)) inside)
@@ -69,7 +69,7 @@ module _ (rows : ℕ → List ℕ) (n : ℕ) (order g₀ g₁ g₂ : List ℕ) (
         long = x₂ .long;
         block = omega arith;
         degree = omega arith;
-        predecessor = λ i h. rw (predecessor₂ (blockOfRank g₂ r) i l (omega arith)) (small (blockOfRank g₂ r) i);
+        predecessor = λ i h. rw (predecessor₂ (blockOfRank g₂ r) i l (omega arith)) (small (blockOfRank g₂ r) i l);
       }
 
   module _ (g₃ : List ℕ) (zeros : (p : ℕ) → 8448 ≤ p → getD g₀ p 0 ≡ 0) (x₃ : AllMarked g₂ g₃ (128 - n) 128) where

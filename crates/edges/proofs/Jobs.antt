@@ -1,11 +1,9 @@
 -- The graph of a job whose blocks were noted: the rows are its predecessors by place, and the order is that of ascending ids.
-use Prim.Native.Nat.{ℕ, zero, suc, _+_, _*_, _-_, _≤_, _<_}
+use Prim.Native.Nat.{ℕ, zero, suc, _+_, _-_, _≤_, _<_}
 use native.Mathlib.Omega.{arith}
 use native.Mathlib.Nat.{zero-add}
-use native.Mathlib.Decide.{ℕ-discrete}
 use mathlib.Core.Path.{_≡_, refl, sym, ap, subst, _∙_}
-use mathlib.Core.Logic.{_⊎_, inl, inr}
-use mathlib.Core.Bool.{Bool, true, false, _&&_, _||_, cond}
+use mathlib.Core.Bool.{Bool, false}
 use mathlib.Core.List.{List, [], _∷_, map}
 use lib.ListN.{length, getD, set, drop, replicate}
 use lib.Seq.{getD-drop}
@@ -14,46 +12,34 @@ use Rattle.entries.specs.declared.BlockId.{BlockId}
 use Rattle.model.specs.Lists.{select, anyOf}
 use Rattle.model.specs.ListLaws.{All, all-map, all-getD}
 use Rattle.model.specs.Tests.{decide, never, passes-test, test-passes, eqb-same, eqb-equal, eqb-apart, ltb-true, ltb-false}
-use Rattle.model.specs.Read.{Read, got, refused, readNumber, readMany, mapped}
-use Rattle.model.specs.Job.{HD, Block, Job, readBlockId, readBlock, readJob, sameBlock, containsId, idsOf}
+use Rattle.model.specs.Read.{got, readMany}
+use Rattle.model.specs.Job.{Block, Job, readBlockId, sameBlock, containsId, idsOf}
 use Rattle.model.specs.Rounds.{placesFrom, jobOrder}
 use Rattle.model.specs.Stage.{blockAt, placeOf, predecessorsOf, insertById, sortById, byAscendingId, successorsOf}
-use Rattle.job.specs.Head.{readBlockHead}
-use Rattle.job.specs.Passing.{notes, orNone}
-use Rattle.job.specs.Kept.{BlocksAt}
-use Rattle.job.specs.declared.BlockHead.{BlockHead}
+use Rattle.job.specs.Passing.{notes}
+use Rattle.job.specs.Kept.{BlocksAt, blocksOf}
 use Rattle.job.proofs.Many.{many-all}
-use Rattle.job.proofs.Passing.{mapped-got}
-use Rattle.job.proofs.BlocksAt.{job-accepted, same-job, block-there}
-use Rattle.job.proofs.RecordParts.{BlockParts, block-parts}
-use Rattle.safety.specs.Lists.{Member, all-of-map}
+use Rattle.job.proofs.BlocksAt.{blocks-read, job-accepted, same-job, block-there}
+use Rattle.job.proofs.RecordParts.{block-parts}
+use Rattle.safety.specs.Lists.{Member}
 use Rattle.safety.specs.GraphLaws.{ProperBlocks, proper-blocks, place-own, place-known, known-at, same-block, predecessors-inside}
-use Rattle.edges.specs.Rows.{placeFrom, placeIn, placesNoted, rowAt, rowsAt, RowsFilled}
+use Rattle.edges.specs.Rows.{idsFrom, idsNoted, placeAmong, place-among, placesNoted, rowsAt, RowsFilled}
 use Rattle.edges.specs.Order.{insertByNumber, sortByNumber, Ordered}
 use Rattle.edges.specs.Successors.{RanksFit, AllMarked}
-use Rattle.edges.specs.Fills.{IdsAt, HoldsGraph}
+use Rattle.edges.specs.Fills.{IdsAt, NotedJob, HoldsGraph}
 use Rattle.edges.proofs.Noting.{row-noted}
-use Rattle.edges.proofs.Filling.{row-few, row-small}
+use Rattle.edges.proofs.Filling.{row-few}
 use Rattle.edges.proofs.Ordering.{sort-all, places-below}
 use Rattle.edges.proofs.Graphs.{ranks-fit, ranked-inside, size-is, degree-is, predecessor-is, rank-is, predecessors-are, bit-below, successors-are}
 
--- Places by the numbers noted.
+-- Ids by the numbers noted.
 
-place-noted : (bs : List Block) (ids : List ℕ) (k : ℕ) (i : BlockId) → ((m : ℕ) → m < length bs → getD ids (k + m) 0 ≡ blockAt bs m .id .0) → Member i (idsOf bs)
-    → placeFrom ids k (length bs) (i .0) ≡ k + placeOf bs i
-place-noted (c ∷ cs) ids k i noted known =
+ids-listed : (bs : List Block) (ids : List ℕ) (k : ℕ) → ((m : ℕ) → m < length bs → getD ids (k + m) 0 ≡ blockAt bs m .id .0) → idsFrom ids k (length bs) ≡ idsOf bs
+ids-listed [] ids k noted = refl
+ids-listed (c ∷ cs) ids k noted =
     let here : getD ids k 0 ≡ c .id .0 = ap (λ m. getD ids m 0) (let z : k ≡ k + 0 = omega arith in z) ∙ noted 0 (omega arith) in
-    elim (ℕ-discrete (c .id .0) (i .0)) [
-      | yes e ↦ rw (eqb-equal (getD ids k 0) (i .0) (here ∙ e), eqb-equal (c .id .0) (i .0) e) (let z : k ≡ k + 0 = omega arith in z)
-      | no n ↦
-          rw (eqb-apart (getD ids k 0) (i .0) (λ e. n (sym here ∙ e)), eqb-apart (c .id .0) (i .0) n)
-          (place-noted cs ids (suc k) i (λ m l. ap (λ m. getD ids m 0) (let z : suc k + m ≡ k + suc m = omega arith in z) ∙ noted (suc m) (omega arith)) (later known n)
-          ∙ (let z : suc k + placeOf cs i ≡ k + suc (placeOf cs i) = omega arith in z))
-    ]
-  where
-    later : Member i (idsOf (c ∷ cs)) → ¬ (c .id .0 ≡ i .0) → Member i (idsOf cs)
-    later (inl e) n = absurd (n (ap (λ (x : BlockId). x .0) e))
-    later (inr m) n = m
+    let rest : idsFrom ids (suc k) (length cs) ≡ idsOf cs = ids-listed cs ids (suc k) (λ m l. ap (λ m. getD ids m 0) (let z : suc k + m ≡ k + suc m = omega arith in z) ∙ noted (suc m) (omega arith)) in
+    rw (here, rest)
 
 -- Order by the numbers noted.
 
@@ -77,20 +63,16 @@ module _ (bs : List Block) (ids : List ℕ) (noted : (k : ℕ) → k < length bs
 
 -- A list of ids read, and their places noted.
 
-notes-ids : (f : ℕ → ℕ) (s : List ℕ) (n at : ℕ) {all : List BlockId} {end : ℕ} → readMany n readBlockId s at ≡ got all end → notes (λ _ x. f x) n (readNumber 4) s at ≡ map (λ (i : BlockId). f (i .0)) all
+notes-ids : (f : BlockId → ℕ) (s : List ℕ) (n at : ℕ) {all : List BlockId} {end : ℕ} → readMany n readBlockId s at ≡ got all end → notes (λ _ i. f i) n readBlockId s at ≡ map f all
 notes-ids f s =
-    many-all readBlockId s (λ n at all. notes (λ _ x. f x) n (readNumber 4) s at ≡ map (λ (i : BlockId). f (i .0)) all) (λ at. refl)
-    (λ n at next a rest e q. let m = mapped-got (λ i. record { 0 = i }) (readNumber 4 s at) e in rw (m .1) (first-same (m .0) a (notes (λ _ x. f x) n (readNumber 4) s next) (map (λ (i : BlockId). f (i .0)) rest) (m .2) q))
-  where
-    first-same : (x : ℕ) (a : BlockId) (l r : List ℕ) → record { 0 = x } ≡ a → l ≡ r → f x ∷ l ≡ f (a .0) ∷ r
-    first-same x a l r e q = rw q (ap (λ (i : BlockId). f (i .0) ∷ r) e)
+    many-all readBlockId s (λ n at all. notes (λ _ i. f i) n readBlockId s at ≡ map f all) (λ at. refl) (λ n at next a rest e q. rw (e, q))
 
 block-first : (l : List Block) (b : ℕ) (a : Block) (rest : List Block) (d : Block) → drop b l ≡ a ∷ rest → getD l b d ≡ a
 block-first l b a rest d e = let z : b ≡ b + 0 = omega arith in ap (λ k. getD l k d) z ∙ sym (getD-drop b l 0 d) ∙ ap (λ (l : List Block). getD l 0 d) e
 
-map-all : {A : Type 0} (f g : A → ℕ) (xs : List A) → All (λ x. f x ≡ g x) xs → map f xs ≡ map g xs
-map-all f g [] a = refl
-map-all f g (x ∷ xs) a = rw (a .0, map-all f g xs (a .1))
+map-same : {A : Type 0} (f g : A → ℕ) → ((x : A) → f x ≡ g x) → (xs : List A) → map f xs ≡ map g xs
+map-same f g e [] = refl
+map-same f g e (x ∷ xs) = rw (e x, map-same f g e xs)
 
 any-map : {A : Type 0} (p : ℕ → Bool) (q : A → Bool) (f : A → ℕ) (xs : List A) → All (λ x. p (f x) ≡ q x) xs → anyOf p (map f xs) ≡ anyOf q xs
 any-map p q f [] a = refl
@@ -111,12 +93,12 @@ module _ (s ids places : List ℕ) (n : ℕ) (j : Job) (at : BlocksAt s n places
       let a = job-accepted j at in
       subst (λ (k : Job). ProperBlocks (k .blocks)) (same-job j at) (proper-blocks (a .job) (a .no-repeat) (a .no-unknown))
 
-  pub place-is : (i : BlockId) → Member i (idsOf bs) → placeIn ids n (i .0) ≡ placeOf bs i
-  unfolding placeIn
-  place-is i m =
-      ap (λ k. placeFrom ids 0 k (i .0)) (sym (at .count))
-      ∙ place-noted bs ids 0 i (λ k l. ap (λ k. getD ids k 0) (zero-add k) ∙ noted k l) m
-      ∙ zero-add (placeOf bs i)
+  pub place-is : (i : BlockId) → placeAmong (idsNoted ids n) i ≡ placeOf bs i
+  unfolding idsNoted
+  place-is i =
+      ap (λ k. placeAmong (idsFrom ids 0 k) i) (sym (at .count))
+      ∙ ap (λ (l : List BlockId). placeAmong l i) (ids-listed bs ids 0 (λ k l. ap (λ k. getD ids k 0) (zero-add k) ∙ noted k l))
+      ∙ place-among bs i
 
   pub row-is : (b : ℕ) → b < n → rowsAt s ids places n b ≡ predecessorsOf bs b
   unfolding predecessorsOf placesNoted
@@ -125,9 +107,12 @@ module _ (s ids places : List ℕ) (n : ℕ) (j : Job) (at : BlocksAt s n places
       let p = block-parts s (getD places b 0) (t .2) in
       let here : blockAt bs b ≡ t .0 = block-first bs b (t .0) (drop (suc b) bs) _ (t .3) in
       row-noted s (getD places b 0) ids n (p .head-read)
-      ∙ notes-ids (placeIn ids n) s (p .head .predecessors) (getD places b 0 + 8) (p .predecessors-read)
-      ∙ ap (λ (c : Block). map (λ (i : BlockId). placeIn ids n (i .0)) (c .predecessors)) (sym here)
-      ∙ map-all (λ (i : BlockId). placeIn ids n (i .0)) (placeOf bs) (blockAt bs b .predecessors) (all-map (λ i. Member i (idsOf bs)) (λ i. placeIn ids n (i .0) ≡ placeOf bs i) place-is (blockAt bs b .predecessors) (known-at bs proper b))
+      ∙ notes-ids (placeAmong (idsNoted ids n)) s (p .head .predecessors) (getD places b 0 + 8) (p .predecessors-read)
+      ∙ ap (λ (c : Block). map (placeAmong (idsNoted ids n)) (c .predecessors)) (sym here)
+      ∙ map-same (placeAmong (idsNoted ids n)) (placeOf bs) place-is (blockAt bs b .predecessors)
+
+  pub row-inside : (b : ℕ) → b < n → All (λ c. c < n) (rowsAt s ids places n b)
+  row-inside b l = subst (All (λ c. c < n)) (sym (row-is b l)) (subst (λ m. All (λ c. c < m) (predecessorsOf bs b)) (at .count) (predecessors-inside bs proper b))
 
   places-inside : (k m : ℕ) → k + m ≤ length bs → All (λ i. i < length bs) (placesFrom k m)
   unfolding placesFrom
@@ -169,63 +154,68 @@ zeros-read zero p = refl
 zeros-read (suc n) zero = refl
 zeros-read (suc n) (suc p) = zeros-read n p
 
--- the ranks that are read while successors are marked
-module _ (s ids places : List ℕ) (n : ℕ) (most : n ≤ 128) (g₀ g₁ g₂ : List ℕ)
+module _ (s ids places : List ℕ) (n : ℕ) (job : NotedJob s ids places n) (g₀ g₁ g₂ : List ℕ)
     (x₁ : RowsFilled (rowsAt s ids places n) n g₀ g₁) (x₂ : Ordered g₁ g₂ (128 - n) (sortByNumber ids (placesFrom 0 n))) where
-  pub graph-ranks : RanksFit g₂ n
-  graph-ranks =
-      ranks-fit (rowsAt s ids places n) n (sortByNumber ids (placesFrom 0 n)) g₀ g₁ g₂ most (λ b. row-few s (getD places b 0) ids n)
-      (λ b i. all-getD (λ x. x < 128) (rowsAt s ids places n b) i 0 (row-small s (getD places b 0) ids n most) (omega arith)) x₁ x₂
-      (sort-all (λ k. k < n) ids (placesFrom 0 n) (places-below n 0 n (omega arith)))
-
-module _ (s ids places : List ℕ) (n : ℕ) (most : n ≤ 128) (g₀ g₁ g₂ g₃ : List ℕ) (zeros : (p : ℕ) → 8448 ≤ p → getD g₀ p 0 ≡ 0)
-    (x₁ : RowsFilled (rowsAt s ids places n) n g₀ g₁) (x₂ : Ordered g₁ g₂ (128 - n) (sortByNumber ids (placesFrom 0 n))) (x₃ : AllMarked g₂ g₃ (128 - n) 128) where
   few : (b : ℕ) → length (rowsAt s ids places n b) ≤ 64
   few b = row-few s (getD places b 0) ids n
 
-  small : (b i : ℕ) → getD (rowsAt s ids places n b) i 0 < 128
-  small b i = all-getD (λ x. x < 128) (rowsAt s ids places n b) i 0 (row-small s (getD places b 0) ids n most) (omega arith)
+  row-below : (b : ℕ) → b < n → All (λ c. c < n) (rowsAt s ids places n b)
+  row-below = row-inside s ids places n (job .job) (job .blocks) (job .numbers)
+
+  small : (b i : ℕ) → b < n → getD (rowsAt s ids places n b) i 0 < 128
+  small b i l =
+      let most = job .few in
+      all-getD (λ x. x < 128) (rowsAt s ids places n b) i 0 (all-map (λ c. c < n) (λ c. c < 128) (λ c h. omega arith) (rowsAt s ids places n b) (row-below b l)) (omega arith)
 
   inside : All (λ k. k < n) (sortByNumber ids (placesFrom 0 n))
   inside = sort-all (λ k. k < n) ids (placesFrom 0 n) (places-below n 0 n (omega arith))
 
-  abbrev g : List ℕ
-  g = set g₃ 10496 n
+  -- the ranks that are read while successors are marked
+  pub graph-ranks : RanksFit g₂ n
+  graph-ranks = ranks-fit (rowsAt s ids places n) n (sortByNumber ids (placesFrom 0 n)) g₀ g₁ g₂ (job .few) few small x₁ x₂ inside
 
-  pub graph-held : (j : Job) → BlocksAt s n places j → IdsAt ids j → HoldsGraph (j .blocks) g
-  graph-held j at noted =
-      let bs = j .blocks in
-      let count = at .count in
-      let size = size-is (rowsAt s ids places n) n (sortByNumber ids (placesFrom 0 n)) g₀ g₁ g₂ most few small x₁ x₂ inside g₃ zeros x₃ in
-      let degree = degree-is (rowsAt s ids places n) n (sortByNumber ids (placesFrom 0 n)) g₀ g₁ g₂ most few small x₁ x₂ inside g₃ zeros x₃ in
-      let predecessor = predecessor-is (rowsAt s ids places n) n (sortByNumber ids (placesFrom 0 n)) g₀ g₁ g₂ most few small x₁ x₂ inside g₃ zeros x₃ in
-      let rank = rank-is (rowsAt s ids places n) n (sortByNumber ids (placesFrom 0 n)) g₀ g₁ g₂ most few small x₁ x₂ inside g₃ zeros x₃ in
-      let below = bit-below (rowsAt s ids places n) n (sortByNumber ids (placesFrom 0 n)) g₀ g₁ g₂ most few small x₁ x₂ inside g₃ zeros x₃ in
-      let row = row-is s ids places n j at noted in
-      record {
-        fits = record {
-          size = omega arith;
-          degree = λ b l. let f = few b in let d = degree b (omega arith) in omega arith;
-          predecessor = λ b i l h.
-              let b< : b < n = omega arith in
-              let d = degree b b< in
-              let member : All (λ c. c < n) (rowsAt s ids places n b) = subst (All (λ c. c < n)) (sym (row b b<)) (subst (λ m. All (λ c. c < m) (predecessorsOf bs b)) count (predecessors-inside bs (proper s ids places n j at noted) b)) in
-              rw (predecessor b i b< (omega arith), size) (all-below (rowsAt s ids places n b) i n member (omega arith));
-          successor = λ b r l r< e. rw size (decide (leb (128 - n) r) (λ t. rw (rank r r<) (ranked-inside (rowsAt s ids places n) n (sortByNumber ids (placesFrom 0 n)) g₀ g₁ g₂ most few small x₁ x₂ inside r (leb→le (128 - n) r (test-passes t)) r<))
-              (λ f. never e (below b r (omega arith) (not-from (128 - n) r f))));
-          low = λ b r l h. below b r (omega arith) (omega arith);
-        };
-        size = size ∙ sym count;
-        predecessors = λ b l. predecessors-are (rowsAt s ids places n) n (sortByNumber ids (placesFrom 0 n)) g₀ g₁ g₂ most few small x₁ x₂ inside g₃ zeros x₃ b (omega arith) ∙ row b (omega arith);
-        successors = λ b l.
-            successors-are (rowsAt s ids places n) n (sortByNumber ids (placesFrom 0 n)) g₀ g₁ g₂ most few small x₁ x₂ inside g₃ zeros x₃ b (omega arith)
-            ∙ ap (select (λ c. anyOf (eqb b) (rowsAt s ids places n c))) (order-is s ids places n j at noted)
-            ∙ successors-named s ids places n j at noted b l;
-      }
-    where
-      all-below : (l : List ℕ) (i m : ℕ) → All (λ c. c < m) l → i < length l → getD l i 0 < m
-      all-below (x ∷ l) zero m a h = a .0
-      all-below (x ∷ l) (suc i) m a h = all-below l i m (a .1) (omega arith)
+  module _ (g₃ : List ℕ) (zeros : (p : ℕ) → 8448 ≤ p → getD g₀ p 0 ≡ 0) (x₃ : AllMarked g₂ g₃ (128 - n) 128) where
+    job-held : HoldsGraph (job .job .blocks) (set g₃ 10496 n)
+    job-held =
+        let bs = job .job .blocks in
+        let at = job .blocks in
+        let noted = job .numbers in
+        let most = job .few in
+        let count = at .count in
+        let rows = rowsAt s ids places n in
+        let order = sortByNumber ids (placesFrom 0 n) in
+        let size = size-is rows n order g₀ g₁ g₂ most few small x₁ x₂ inside g₃ zeros x₃ in
+        let degree = degree-is rows n order g₀ g₁ g₂ most few small x₁ x₂ inside g₃ zeros x₃ in
+        let predecessor = predecessor-is rows n order g₀ g₁ g₂ most few small x₁ x₂ inside g₃ zeros x₃ in
+        let rank = rank-is rows n order g₀ g₁ g₂ most few small x₁ x₂ inside g₃ zeros x₃ in
+        let below = bit-below rows n order g₀ g₁ g₂ most few small x₁ x₂ inside g₃ zeros x₃ in
+        record {
+          fits = record {
+            size = omega arith;
+            degree = λ b l. let f = few b in let d = degree b (omega arith) in omega arith;
+            predecessor = λ b i l h.
+                let b< : b < n = omega arith in
+                let d = degree b b< in
+                rw (predecessor b i b< (omega arith), size) (all-below (rowsAt s ids places n b) i n (row-below b b<) (omega arith));
+            successor = λ b r l r< e.
+                rw size (decide (leb (128 - n) r) (λ t. rw (rank r r<) (ranked-inside rows n order g₀ g₁ g₂ most few small x₁ x₂ inside r (leb→le (128 - n) r (test-passes t)) r<))
+                (λ f. never e (below b r (omega arith) (not-from (128 - n) r f))));
+            low = λ b r l h. below b r (omega arith) (omega arith);
+          };
+          size = size ∙ sym count;
+          predecessors = λ b l. predecessors-are rows n order g₀ g₁ g₂ most few small x₁ x₂ inside g₃ zeros x₃ b (omega arith) ∙ row-is s ids places n (job .job) at noted b (omega arith);
+          successors = λ b l.
+              successors-are rows n order g₀ g₁ g₂ most few small x₁ x₂ inside g₃ zeros x₃ b (omega arith)
+              ∙ ap (select (λ c. anyOf (eqb b) (rowsAt s ids places n c))) (order-is s ids places n (job .job) at noted)
+              ∙ successors-named s ids places n (job .job) at noted b l;
+        }
+      where
+        all-below : (l : List ℕ) (i m : ℕ) → All (λ c. c < m) l → i < length l → getD l i 0 < m
+        all-below (x ∷ l) zero m a h = a .0
+        all-below (x ∷ l) (suc i) m a h = all-below l i m (a .1) (omega arith)
 
-      not-from : (a r : ℕ) → leb a r ≡ false → r < a
-      not-from a r f = decide (ltb r a) (λ t. ltb-true r a t) (λ e. let l = ltb-false r a e in never (passes-test (le→leb a r l)) f)
+        not-from : (a r : ℕ) → leb a r ≡ false → r < a
+        not-from a r f = decide (ltb r a) (λ t. ltb-true r a t) (λ e. let l = ltb-false r a e in never (passes-test (le→leb a r l)) f)
+
+    pub graph-held : HoldsGraph (blocksOf s) (set g₃ 10496 n)
+    graph-held = subst (λ (bs : List Block). HoldsGraph bs (set g₃ 10496 n)) (sym (blocks-read (job .job) (job .blocks))) job-held

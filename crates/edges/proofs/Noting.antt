@@ -2,37 +2,54 @@
 use Prim.Native.Nat.{ℕ, zero, suc, _+_, _*_, _-_, _≤_, _<_}
 use native.Mathlib.Omega.{arith}
 use native.Mathlib.Nat.{add-zero, zero-add}
-use mathlib.Core.Path.{_≡_, refl, sym, ap, subst, _∙_}
-use mathlib.Core.Bool.{Bool, true, false, cond}
+use mathlib.Core.Path.{_≡_, refl, sym, ap, _∙_}
 use mathlib.Core.List.{List, [], _∷_}
 use lib.ListN.{length, getD, set}
-use lib.Dec.{eqb}
 use lib.Seq.{sets}
+use Rattle.entries.specs.declared.BlockId.{BlockId}
 use Rattle.entries.specs.declared.Refusal.{Refusal}
-use Rattle.model.specs.Tests.{eqb-equal, eqb-apart}
+use Rattle.model.specs.Tests.{by-cond, eqb-equal, eqb-apart}
 use Rattle.model.specs.Read.{got, refused, readNumber}
-use Rattle.job.specs.Passing.{notes}
+use Rattle.model.specs.Job.{sameBlock}
 use Rattle.job.specs.Head.{readBlockHead}
 use Rattle.job.specs.declared.BlockHead.{BlockHead}
 use Rattle.job.proofs.Bounds.{held, predecessors-most}
-use Rattle.edges.specs.Rows.{placeFrom, placeIn, placesNoted, rowAt, withRow}
+use Rattle.edges.specs.Rows.{idsFrom, idsNoted, placeAmong, placesNoted, rowAt, withRow}
 
 -- The search for a place, from k on.
 
-module _ (ids : List ℕ) (n x k : ℕ) where
+module _ (ids : List ℕ) (n k : ℕ) (i : BlockId) where
   more : k < n → n - k ≡ suc (n - (k + 1))
   more l = omega arith
 
-  pub place-here : k < n → getD ids k 0 ≡ x → placeFrom ids k (n - k) x ≡ k
-  place-here l e = ap (λ m. placeFrom ids k m x) (more l) ∙ rw (eqb-equal (getD ids k 0) x e)
+  pub place-here : k < n → getD ids k 0 ≡ i .0 → k + placeAmong (idsFrom ids k (n - k)) i ≡ k
+  place-here l e = ap (λ m. k + placeAmong (idsFrom ids k m) i) (more l) ∙ rw (eqb-equal (getD ids k 0) (i .0) e) (add-zero k)
 
-  pub place-later : k < n → ¬ (getD ids k 0 ≡ x) → placeFrom ids k (n - k) x ≡ placeFrom ids (k + 1) (n - (k + 1)) x
+  pub place-later : k < n → ¬ (getD ids k 0 ≡ i .0) → k + placeAmong (idsFrom ids k (n - k)) i ≡ k + 1 + placeAmong (idsFrom ids (k + 1) (n - (k + 1))) i
   place-later l e =
       let next : suc k ≡ k + 1 = omega arith in
-      ap (λ m. placeFrom ids k m x) (more l) ∙ rw (eqb-apart (getD ids k 0) x e) (ap (λ i. placeFrom ids i (n - (k + 1)) x) next)
+      ap (λ m. k + placeAmong (idsFrom ids k m) i) (more l)
+      ∙ rw (eqb-apart (getD ids k 0) (i .0) e) (ap (λ m. k + suc (placeAmong (idsFrom ids m (n - (k + 1))) i)) next ∙ up (placeAmong (idsFrom ids (k + 1) (n - (k + 1))) i))
+    where
+      up : (m : ℕ) → k + suc m ≡ k + 1 + m
+      up m = omega arith
 
-  pub place-none : n ≤ k → placeFrom ids k (n - k) x ≡ 0
-  place-none l = let none : n - k ≡ 0 = omega arith in ap (λ m. placeFrom ids k m x) none
+  pub place-none : n ≤ k → k + placeAmong (idsFrom ids k (n - k)) i ≡ k
+  place-none l = let none : n - k ≡ 0 = omega arith in ap (λ m. k + placeAmong (idsFrom ids k m) i) none ∙ add-zero k
+
+-- A place is at most the number of the ids.
+
+place-within : (l : List BlockId) (i : BlockId) → placeAmong l i ≤ length l
+place-within [] i = omega arith
+place-within (j ∷ l) i = by-cond (λ p. p ≤ suc (length l)) (sameBlock j i) (λ e. omega arith) (λ e. let h = place-within l i in omega arith)
+
+ids-count : (ids : List ℕ) (k n : ℕ) → length (idsFrom ids k n) ≡ n
+ids-count ids k zero = refl
+ids-count ids k (suc n) = ap suc (ids-count ids (suc k) n)
+
+pub place-few : (ids : List ℕ) (n : ℕ) {r : ℕ} (i : BlockId) → r ≡ placeAmong (idsNoted ids n) i → r ≤ n
+unfolding idsNoted
+place-few ids n {r} i e = let h = place-within (idsNoted ids n) i in let c = ids-count ids 0 n in omega arith
 
 -- The places noted.
 
@@ -42,7 +59,7 @@ module _ (s : List ℕ) (ids : List ℕ) (blocks : ℕ) where
     again = omega arith
 
     pub noted-more : {x next : ℕ} → readNumber 4 s at ≡ got x next
-        → placesNoted s at (count - i) ids blocks ≡ placeIn ids blocks x ∷ placesNoted s next (count - (i + 1)) ids blocks
+        → placesNoted s at (count - i) ids blocks ≡ placeAmong (idsNoted ids blocks) (record { 0 = x }) ∷ placesNoted s next (count - (i + 1)) ids blocks
     unfolding placesNoted
     noted-more e = rw (again, e)
 

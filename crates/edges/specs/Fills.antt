@@ -1,5 +1,5 @@
 -- The graph of a job in the bytes.
-use Prim.Native.Nat.{ℕ, _<_}
+use Prim.Native.Nat.{ℕ, _≤_, _<_}
 use mathlib.Core.Path.{_≡_}
 use mathlib.Core.Bool.{true, false}
 use mathlib.Core.List.{List}
@@ -13,13 +13,16 @@ use Rattle.graph.specs.Bytes.{sizeIn, neighbours, GraphFits}
 abbrev pub IdsAt : List ℕ → Job → Type 0
 IdsAt ids j = (k : ℕ) → k < length (j .blocks) → getD ids k 0 ≡ blockAt (j .blocks) k .id .0
 
+-- A job is read, and its n blocks are noted by id and place.
+pub record NotedJob (s ids places : List ℕ) (n : ℕ) : Type 0 where
+  pub job : Job
+  pub blocks : BlocksAt s n places job
+  pub numbers : IdsAt ids job
+  pub few : n ≤ 128
+
 -- The bytes hold the graph of these blocks: "predecessors in job order", "successors by ascending id".
 pub record HoldsGraph (bs : List Block) (g : List ℕ) : Type 0 where
   pub fits : GraphFits g
   pub size : sizeIn g ≡ length bs
   pub predecessors : (b : ℕ) → b < length bs → neighbours g false b ≡ predecessorsOf bs b
   pub successors : (b : ℕ) → b < length bs → neighbours g true b ≡ successorsOf bs b
-
--- The graph of the job that is read, whose blocks' ids and places are noted.
-abbrev pub FillsGraph : List ℕ → List ℕ → List ℕ → ℕ → List ℕ → Type 0
-FillsGraph s ids places n g = (j : Job) → BlocksAt s n places j → IdsAt ids j → HoldsGraph (j .blocks) g

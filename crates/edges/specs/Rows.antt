@@ -1,29 +1,40 @@
 -- The predecessors of blocks by place, from a job's bytes and what was noted of its blocks.
 use Prim.Native.Nat.{ℕ, zero, suc, _+_, _*_, _≤_, _<_}
-use mathlib.Core.Path.{_≡_}
+use mathlib.Core.Path.{_≡_, refl, ap}
 use mathlib.Core.Bool.{cond}
-use mathlib.Core.List.{List}
+use mathlib.Core.List.{List, [], _∷_}
 use lib.ListN.{length, getD, set}
 use lib.Seq.{sets}
-use lib.Dec.{eqb}
-use Rattle.model.specs.Read.{readNumber}
+use Rattle.entries.specs.declared.BlockId.{BlockId}
+use Rattle.model.specs.Job.{Block, readBlockId, sameBlock, idsOf}
+use Rattle.model.specs.Stage.{placeOf}
 use Rattle.job.specs.Head.{readBlockHead}
 use Rattle.job.specs.Passing.{orNone, notes}
 use Rattle.job.specs.declared.BlockHead.{BlockHead}
 use Rattle.graph.specs.Bytes.{degreeIn, predecessorIn}
 
--- among n blocks from place k on, the place of the one whose id has the number x; 0 where there is none
-abbrev pub placeFrom : List ℕ → ℕ → ℕ → ℕ → ℕ
-placeFrom ids k zero x = 0
-placeFrom ids k (suc n) x = cond (eqb (getD ids k 0) x) k (placeFrom ids (suc k) n x)
+-- the ids of n blocks from place k on, by the numbers noted of them
+abbrev pub idsFrom : List ℕ → ℕ → ℕ → List BlockId
+idsFrom ids k zero = []
+idsFrom ids k (suc n) = record { 0 = getD ids k 0 } ∷ idsFrom ids (suc k) n
 
--- the same among the first n blocks
-unfoldable pub placeIn : List ℕ → ℕ → ℕ → ℕ
-placeIn ids n x = placeFrom ids 0 n x
+-- the ids of the first n blocks
+unfoldable pub idsNoted : List ℕ → ℕ → List BlockId
+idsNoted ids n = idsFrom ids 0 n
+
+-- the place of an id in a list of ids; behind the last where it is not there
+abbrev pub placeAmong : List BlockId → BlockId → ℕ
+placeAmong [] i = zero
+placeAmong (k ∷ ids) i = cond (sameBlock k i) zero (suc (placeAmong ids i))
+
+-- Among the ids of blocks it is the block's place (`placeOf`).
+pub place-among : (bs : List Block) (i : BlockId) → placeAmong (idsOf bs) i ≡ placeOf bs i
+place-among [] i = refl
+place-among (b ∷ bs) i = ap (λ k. cond (sameBlock (b .id) i) zero (suc k)) (place-among bs i)
 
 -- of each id that is read from a place on, the place of its block
 unfoldable pub placesNoted : List ℕ → ℕ → ℕ → List ℕ → ℕ → List ℕ
-placesNoted s start count ids n = notes (λ _ x. placeIn ids n x) count (readNumber 4) s start
+placesNoted s start count ids n = notes (λ _ i. placeAmong (idsNoted ids n) i) count readBlockId s start
 
 -- the places of the predecessors of the block whose record stands at a place
 unfoldable pub rowAt : List ℕ → ℕ → List ℕ → ℕ → List ℕ

@@ -3,12 +3,17 @@ use Prim.Native.Nat.{ℕ, suc, _<_}
 use mathlib.Core.Path.{_≡_, sym, ap, subst, _∙_}
 use mathlib.Core.List.{List, _∷_}
 use lib.ListN.{length, getD, drop}
-use Rattle.model.specs.Read.{got}
+use Rattle.model.specs.Read.{Read, got}
 use Rattle.model.specs.Job.{Block, Job, readBlock}
-use Rattle.job.specs.Kept.{BlocksAt, headOf, keptOf}
+use Rattle.job.specs.Passing.{orNone}
+use Rattle.job.specs.Kept.{BlocksAt, blocksOf, headOf, keptOf}
 use Rattle.job.proofs.Accepted.{Accepted, accepted}
 
 module _ {s : List ℕ} {n : ℕ} {places : List ℕ} (j : Job) (x : BlocksAt s n places j) where
+  pub blocks-read : blocksOf s ≡ j .blocks
+  unfolding blocksOf
+  blocks-read = ap (λ (r : Read Job). orNone r (λ (k : Job) end. k .blocks)) (x .reads)
+
   pub job-accepted : Accepted s (headOf s j)
   job-accepted = accepted s (sym (ap (keptOf s) (x .reads)))
 

@@ -49,9 +49,19 @@ abbrev pub keptOf : List ℕ → Read Job → ReadJob
 keptOf s (got job end) = Value (headOf s job)
 keptOf s (refused r) = Refused r
 
+-- the blocks of the job that the bytes read to; none where they read to no job
+unfoldable pub blocksOf : List ℕ → List Block
+unfolding readJob
+blocksOf s = orNone (readJob HD spanWidth s) (λ (j : Job) end. j .blocks)
+
 -- A job that the bytes read to, whose blocks are noted at these places.
 pub record BlocksAt (s : List ℕ) (n : ℕ) (places : List ℕ) (j : Job) : Type 0 where
   pub end : ℕ
   pub reads : readJob HD spanWidth s ≡ got j end
   pub count : length (j .blocks) ≡ n
   pub noted : (k : ℕ) → k < n → getD places k 0 ≡ getD (blockPlaces s) k 0
+
+-- The bytes read to a job, whose n blocks are noted at these places.
+pub record PlacedJob (s : List ℕ) (n : ℕ) (places : List ℕ) : Type 0 where
+  pub job : Job
+  pub blocks : BlocksAt s n places job

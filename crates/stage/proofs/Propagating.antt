@@ -13,17 +13,18 @@ use Rattle.model.specs.ReductionLaws.{Members}
 use Rattle.model.specs.Rounds.{Rounds}
 use Rattle.model.specs.Propagation.{Work, Graph, doneNeighbours, propagateNonNull, unchanged}
 use Rattle.model.specs.PropagationLaws.{propagation-extends, start-proper}
-use Rattle.model.specs.Job.{Block, Job}
+use Rattle.model.specs.Job.{Block}
 use Rattle.model.specs.Stage.{Started, graphOf, enterBlocks, propagated}
 use Rattle.rows.specs.Rows.{rowsOf}
 use Rattle.registry.specs.Words.{registryOf}
-use Rattle.job.specs.Kept.{BlocksAt}
+use Rattle.job.specs.Kept.{blocksOf}
+use Rattle.job.proofs.BlocksAt.{blocks-read}
 use Rattle.assumed.specs.declared.Entered.{Entered}
 use Rattle.assumed.specs.declared.Entered.the-variants as entered
-use Rattle.assumed.specs.Start.{StartHeld, EntersBlocks}
+use Rattle.assumed.specs.Start.{StartHeld, Starts}
 use Rattle.graph.specs.Bytes.{sizeIn, graphIn}
 use Rattle.graph.proofs.Agree.{Agree, propagation-agrees}
-use Rattle.edges.specs.Fills.{IdsAt, HoldsGraph, FillsGraph}
+use Rattle.edges.specs.Fills.{NotedJob, HoldsGraph}
 use Rattle.propagation.specs.Joins.{Stands, Ready}
 use Rattle.propagation.specs.Propagates.{Propagates}
 use Rattle.propagation.specs.declared.Propagated.{Propagated}
@@ -68,9 +69,17 @@ module _ {bs : List Block} {n : ℕ} {ws os sets g : List ℕ} (count : length b
       subst (λ m. Propagates (propagated doneNeighbours bs) m r sets′ ws′ os′) size-same (subst (λ (w : Rounds Work). Propagates w (sizeIn g) r sets′ ws′ os′) want-same h)
 
 -- the answer of `enter_blocks` by its case
-module _ {s : List ℕ} {n : ℕ} {places : List ℕ} (r : Entered) (ws os sets : List ℕ) (h : EntersBlocks s n places r ws os sets) where
-  pub entered-all : r ≡ entered.All → (j : Job) → BlocksAt s n places j → StartHeld (enterBlocks [] (j .blocks)) n ws os sets
-  entered-all e = subst (λ q. EntersBlocks s n places q ws os sets) e h
+module _ (want : Started) (n : ℕ) (r : Entered) (ws os sets : List ℕ) (h : Starts want n r ws os sets) where
+  pub entered-all : r ≡ entered.All → StartHeld want n ws os sets
+  entered-all e = subst (λ q. Starts want n q ws os sets) e h
 
-  pub entered-full : r ≡ entered.Full → (j : Job) → BlocksAt s n places j → nodeLimit < length (enterBlocks [] (j .blocks) .registry)
-  entered-full e = subst (λ q. EntersBlocks s n places q ws os sets) e h
+  pub entered-full : r ≡ entered.Full → nodeLimit < length (want .registry)
+  entered-full e = subst (λ q. Starts want n q ws os sets) e h
+
+-- the blocks that the bytes read to are those of the job
+module _ {s ids places : List ℕ} {n : ℕ} (noted : NotedJob s ids places n) where
+  pub blocks-count : length (blocksOf s) ≡ n
+  blocks-count = ap length (blocks-read (noted .job) (noted .blocks)) ∙ noted .blocks .count
+
+  pub job-propagated : (r : Propagated) (sets ws os : List ℕ) → Propagates (propagated doneNeighbours (blocksOf s)) n r sets ws os → Propagates (propagated doneNeighbours (noted .job .blocks)) n r sets ws os
+  job-propagated r sets ws os = subst (λ (bs : List Block). Propagates (propagated doneNeighbours bs) n r sets ws os) (blocks-read (noted .job) (noted .blocks))

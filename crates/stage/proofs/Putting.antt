@@ -5,7 +5,6 @@ use mathlib.Core.Path.{_≡_, refl, sym, ap, subst, _∙_}
 use mathlib.Core.Bool.{Bool, true, false, not}
 use mathlib.Core.List.{List, [], _∷_, map, _++_}
 use lib.ListN.{length, getD, length-append}
-use Rattle.entries.specs.declared.BlockId.{BlockId}
 use Rattle.entries.specs.Path.{ReactiveScopeDependency}
 use Rattle.model.specs.Lists.{concatMap, anyOf}
 use Rattle.model.specs.ListLaws.{All, all-getD}
@@ -31,8 +30,7 @@ use Rattle.job.specs.declared.JobHead.{JobHead}
 use Rattle.job.proofs.BlocksAt.{job-accepted, same-job}
 use Rattle.safety.specs.Lists.{Member, neither}
 use Rattle.safety.specs.GraphLaws.{contains-member, place-known}
-use Rattle.edges.specs.Rows.{placeIn}
-use Rattle.edges.specs.Fills.{IdsAt}
+use Rattle.edges.specs.Rows.{idsNoted, placeAmong}
 use Rattle.edges.proofs.Jobs.{place-is}
 use Rattle.propagation.specs.declared.Run.{Run}
 use Rattle.propagation.specs.Joins.{workOf}
@@ -44,7 +42,7 @@ use Rattle.sheet_bytes.proofs.Blocks.{block-length}
 use Rattle.sheet_bytes.proofs.Whole.{head-length}
 use Rattle.registry.proofs.View.{registry-length}
 use Rattle.stage.specs.declared.Operation.the-variants.{Answer, Sheet}
-use Rattle.stage.specs.Jobs.{NotedJob, AcceptedJob, Standing, PutsJob}
+use Rattle.stage.specs.Jobs.{AcceptedJob, Standing, PutsJob}
 
 -- bytes stand in the buffer from its start on, and have their room there
 abbrev Stand : List ℕ → List ℕ → List ℕ → ℕ → Type 0
@@ -97,14 +95,17 @@ module _ {s ids places : List ℕ} {head : JobHead} (acc : AcceptedJob s ids pla
   scope-same : head .scope ≡ job .scope
   scope-same = ap (λ (h : JobHead). h .scope) (acc .keeps)
 
-  scope-place : placeIn ids n (head .scope .0) ≡ placeOf (job .blocks) (job .scope)
-  scope-place =
-      ap (λ (i : BlockId). placeIn ids n (i .0)) scope-same ∙ place-is s ids places n job (acc .noted .blocks) (acc .noted .numbers) (job .scope) member
+  scope-place : placeAmong (idsNoted ids n) (head .scope) ≡ placeOf (job .blocks) (job .scope)
+  scope-place = ap (placeAmong (idsNoted ids n)) scope-same ∙ place-is s ids places n job (acc .noted .blocks) (acc .noted .numbers) (job .scope)
 
   place-inside : placeOf (job .blocks) (job .scope) < n
   place-inside = let l = place-known (job .blocks) (job .scope) member .0 in let c = acc .noted .blocks .count in omega arith
 
-  module _ (sets ws : List ℕ) (stands : Standing n sets ws) (place : ℕ) (is : place ≡ placeIn ids n (head .scope .0)) where
+  -- the scope block has a row
+  pub scope-inside : (place : ℕ) → place ≡ placeAmong (idsNoted ids n) (head .scope) → place < 128
+  scope-inside place is = let e = is ∙ scope-place in let l = place-inside in let few = acc .noted .few in omega arith
+
+  module _ (sets ws : List ℕ) (stands : Standing n sets ws) (place : ℕ) (is : place ≡ placeAmong (idsNoted ids n) (head .scope)) where
     place-same : place ≡ placeOf (job .blocks) (job .scope)
     place-same = is ∙ scope-place
 

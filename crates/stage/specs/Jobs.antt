@@ -17,9 +17,9 @@ use Rattle.model.specs.Answer.{Verdict, writes, turnsBack, onJob, verdict, span
 use Rattle.rows.specs.Rows.{rowsOf}
 use Rattle.registry.specs.Words.{registryOf, Sized}
 use Rattle.writer.specs.Writes.{Writes}
-use Rattle.job.specs.Kept.{BlocksAt, headOf}
+use Rattle.job.specs.Kept.{blocksOf, headOf}
 use Rattle.job.specs.declared.JobHead.{JobHead}
-use Rattle.edges.specs.Fills.{IdsAt}
+use Rattle.edges.specs.Fills.{NotedJob}
 use Rattle.propagation.specs.Propagates.{roundsOf, Propagates}
 use Rattle.propagation.specs.declared.Run.{Run}
 use Rattle.propagation.specs.declared.Propagated.{Propagated}
@@ -65,13 +65,6 @@ unfoldable pub jobVerdict : Operation → List ℕ → Verdict
 unfolding readJob propagated
 jobVerdict op s = onJob doneNeighbours (operationBytes op spanWidth) (readJob HD spanWidth s)
 
--- A job is read, and its n blocks are noted by id and place.
-pub record NotedJob (s ids places : List ℕ) (n : ℕ) : Type 0 where
-  pub job : Job
-  pub blocks : BlocksAt s n places job
-  pub numbers : IdsAt ids job
-  pub few : n ≤ 128
-
 -- What the reader kept of a job that it accepted.
 pub record AcceptedJob (s ids places : List ℕ) (head : JobHead) : Type 0 where
   pub noted : NotedJob s ids places (head .blocks)
@@ -86,8 +79,8 @@ pub record Standing (n : ℕ) (sets ws : List ℕ) : Type 0 where
   pub members : All (Members (registryOf ws)) (rowsOf sets n)
 
 -- The job that is read is propagated.
-abbrev pub PropagatesJob : List ℕ → List ℕ → List ℕ → ℕ → Propagated → List ℕ → List ℕ → List ℕ → Type 0
-PropagatesJob s ids places n r sets ws os = (j : Job) → BlocksAt s n places j → IdsAt ids j → Propagates (propagated doneNeighbours (j .blocks)) n r sets ws os
+abbrev pub PropagatesJob : List ℕ → ℕ → Propagated → List ℕ → List ℕ → List ℕ → Type 0
+PropagatesJob s n r sets ws os = Propagates (propagated doneNeighbours (blocksOf s)) n r sets ws os
 
 -- The operation's bytes of the job that is read, where its propagation left these words after this run, stand in the buffer from its start on, and have
 -- their room there.

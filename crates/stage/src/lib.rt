@@ -5,7 +5,8 @@ ghost use lib.ListN.{length};
 ghost use Rattle.model.specs.Answer.{leastBuffer, answerOf, sheetOf, bufferAfter, numberReturned};
 ghost use Rattle.rows.specs.Rows.{Lent};
 ghost use Rattle.stage.specs.declared.Operation.the-variants.{Answer};
-ghost use Rattle.stage.specs.Jobs.{NotedJob, AcceptedJob, Standing, PropagatesJob, PutsJob, verdictOf, jobVerdict, Meets, FitsNumber, outcomeNumber};
+ghost use Rattle.edges.specs.Fills.{NotedJob};
+ghost use Rattle.stage.specs.Jobs.{AcceptedJob, Standing, PropagatesJob, PutsJob, verdictOf, jobVerdict, Meets, FitsNumber, outcomeNumber};
 use entries::Refusal;
 use job::JobHead;
 use job::ReadJob;
@@ -35,7 +36,7 @@ fn propagate(
     sets: &mut [u64; 1024],
 ) -> Propagated
     requires { ⌜ NotedJob (now s) (now ids) (now places) blocks × (length (now ws) ≡ 1665) × Lent (now sets) ⌝ }
-    ensures { λ r. ⌜ PropagatesJob (now (s .entry)) (now (ids .entry)) (now (places .entry)) blocks r (now (sets .exit)) (now (ws .exit)) (now (optional .exit)) ⌝ }
+    ensures { λ r. ⌜ PropagatesJob (now (s .entry)) blocks r (now (sets .exit)) (now (ws .exit)) (now (optional .exit)) ⌝ }
 {
     let entered = assumed::enter_blocks(s, places, blocks, ws, optional, sets);
     let assumed::Entered::All = entered else {
@@ -61,7 +62,7 @@ fn put_answer(
     ensures { λ r. ⌜ PutsJob Answer (now (s .entry)) head (now (sets .entry)) (now (ws .entry)) run (now (out .entry)) (now (out .exit)) r ⌝ }
 {
     let scope = head.scope;
-    let place = edges::place_of(ids, head.blocks, scope.0);
+    let place = edges::place_of(ids, head.blocks, scope);
     let set = rows::row(sets, place);
     answer_bytes::put_answer(
         s,

@@ -1,32 +1,38 @@
 -- The loop's invariant, `Starting`: the sets stored so far, with what the blocks that are left start with after them, are the whole. The measure is their number.
-use Prim.Native.Nat.{ℕ, _-_}
-use mathlib.Core.Path.{_≡_, refl, sym, ap, _∙_}
+use Prim.Native.Nat.{_-_}
 use native.Mathlib.Omega.{arith}
-use denote.Ref.{now}
 use borrow.Author.Needs.{needs}
-use Rattle.assumed.proofs.Blocks.{Starting, starting, starting-end, starting-full, starting-more}
+use Rattle.job.specs.Kept.{blocksOf}
+use Rattle.assumed.proofs.Blocks.{Starting, starting, block-read, starting-end, starting-full, starting-more}
 use Rattle.assumed.proofs.enter_blocks.Statement.{statement}
 use Rattle.assumed.proofs.enter_blocks.Tie as tie
 
 abbrev Inv-loop : tie.InvT-loop
-Inv-loop s places blocks ws₀ optional₀ sets₀ b₀ ws optional sets b = Starting s blocks places ws optional sets b
+Inv-loop s places blocks ws₀ optional₀ sets₀ b₀ ws optional sets b = Starting (blocksOf s) blocks ws optional sets b
 
 abbrev μ-loop : tie.MeasureT-loop
 μ-loop s places blocks ws₀ optional₀ sets₀ b₀ ws optional sets b = blocks - b
 
 loop-holds : tie.Need-loop-holds Inv-loop μ-loop
-loop-holds c = let e = c .clear .ensures in starting _ _ _ _ _ _ (e .0) (e .1) (c .before .before .before .before .pre .2)
+loop-holds c = let e = c .clear .ensures in starting _ _ _ _ _ (e .0) (e .1) (c .before .before .before .before .pre .3)
+
+-- from the loop's turn back to the start
+abbrev start : tie.In-loop Inv-loop μ-loop → tie.Start Inv-loop μ-loop
+start l = l .before .before .before .before .before .before
+
+enter-block-requires : tie.Need-enter-block-requires Inv-loop μ-loop
+enter-block-requires c κs = let l = c .before .before .before in (l .before .loop .inv .held, block-read (start l .pre .0) (l .before .loop .b) (l .loop-test .taken))
 
 returns : tie.Need-returns Inv-loop μ-loop
 returns c =
     let call = c .before in
     let l = call .before .before .before .before in
-    starting-full (l .before .loop .inv) (l .loop-test .taken) (call .enter-block .result) _ _ (call .enter-block .ensures) (c .if1 .taken)
+    starting-full (start l .pre .0) (l .before .loop .inv) (l .loop-test .taken) (call .enter-block .result) _ _ (call .enter-block .ensures) (c .if1 .taken)
 
 set-row-requires : tie.Need-set-row-requires Inv-loop μ-loop
 set-row-requires c κs =
     let l = c .before .before .before .before .before .before in
-    let few = l .before .before .before .before .before .before .pre .0 in
+    let few = start l .pre .1 in
     let below = l .loop-test .taken in
     (omega arith, l .before .loop .inv .lent)
 
@@ -35,10 +41,10 @@ loop-again c =
     let i = c .before .before in
     let call = i .before in
     let l = call .before .before .before .before in
-    starting-more (l .before .loop .inv) (l .loop-test .taken) (call .enter-block .result) _ _ (call .enter-block .ensures) (i .if1 .left) _ (c .set-row .ensures)
+    starting-more (start l .pre .0) (l .before .loop .inv) (l .loop-test .taken) (call .enter-block .result) _ _ (call .enter-block .ensures) (i .if1 .left) _ (c .set-row .ensures)
 
 returns-2 : tie.Need-returns-2 Inv-loop μ-loop
-returns-2 c = starting-end (c .before .loop .inv) (c .loop-test .left)
+returns-2 c = starting-end (c .before .before .before .before .before .before .pre .0) (c .before .loop .inv) (c .loop-test .left)
 
 pub enter-blocks-spec : {M : Type 1} → statement M
 enter-blocks-spec =
@@ -50,7 +56,7 @@ enter-blocks-spec =
     loop-holds
     (λ c. search needs)
     (λ c. search needs)
-    (λ c κs. search needs)
+    enter-block-requires
     returns
     set-row-requires
     (λ c. search needs)

@@ -1,19 +1,19 @@
--- The loop's invariant, `Filling`: what enters the paths that are left after those before enters them all. The measure is their number.
+-- The loop's invariant, `Filling`: the paths that are left were read, and what enters them after those before enters them all. The measure is their number.
 use Prim.Native.Nat.{ℕ}
 use native.Mathlib.Omega.{arith}
-use mathlib.Core.Path.{_≡_, refl, sym, ap, subst, _∙_}
+use mathlib.Core.Path.{refl, subst}
 use mathlib.Core.List.{[], _∷_}
-use denote.Ref.{now}
 use denote.Enum.Declared.{tagOf}
 use types.Run.{OneOf}
-use mathlib.Core.Logic.{_⊎_, inl, inr}
+use mathlib.Core.Logic.{inl, inr}
 use borrow.Author.Needs.{needs}
 use Rattle.paths.proofs.EnteredPath.{the-type}
 use Rattle.entries.specs.declared.NodeId.{NodeId}
 use Rattle.paths.specs.declared.EnteredPath.the-variants.{At}
 use Rattle.model.specs.Stage.{enterPaths}
 use Rattle.registry.specs.Words.{registryOf}
-use Rattle.assumed.proofs.Filling.{Filling, filling-end, filling-full, node-inside, filling-more}
+use Rattle.assumed.specs.Start.{pathsAt}
+use Rattle.assumed.proofs.Filling.{Filling, filling, filling-end, filling-full, node-inside, filling-more}
 use Rattle.assumed.proofs.enter_paths.Statement.{statement}
 use Rattle.assumed.proofs.enter_paths.Tie as tie
 
@@ -22,24 +22,22 @@ no-tag : (k : NodeId) (n : ℕ) → OneOf (1 ∷ 2 ∷ []) (tagOf the-type (At k
 no-tag k n h = elim h [ inl e ↦ omega arith | inr e ↦ omega arith ]
 
 abbrev Inv-loop : tie.InvT-loop
-Inv-loop s start count ws₀ optional₀ set₀ at₀ left₀ ws optional set at left = Filling (registryOf ws₀) s start count ws optional (set .words) at left
+Inv-loop s start count ws₀ optional₀ set₀ at₀ left₀ ws optional set at left = Filling (enterPaths (registryOf ws₀) [] (pathsAt s start count)) s ws optional (set .words) at left
 
 abbrev μ-loop : tie.MeasureT-loop
 μ-loop s start count ws₀ optional₀ set₀ at₀ left₀ ws optional set at left = left
 
 loop-holds : tie.Need-loop-holds Inv-loop μ-loop
 loop-holds c =
-    let reg = registryOf (now (c .before .before .args .ws)) in
-    record { held = c .before .before .pre; on = λ ds end e. (ds, e, ap (λ t. enterPaths reg t ds) (sym (c .empty .ensures))) }
+    let s = c .before .before in
+    filling _ _ _ _ _ _ _ (s .pre .0) refl (c .empty .ensures) (s .pre .1)
 
 returns : tie.Need-returns Inv-loop μ-loop
 returns c =
     let call = c .before in
-    let l = call .before .before .before in (
-      tt,
-      filling-full (l .before .loop .inv) (l .loop-test .taken) (call .enter-path .result) _ _ (call .enter-path .ensures)
-          (λ k n same. absurd (no-tag k n (subst (λ r. OneOf (1 ∷ 2 ∷ []) (tagOf the-type r)) same (c .match .keys2)))),
-    )
+    let l = call .before .before .before in
+    filling-full (l .before .loop .inv) (l .loop-test .taken) (call .enter-path .result) _ _ (call .enter-path .ensures)
+    (λ k n same. absurd (no-tag k n (subst (λ r. OneOf (1 ∷ 2 ∷ []) (tagOf the-type r)) same (c .match .keys2))))
 
 insert-requires : tie.Need-insert-requires Inv-loop μ-loop
 insert-requires c κs =

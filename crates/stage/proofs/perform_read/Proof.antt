@@ -9,6 +9,7 @@ use Rattle.model.specs.Propagation.{doneNeighbours}
 use Rattle.model.specs.Stage.{propagated}
 use Rattle.safety.specs.Demand3.{rounds-fit}
 use Rattle.propagation.proofs.Answers.{propagated-ran, propagated-full, propagated-rounds}
+use Rattle.stage.proofs.Propagating.{job-propagated}
 use Rattle.stage.proofs.Performing.{refuses, stands-written, full-refused, room-written}
 use Rattle.stage.proofs.perform_read.Statement.{statement}
 use Rattle.stage.proofs.perform_read.Tie as tie
@@ -25,7 +26,7 @@ returns c =
     let noted = a .pre .0 .noted in
     let x = r .propagate in
     refuses (full-refused (a .args .operation) (now (a .args .s)) (noted .job) (noted .blocks .end) (noted .blocks .reads)
-    (propagated-full _ _ (x .result) _ _ _ (x .ensures (noted .job) (noted .blocks) (noted .numbers)) (c .enum-told .given .1)))
+    (propagated-full _ _ (x .result) _ _ _ (job-propagated noted (x .result) _ _ _ (x .ensures)) (c .enum-told .given .1)))
 
 put-requires : tie.Need-put-requires
 put-requires c κs =
@@ -34,7 +35,7 @@ put-requires c κs =
     let a = r .before .before .before .before .before .before in
     let noted = a .pre .0 .noted in
     let x = r .propagate in
-    let held = propagated-ran _ _ (x .result) _ _ _ (x .ensures (noted .job) (noted .blocks) (noted .numbers)) _ (k .propagated .given .1) in
+    let held = propagated-ran _ _ (x .result) _ _ _ (job-propagated noted (x .result) _ _ _ (x .ensures)) _ (k .propagated .given .1) in
     let few = rounds-fit doneNeighbours (noted .job) in
     let same = propagated-rounds held in
     (a .pre .0, record { sized = held .stands .held .sized; sound = held .stands .held .sound; members = held .stands .members }, omega (arith, few, same), a .pre .1)
@@ -47,7 +48,7 @@ returns-2 c =
     let a = r .before .before .before .before .before .before in
     let noted = a .pre .0 .noted in
     let x = r .propagate in
-    let held = propagated-ran _ _ (x .result) _ _ _ (x .ensures (noted .job) (noted .blocks) (noted .numbers)) _ (k .propagated .given .1) in
+    let held = propagated-ran _ _ (x .result) _ _ _ (job-propagated noted (x .result) _ _ _ (x .ensures)) _ (k .propagated .given .1) in
     let put = w .put .ensures (noted .job) (noted .blocks .end) (noted .blocks .reads) (propagated doneNeighbours (noted .job .blocks)) (held .same) in
     stands-written (room-written (a .args .operation) (now (a .args .s)) (noted .job) (noted .blocks .end) (noted .blocks .reads) held) (put .0) (put .1)
 

@@ -1,21 +1,22 @@
 -- What is entered and filled is what the definition's propagation starts from; a registry without room for the assumed paths has none in the end.
-use mathlib.Core.Path.{_≡_}
 use lib.ListN.{length-replicate}
 use Prim.Native.Nat.{ℕ}
-use denote.Ref.{now}
 use borrow.Author.Needs.{needs}
-use Rattle.stage.proofs.Propagating.{full-start, ready, propagates, entered-all, entered-full}
+use Rattle.stage.proofs.Propagating.{full-start, ready, propagates, entered-all, entered-full, blocks-count}
 use Rattle.stage.proofs.propagate.Statement.{statement}
 use Rattle.stage.proofs.propagate.Tie as tie
 
 returns : tie.Need-returns
-returns c j at ids = let e = c .before .before in full-start (j .blocks) (entered-full _ _ _ _ (e .enter-blocks .ensures) (c .enum-told2 .given .1) j at)
+returns c = let e = c .before .before in full-start _ (entered-full _ _ _ _ _ _ (e .enter-blocks .ensures) (c .enum-told2 .given .1))
 
 enter-blocks-requires : tie.Need-enter-blocks-requires
-enter-blocks-requires c κs = let a = c .before .before .before .before in (a .pre .0 .few, a .pre .1, a .pre .2)
+enter-blocks-requires c κs =
+    let a = c .before .before .before .before in
+    let noted = a .pre .0 in
+    (record { job = noted .job; blocks = noted .blocks }, noted .few, a .pre .1, a .pre .2)
 
 fill-graph-requires : tie.Need-fill-graph-requires
-fill-graph-requires c κs = let a = c .before .before .before .before .before .before .before .before in (a .pre .0 .few, length-replicate {A = ℕ} 10497 0)
+fill-graph-requires c κs = let a = c .before .before .before .before .before .before .before .before in (a .pre .0, length-replicate {A = ℕ} 10497 0)
 
 propagate-non-null-requires : tie.Need-propagate-non-null-requires
 propagate-non-null-requires c κs =
@@ -23,16 +24,16 @@ propagate-non-null-requires c κs =
     let t = f .before .before in
     let e = t .before .before in
     let a = e .before .before .before .before .before in
-    let noted = a .pre .0 in
-    ready (noted .blocks .count) (entered-all _ _ _ _ (e .enter-blocks .ensures) (t .enum-told .given .1) (noted .job) (noted .blocks)) (f .fill-graph .ensures (noted .job) (noted .blocks) (noted .numbers))
+    ready (blocks-count (a .pre .0)) (entered-all _ _ _ _ _ _ (e .enter-blocks .ensures) (t .enum-told .given .1)) (f .fill-graph .ensures)
 
 returns-2 : tie.Need-returns-2
-returns-2 c j at ids =
+returns-2 c =
     let r = c .propagate-non-null in
     let f = c .before .before .before .before .before in
     let t = f .before .before in
     let e = t .before .before in
-    propagates (at .count) (entered-all _ _ _ _ (e .enter-blocks .ensures) (t .enum-told .given .1) j at) (f .fill-graph .ensures j at ids) (r .result) (r .last .1 .0) (r .last .1 .1 .0) (r .last .1 .1 .1 .0) (r .ensures)
+    let a = e .before .before .before .before .before in
+    propagates (blocks-count (a .pre .0)) (entered-all _ _ _ _ _ _ (e .enter-blocks .ensures) (t .enum-told .given .1)) (f .fill-graph .ensures) (r .result) (r .last .1 .0) (r .last .1 .1 .0) (r .last .1 .1 .1 .0) (r .ensures)
 
 pub propagate-spec : {M : Type 1} → statement M
 propagate-spec =

@@ -4,7 +4,7 @@ use native.Mathlib.Omega.{arith}
 use mathlib.Core.Path.{_≡_, sym, _∙_}
 use denote.Ref.{now}
 use borrow.Author.Needs.{needs}
-use Rattle.stage.proofs.Putting.{scope-members, puts-answer}
+use Rattle.stage.proofs.Putting.{scope-inside, scope-members, puts-answer}
 use Rattle.stage.proofs.put_answer.Statement.{statement}
 use Rattle.stage.proofs.put_answer.Tie as tie
 
@@ -15,7 +15,7 @@ put-answer-requires c κs =
     let a = p .before .before .before .before in
     let stands = a .pre .1 in (
       record { sized = stands .sized; sound = stands .sound },
-      scope-members (a .pre .0) (now (a .args .sets)) (now (a .args .ws)) stands (p .place-of .result) (p .place-of .ensures .0) _ (r .row .ensures),
+      scope-members (a .pre .0) (now (a .args .sets)) (now (a .args .ws)) stands (p .place-of .result) (p .place-of .ensures) _ (r .row .ensures),
       a .pre .0 .candidates,
       a .pre .3,
     )
@@ -26,13 +26,13 @@ returns c =
     let r = w .before .before .before in
     let p = r .before in
     let a = p .before .before .before .before in
-    puts-answer (a .pre .0) (now (a .args .sets)) (now (a .args .ws)) (a .pre .1) (p .place-of .result) (p .place-of .ensures .0) _ (r .row .ensures) (a .args .run) _ _ _ (w .put-answer .ensures)
+    puts-answer (a .pre .0) (now (a .args .sets)) (now (a .args .ws)) (a .pre .1) (p .place-of .result) (p .place-of .ensures) _ (r .row .ensures) (a .args .run) _ _ _ (w .put-answer .ensures)
 
 place-of-requires : tie.Need-place-of-requires
 place-of-requires c κs = c .before .before .before .pre .0 .noted .few
 
 row-requires : tie.Need-row-requires
-row-requires c κs = c .place-of .ensures .1
+row-requires c κs = scope-inside (c .before .before .before .before .pre .0) _ (c .place-of .ensures)
 
 pub put-answer-spec : {M : Type 1} → statement M
 put-answer-spec = tie.close (tie.spec place-of-requires row-requires (λ c. search needs) put-answer-requires (λ c. search needs) returns)
