@@ -9,7 +9,8 @@ use lib.ListN.{length, getD, set}
 use lib.Seq.{getD-set-same, getD-set-other}
 use lib.Dec.{eqb, ltb}
 use Rattle.model.specs.Tests.{decide, never, eqb-true, eqb-false, ltb-true, ltb-false, and-first, and-second}
-use Rattle.model.specs.RegistryLaws.{entry-property}
+use Rattle.entries.specs.Path.{sameProperty}
+use Rattle.model.specs.RegistryLaws.{property-true}
 use Rattle.registry.specs.declared.Node.{Node}
 use Rattle.registry.specs.declared.Node.the-variants.{Root, Child}
 use Rattle.registry.specs.Nodes.{sameKey, bucketOf, findNode}
@@ -23,7 +24,7 @@ key-bucket (Root i r s) (Child q f) h = never h refl
 key-bucket (Child p e) (Root j q t) h = never h refl
 key-bucket (Child p e) (Child q f) h =
     let number : p .0 ≡ q .0 = eqb-true (p .0) (q .0) (and-first (eqb (p .0) (q .0)) _ h) in
-    let property = entry-property e f (and-second (eqb (p .0) (q .0)) _ h) in
+    let property : e .property ≡ f .property = property-true (e .property) (f .property) (and-first (sameProperty (e .property) (f .property)) _ (and-second (eqb (p .0) (q .0)) _ h)) in
     simp (number, property)
 
 apart : (m n : Node) → bucketOf m ≢ bucketOf n → sameKey m n ≡ false
