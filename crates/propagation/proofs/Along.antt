@@ -71,24 +71,24 @@ module _ (want : Work) (n : ℕ) (r : Progress) (sets ws os : List ℕ) (h : Joi
   joined-full e = subst (λ a. Joins want n a sets ws os) e h
 
 -- A loop that visits blocks: the visits of the blocks of `order`, those still to come, lead from what the arrays hold to `end`.
-pub record Along (g : List ℕ) (backward reduced : Bool) (order : List ℕ) (end : Visited Work) (marks sets ws os : List ℕ) (c : Bool) : Type 0 where
+pub record Along (g : List ℕ) (backward later : Bool) (order : List ℕ) (end : Visited Work) (marks sets ws os : List ℕ) (c : Bool) : Type 0 where
   pub long : length marks ≡ 128
   pub stands : Stands (sizeIn g) sets ws os
-  pub before : ReducedBefore reduced (sizeIn g) sets ws
+  pub before : ReducedBefore later (sizeIn g) sets ws
   pub rest : each (visitIn g backward) order (visitedOf (sizeIn g) marks sets ws c) ≡ end
 
-module _ {g : List ℕ} {backward reduced : Bool} {end : Visited Work} {marks sets ws os : List ℕ} {c : Bool} where
+module _ {g : List ℕ} {backward later : Bool} {end : Visited Work} {marks sets ws os : List ℕ} {c : Bool} where
   -- the same with the blocks to come in another form
-  pub along-by : {order order′ : List ℕ} → order ≡ order′ → Along g backward reduced order end marks sets ws os c → Along g backward reduced order′ end marks sets ws os c
-  along-by e a = subst (λ (bs : List ℕ). Along g backward reduced bs end marks sets ws os c) e a
+  pub along-by : {order order′ : List ℕ} → order ≡ order′ → Along g backward later order end marks sets ws os c → Along g backward later order′ end marks sets ws os c
+  along-by e a = subst (λ (bs : List ℕ). Along g backward later bs end marks sets ws os c) e a
 
-  pub along-end : Along g backward reduced [] end marks sets ws os c → visitedOf (sizeIn g) marks sets ws c ≡ end
+  pub along-end : Along g backward later [] end marks sets ws os c → visitedOf (sizeIn g) marks sets ws c ≡ end
   unfolding each
   along-end a = a .rest
 
-  module _ {b : ℕ} {order : List ℕ} (a : Along g backward reduced (b ∷ order) end marks sets ws os c) where
+  module _ {b : ℕ} {order : List ℕ} (a : Along g backward later (b ∷ order) end marks sets ws os c) where
     -- a block that is marked already is passed over
-    pub along-marked : b < sizeIn g → sizeIn g ≤ 128 → (getD marks b 0 ≡ 0 → ⊥) → Along g backward reduced order end marks sets ws os c
+    pub along-marked : b < sizeIn g → sizeIn g ≤ 128 → (getD marks b 0 ≡ 0 → ⊥) → Along g backward later order end marks sets ws os c
     unfolding each
     along-marked inside few marked-here =
         let long = a .long in
@@ -101,7 +101,7 @@ module _ {g : List ℕ} {backward reduced : Bool} {end : Visited Work} {marks se
         }
 
     module _ (r : Progress) (marks′ sets′ ws′ os′ : List ℕ) (h : Visits (visitIn g backward b (visitedOf (sizeIn g) marks sets ws c)) (sizeIn g) r marks′ sets′ ws′ os′) where
-      pub along-more : (c′ : Bool) → r ≡ Changed c′ → Along g backward reduced order end marks′ sets′ ws′ os′ c′
+      pub along-more : (c′ : Bool) → r ≡ Changed c′ → Along g backward later order end marks′ sets′ ws′ os′ c′
       unfolding each
       along-more c′ e =
           let to = visited-to _ _ r marks′ sets′ ws′ os′ h c′ e in

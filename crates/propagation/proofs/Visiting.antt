@@ -18,19 +18,19 @@ use Rattle.propagation.proofs.Marks.{mark-set, zero-unmarked}
 use Rattle.propagation.proofs.Along.{join-adds, visit-fewer, visit-unmarked, visited-to, Along, along-by, along-marked, along-more, along-full, along-end}
 
 -- what a visit requires
-pub record Enters (g : List ℕ) (b : ℕ) (marks sets ws os : List ℕ) (reduced : Bool) : Type 0 where
+pub record Enters (g : List ℕ) (b : ℕ) (marks sets ws os : List ℕ) (later : Bool) : Type 0 where
   pub ready : Ready g sets ws os
-  pub before : ReducedBefore reduced (sizeIn g) sets ws
+  pub before : ReducedBefore later (sizeIn g) sets ws
   pub inside : b < sizeIn g
   pub long : length marks ≡ 128
   pub unmarked : getD marks b 0 ≡ 0
 
 -- The loop over the neighbours of block b: those from `from` on are still to be visited, and no more blocks are unmarked than at `entered`.
-pub record Neighbouring (g : List ℕ) (backward reduced : Bool) (b : ℕ) (entered : Visited Work) (marks sets ws os : List ℕ) (c : Bool) (from : ℕ) : Type 0 where
-  pub along : Along g backward reduced (neighboursFrom g backward b from) (each (visitIn g backward) (neighbours g backward b) entered) marks sets ws os c
+pub record Neighbouring (g : List ℕ) (backward later : Bool) (b : ℕ) (entered : Visited Work) (marks sets ws os : List ℕ) (c : Bool) (from : ℕ) : Type 0 where
+  pub along : Along g backward later (neighboursFrom g backward b from) (each (visitIn g backward) (neighbours g backward b) entered) marks sets ws os c
   pub fewer : unmarkedIn (marksOf (sizeIn g) marks) ≤ unmarkedIn (entered .marks)
 
-module _ {g : List ℕ} {b : ℕ} {marks sets ws os : List ℕ} {reduced : Bool} (e : Enters g b marks sets ws os reduced) where
+module _ {g : List ℕ} {b : ℕ} {marks sets ws os : List ℕ} {later : Bool} (e : Enters g b marks sets ws os later) where
   pub block-inside : b < 128
   block-inside = let few = e .ready .fits .size in let h = e .inside in omega arith
 
@@ -49,19 +49,19 @@ module _ {g : List ℕ} {b : ℕ} {marks sets ws os : List ℕ} {reduced : Bool}
         ∙ ap (λ (ms : List TraversalState). leave (joinIn g backward) b (each (visitIn g backward) (neighbours g backward b) (record { marks = ms; work = workOf (sizeIn g) sets ws changed })))
         (sym (mark-set (sizeIn g) marks b (e .inside) 1))
 
-    pub neighbours-start : Neighbouring g backward reduced b (visitedOf (sizeIn g) (set marks b 1) sets ws changed) (set marks b 1) sets ws os changed 0
+    pub neighbours-start : Neighbouring g backward later b (visitedOf (sizeIn g) (set marks b 1) sets ws changed) (set marks b 1) sets ws os changed 0
     neighbours-start = record {
       along = record { long = length-set marks b 1 ∙ e .long; stands = e .ready .stands; before = e .before; rest = refl };
       fewer = le-refl _;
     }
 
 -- The facts in the loop over the neighbours: those at the entry, and the invariant.
-pub record Looping (g : List ℕ) (backward reduced : Bool) (b : ℕ) (marks sets ws os : List ℕ) (changed : Bool) (marks′ sets′ ws′ os′ : List ℕ) (c : Bool) (from : ℕ) : Type 0 where
-  pub entry : Enters g b marks sets ws os reduced
-  pub inv : Neighbouring g backward reduced b (visitedOf (sizeIn g) (set marks b 1) sets ws changed) marks′ sets′ ws′ os′ c from
+pub record Looping (g : List ℕ) (backward later : Bool) (b : ℕ) (marks sets ws os : List ℕ) (changed : Bool) (marks′ sets′ ws′ os′ : List ℕ) (c : Bool) (from : ℕ) : Type 0 where
+  pub entry : Enters g b marks sets ws os later
+  pub inv : Neighbouring g backward later b (visitedOf (sizeIn g) (set marks b 1) sets ws changed) marks′ sets′ ws′ os′ c from
 
-module _ {g : List ℕ} {backward reduced : Bool} {b : ℕ} {marks sets ws os : List ℕ} {changed : Bool} {marks′ sets′ ws′ os′ : List ℕ} {c : Bool} {from : ℕ}
-    (l : Looping g backward reduced b marks sets ws os changed marks′ sets′ ws′ os′ c from) where
+module _ {g : List ℕ} {backward later : Bool} {b : ℕ} {marks sets ws os : List ℕ} {changed : Bool} {marks′ sets′ ws′ os′ : List ℕ} {c : Bool} {from : ℕ}
+    (l : Looping g backward later b marks sets ws os changed marks′ sets′ ws′ os′ c from) where
   pub still-ready : Ready g sets′ ws′ os′
   still-ready = record { fits = l .entry .ready .fits; stands = l .inv .along .stands }
 
@@ -78,14 +78,14 @@ module _ {g : List ℕ} {backward reduced : Bool} {b : ℕ} {marks sets ws os : 
 
   -- the next neighbour is k
   module _ {k next : ℕ} (to : Next g backward b from k next) where
-    abbrev here-along : Along g backward reduced (k ∷ neighboursFrom g backward b next) (each (visitIn g backward) (neighbours g backward b) (visitedOf (sizeIn g) (set marks b 1) sets ws changed)) marks′ sets′ ws′ os′ c
+    abbrev here-along : Along g backward later (k ∷ neighboursFrom g backward b next) (each (visitIn g backward) (neighbours g backward b) (visitedOf (sizeIn g) (set marks b 1) sets ws changed)) marks′ sets′ ws′ os′ c
     here-along = along-by (to .rest) (l .inv .along)
 
     pub neighbour-inside : k < 128
     neighbour-inside = let few = l .entry .ready .fits .size in let h = to .inside in omega arith
 
     -- it is marked already
-    pub neighbours-marked : (getD marks′ k 0 ≡ 0 → ⊥) → Neighbouring g backward reduced b (visitedOf (sizeIn g) (set marks b 1) sets ws changed) marks′ sets′ ws′ os′ c next
+    pub neighbours-marked : (getD marks′ k 0 ≡ 0 → ⊥) → Neighbouring g backward later b (visitedOf (sizeIn g) (set marks b 1) sets ws changed) marks′ sets′ ws′ os′ c next
     neighbours-marked h = record { along = along-marked here-along (to .inside) (l .entry .ready .fits .size) h; fewer = l .inv .fewer }
 
     -- it is visited
@@ -95,7 +95,7 @@ module _ {g : List ℕ} {backward reduced : Bool} {b : ℕ} {marks sets ws os : 
           subst (λ (v : Visited Work). nodeLimit < length (v .work .registry)) (sym (opened (l .entry) backward changed))
           (lt-of-lt-of-le (along-full here-along r marks″ sets″ ws″ os″ h e) (join-adds g backward b _ _))
 
-      pub neighbours-more : (c″ : Bool) → r ≡ Changed c″ → Neighbouring g backward reduced b (visitedOf (sizeIn g) (set marks b 1) sets ws changed) marks″ sets″ ws″ os″ c″ next
+      pub neighbours-more : (c″ : Bool) → r ≡ Changed c″ → Neighbouring g backward later b (visitedOf (sizeIn g) (set marks b 1) sets ws changed) marks″ sets″ ws″ os″ c″ next
       neighbours-more c″ e = record {
         along = along-more here-along r marks″ sets″ ws″ os″ h c″ e;
         fewer =

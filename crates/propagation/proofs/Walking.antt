@@ -55,9 +55,9 @@ order-end true n i l = let e : n - i ≡ 0 = omega arith in ap falling e
 abbrev pub walkEnd : List ℕ → Bool → Work → Visited Work
 walkEnd g backward w = each (visitIn g backward) (orderOf backward (sizeIn g)) (record { marks = replicate (sizeIn g) Unmarked; work = w })
 
-pub walk-start : {g sets ws os : List ℕ} → Ready g sets ws os → (backward reduced : Bool) → ReducedBefore reduced (sizeIn g) sets ws → (n : ℕ) → n ≡ sizeIn g → (c : Bool)
-    → Along g backward reduced (orderFrom backward n 0) (walkEnd g backward (workOf (sizeIn g) sets ws c)) (replicate 128 0) sets ws os c
-walk-start {g} {sets} {ws} {os} ready backward reduced before n e c = record {
+pub walk-start : {g sets ws os : List ℕ} → Ready g sets ws os → (backward later : Bool) → ReducedBefore later (sizeIn g) sets ws → (n : ℕ) → n ≡ sizeIn g → (c : Bool)
+    → Along g backward later (orderFrom backward n 0) (walkEnd g backward (workOf (sizeIn g) sets ws c)) (replicate 128 0) sets ws os c
+walk-start {g} {sets} {ws} {os} ready backward later before n e c = record {
   long = length-replicate {A = ℕ} 128 0;
   stands = ready .stands;
   before = before;
@@ -67,8 +67,8 @@ walk-start {g} {sets} {ws} {os} ready backward reduced before n e c = record {
 }
 
 -- the next block is b
-pub walk-next : {g : List ℕ} {backward reduced : Bool} (n i : ℕ) {end : Visited Work} {marks sets ws os : List ℕ} {c : Bool} → Along g backward reduced (orderFrom backward n i) end marks sets ws os c
-    → i < n → {b : ℕ} → b ≡ inOrder backward n i → Along g backward reduced (b ∷ orderFrom backward n (i + 1)) end marks sets ws os c
+pub walk-next : {g : List ℕ} {backward later : Bool} (n i : ℕ) {end : Visited Work} {marks sets ws os : List ℕ} {c : Bool} → Along g backward later (orderFrom backward n i) end marks sets ws os c
+    → i < n → {b : ℕ} → b ≡ inOrder backward n i → Along g backward later (b ∷ orderFrom backward n (i + 1)) end marks sets ws os c
 walk-next {g} {backward} n i a l e = along-by (order-more backward n i l ∙ ap (λ (k : ℕ). k ∷ orderFrom backward n (i + 1)) (sym e)) a
 
 module _ (g : List ℕ) (backward : Bool) (w : Work) where
@@ -76,7 +76,7 @@ module _ (g : List ℕ) (backward : Bool) (w : Work) where
   unfolding walkIn walk visitIn
   walk-full h = h
 
-  pub walk-end : {reduced : Bool} {marks sets ws os : List ℕ} {c : Bool} → Along g backward reduced [] (walkEnd g backward w) marks sets ws os c → Holds (walkIn g backward w) (sizeIn g) c sets ws os
+  pub walk-end : {later : Bool} {marks sets ws os : List ℕ} {c : Bool} → Along g backward later [] (walkEnd g backward w) marks sets ws os c → Holds (walkIn g backward w) (sizeIn g) c sets ws os
   unfolding walkIn walk visitIn
   walk-end a = record { stands = a .stands; same = sym (ap (λ (v : Visited Work). v .work) (along-end a)) }
 

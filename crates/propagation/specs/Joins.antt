@@ -77,9 +77,9 @@ pub record Ready (g sets ws os : List ℕ) : Type 0 where
 abbrev pub AllReduced : ℕ → List ℕ → List ℕ → Type 0
 AllReduced n sets ws = (b : ℕ) → b < n → IsReduced (registryOf ws) (setOf (rowsOf sets n) b)
 
--- the same, where the flag says so
+-- the same in a walk that is later than the first
 abbrev pub ReducedBefore : Bool → ℕ → List ℕ → List ℕ → Type 0
-ReducedBefore reduced n sets ws = reduced ≡ true → AllReduced n sets ws
+ReducedBefore later n sets ws = later ≡ true → AllReduced n sets ws
 
 -- the arrays hold the work that was to be reached
 pub record Holds (want : Work) (n : ℕ) (changed : Bool) (sets ws os : List ℕ) : Type 0 where

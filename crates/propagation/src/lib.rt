@@ -109,8 +109,7 @@ fn intersection_of_done(
     }
 }
 
-// The block's set is joined with that intersection and reduced. Where `reduced` says that each block's set was reduced before, and nothing joins, it is
-// reduced as it is.
+// The block's set is joined with that intersection and reduced. In a walk later than the first it was reduced before, so where nothing new joins, it stays.
 fn join(
     graph: &[u8; 10497],
     backward: bool,
@@ -119,10 +118,10 @@ fn join(
     sets: &mut [u64; 1024],
     ws: &mut [u64; 1665],
     optional: &mut [u64; 8],
-    reduced: bool,
+    later: bool,
     changed: bool,
 ) -> Progress
-    requires { ⌜ Ready (now graph) (now sets) (now ws) (now optional) × ReducedBefore reduced (sizeIn (now graph)) (now sets) (now ws) × (b < sizeIn (now graph)) ⌝ }
+    requires { ⌜ Ready (now graph) (now sets) (now ws) (now optional) × ReducedBefore later (sizeIn (now graph)) (now sets) (now ws) × (b < sizeIn (now graph)) ⌝ }
     ensures { λ r. ⌜ (let n = sizeIn (now (graph .entry)) in
         Joins (joinIn (now (graph .entry)) backward b (marksOf n (now (marks .entry))) (workOf n (now (sets .entry)) (now (ws .entry)) changed))
         n r (now (sets .exit)) (now (ws .exit)) (now (optional .exit))) ⌝ }
@@ -130,7 +129,7 @@ fn join(
     let own = rows::row(sets, b);
     let found = intersection_of_done(graph, backward, b, marks, sets);
     let all = own.union(found);
-    if reduced && own.same_set(all) {
+    if later && own.same_set(all) {
         return Progress::Changed(changed);
     }
     let r = reduction::reduce_maybe_optional_chains(ws, optional, all);
@@ -152,10 +151,10 @@ fn leave(
     sets: &mut [u64; 1024],
     ws: &mut [u64; 1665],
     optional: &mut [u64; 8],
-    reduced: bool,
+    later: bool,
     changed: bool,
 ) -> Progress
-    requires { ⌜ Ready (now graph) (now sets) (now ws) (now optional) × ReducedBefore reduced (sizeIn (now graph)) (now sets) (now ws) × (b < sizeIn (now graph)) × (length (now marks) ≡ 128) ⌝ }
+    requires { ⌜ Ready (now graph) (now sets) (now ws) (now optional) × ReducedBefore later (sizeIn (now graph)) (now sets) (now ws) × (b < sizeIn (now graph)) × (length (now marks) ≡ 128) ⌝ }
     ensures { λ r. ⌜ (let n = sizeIn (now (graph .entry)) in
         Visits (leave (joinIn (now (graph .entry)) backward) b (visitedOf n (now (marks .entry)) (now (sets .entry)) (now (ws .entry)) changed))
         n r (now (marks .exit)) (now (sets .exit)) (now (ws .exit)) (now (optional .exit))) ⌝ }
@@ -168,7 +167,7 @@ fn leave(
         sets,
         ws,
         optional,
-        reduced,
+        later,
         changed,
     );
     marks[b] = 2;
@@ -185,10 +184,10 @@ fn visit(
     sets: &mut [u64; 1024],
     ws: &mut [u64; 1665],
     optional: &mut [u64; 8],
-    reduced: bool,
+    later: bool,
     changed: bool,
 ) -> Progress
-    requires { ⌜ Ready (now graph) (now sets) (now ws) (now optional) × ReducedBefore reduced (sizeIn (now graph)) (now sets) (now ws) × (b < sizeIn (now graph)) × (length (now marks) ≡ 128) × (getD (now marks) b 0 ≡ 0) ⌝ }
+    requires { ⌜ Ready (now graph) (now sets) (now ws) (now optional) × ReducedBefore later (sizeIn (now graph)) (now sets) (now ws) × (b < sizeIn (now graph)) × (length (now marks) ≡ 128) × (getD (now marks) b 0 ≡ 0) ⌝ }
     ensures { λ r. ⌜ (let n = sizeIn (now (graph .entry)) in
         Visits (visitIn (now (graph .entry)) backward b (visitedOf n (now (marks .entry)) (now (sets .entry)) (now (ws .entry)) changed))
         n r (now (marks .exit)) (now (sets .exit)) (now (ws .exit)) (now (optional .exit))) ⌝ }
@@ -198,17 +197,7 @@ fn visit(
     let mut from = 0;
     while from < 128 {
         let Near::At(k, next) = graph::next_near(graph, backward, b, from) else {
-            return leave(
-                graph,
-                backward,
-                b,
-                marks,
-                sets,
-                ws,
-                optional,
-                reduced,
-                so_far,
-            );
+            return leave(graph, backward, b, marks, sets, ws, optional, later, so_far);
         };
         if marks[k] == 0 {
             let Progress::Changed(c) = visit(
@@ -219,7 +208,7 @@ fn visit(
                 sets,
                 ws,
                 optional,
-                reduced,
+                later,
                 so_far,
             ) else {
                 return Progress::Full;
@@ -228,17 +217,7 @@ fn visit(
         }
         from = next;
     }
-    leave(
-        graph,
-        backward,
-        b,
-        marks,
-        sets,
-        ws,
-        optional,
-        reduced,
-        so_far,
-    )
+    leave(graph, backward, b, marks, sets, ws, optional, later, so_far)
 }
 
 // Block i of a walk over n.
@@ -249,7 +228,7 @@ fn in_order(backward: bool, n: usize, i: usize) -> usize
     if backward { n - 1 - i } else { i }
 }
 
-// A visit of each unmarked block in turn, from no mark on.
+// A visit of each unmarked block in turn, with the marks cleared.
 fn walk(
     graph: &[u8; 10497],
     backward: bool,
@@ -257,10 +236,10 @@ fn walk(
     sets: &mut [u64; 1024],
     ws: &mut [u64; 1665],
     optional: &mut [u64; 8],
-    reduced: bool,
+    later: bool,
     changed: bool,
 ) -> Progress
-    requires { ⌜ Ready (now graph) (now sets) (now ws) (now optional) × ReducedBefore reduced (sizeIn (now graph)) (now sets) (now ws) ⌝ }
+    requires { ⌜ Ready (now graph) (now sets) (now ws) (now optional) × ReducedBefore later (sizeIn (now graph)) (now sets) (now ws) ⌝ }
     ensures { λ r. ⌜ (let n = sizeIn (now (graph .entry)) in
         Joins (walkIn (now (graph .entry)) backward (workOf n (now (sets .entry)) (now (ws .entry)) changed))
         n r (now (sets .exit)) (now (ws .exit)) (now (optional .exit))) ⌝ }
@@ -281,7 +260,7 @@ fn walk(
                 sets,
                 ws,
                 optional,
-                reduced,
+                later,
                 so_far,
             ) else {
                 return Progress::Full;
@@ -292,21 +271,21 @@ fn walk(
     Progress::Changed(so_far)
 }
 
-// A forward and a backward walk, from no set changed. After the forward one each set is reduced.
+// A forward and a backward walk, from no set changed. The backward one is never the first.
 fn round(
     graph: &[u8; 10497],
     marks: &mut [u8; 128],
     sets: &mut [u64; 1024],
     ws: &mut [u64; 1665],
     optional: &mut [u64; 8],
-    reduced: bool,
+    later: bool,
 ) -> Progress
-    requires { ⌜ Ready (now graph) (now sets) (now ws) (now optional) × ReducedBefore reduced (sizeIn (now graph)) (now sets) (now ws) ⌝ }
+    requires { ⌜ Ready (now graph) (now sets) (now ws) (now optional) × ReducedBefore later (sizeIn (now graph)) (now sets) (now ws) ⌝ }
     ensures { λ r. ⌜ (let n = sizeIn (now (graph .entry)) in
         Joins (round doneNeighbours (graphIn (now (graph .entry))) (workOf n (now (sets .entry)) (now (ws .entry)) true))
         n r (now (sets .exit)) (now (ws .exit)) (now (optional .exit))) ⌝ }
 {
-    let Progress::Changed(c) = walk(graph, false, marks, sets, ws, optional, reduced, false) else {
+    let Progress::Changed(c) = walk(graph, false, marks, sets, ws, optional, later, false) else {
         return Progress::Full;
     };
     walk(graph, true, marks, sets, ws, optional, true, c)

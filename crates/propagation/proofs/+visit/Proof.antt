@@ -35,11 +35,11 @@ abbrev claims : ℕ → lts.Claims
 claims t = (next-near-reads.Asked, next-near-reads.Learnt, leave-reads.Asked, leave-reads.Learnt, below t, visit.Post)
 
 abbrev Inv-loop : lts.InvT-loop
-Inv-loop graph backward b marks₀ sets₀ ws₀ optional₀ reduced changed so-far₀ from₀ marks sets ws optional so-far from =
-    Neighbouring graph backward reduced b (visitedOf (sizeIn graph) marks₀ sets₀ ws₀ so-far₀) marks sets ws optional so-far from
+Inv-loop graph backward b marks₀ sets₀ ws₀ optional₀ later changed so-far₀ from₀ marks sets ws optional so-far from =
+    Neighbouring graph backward later b (visitedOf (sizeIn graph) marks₀ sets₀ ws₀ so-far₀) marks sets ws optional so-far from
 
 abbrev μ-loop : lts.MeasureT-loop
-μ-loop graph backward b marks₀ sets₀ ws₀ optional₀ reduced changed so-far₀ from₀ marks sets ws optional so-far from = 128 - from
+μ-loop graph backward b marks₀ sets₀ ws₀ optional₀ later changed so-far₀ from₀ marks sets ws optional so-far from = 128 - from
 
 -- The ways back. Each `&mut` that a call is passed is a place of its own.
 
@@ -59,11 +59,11 @@ abbrev of-visit : (t : ℕ) → lts.After-visit-arg4 (claims t) (at t) visit.Pos
 of-visit t a = to-visit t a .before .before .before
 
 enters : (t : ℕ) (s : lts.Start (claims t) (at t) visit.Post Inv-loop μ-loop) → let a = s .args in
-    Enters (a .graph .now) (a .b) (a .marks .now) (a .sets .now) (a .ws .now) (a .optional .now) (a .reduced)
+    Enters (a .graph .now) (a .b) (a .marks .now) (a .sets .now) (a .ws .now) (a .optional .now) (a .later)
 enters t s = record { ready = s .pre .1 .0; before = s .pre .1 .1; inside = s .pre .1 .2; long = s .pre .1 .3; unmarked = s .pre .1 .4 }
 
 looping : (t : ℕ) (l : lts.At-loop (claims t) (at t) visit.Post Inv-loop μ-loop) → let a = entry t l .args in
-    Looping (a .graph .now) (a .backward) (a .reduced) (a .b) (a .marks .now) (a .sets .now) (a .ws .now) (a .optional .now) (a .changed)
+    Looping (a .graph .now) (a .backward) (a .later) (a .b) (a .marks .now) (a .sets .now) (a .ws .now) (a .optional .now) (a .changed)
     (l .loop .marks) (l .loop .sets) (l .loop .ws) (l .loop .optional) (l .loop .so-far) (l .loop .from)
 looping t l = record { entry = enters t (entry t l); inv = l .loop .inv }
 
@@ -90,7 +90,7 @@ next-near-requires t c κs = let s = entry t (c .before) in (s .pre .1 .0 .fits,
 
 -- what `leave` asks
 left : (t : ℕ) (l : lts.At-loop (claims t) (at t) visit.Post Inv-loop μ-loop) → let a = entry t l .args in
-    Ready (a .graph .now) (l .loop .sets) (l .loop .ws) (l .loop .optional) × ReducedBefore (a .reduced) (sizeIn (a .graph .now)) (l .loop .sets) (l .loop .ws)
+    Ready (a .graph .now) (l .loop .sets) (l .loop .ws) (l .loop .optional) × ReducedBefore (a .later) (sizeIn (a .graph .now)) (l .loop .sets) (l .loop .ws)
     × (a .b < sizeIn (a .graph .now)) × (length (l .loop .marks) ≡ 128)
 left t l = let f = looping t l in (still-ready f, f .inv .along .before, f .entry .inside, f .inv .along .long)
 
