@@ -1,10 +1,10 @@
 // All assumed paths of a job entered into the registry, straight from its bytes, and each block's set of them stored in its row.
 ghost use mathlib.Core.Path.{_≡_};
+ghost use mathlib.Core.List.{[]};
 ghost use Prim.Native.Nat.{_≤_};
 ghost use lib.ListN.{length};
 ghost use Rattle.rows.specs.Rows.{Lent};
 ghost use Rattle.registry.specs.Words.{registryOf, Held};
-ghost use mathlib.Core.List.{[]};
 ghost use Rattle.model.specs.Read.{readMany};
 ghost use Rattle.model.specs.Job.{PA, readPath, readBlock};
 ghost use Rattle.model.specs.Answer.{spanWidth};
@@ -53,6 +53,7 @@ fn enter_block(s: &[u8], at: usize, ws: &mut [u64; 1665], optional: &mut [u64; 8
     requires { ⌜ Held (now ws) (now optional) × IsRead (readBlock spanWidth (now s) at) ⌝ }
     ensures { λ r. ⌜ Fills (enterPaths (registryOf (now (ws .entry))) [] (assumedAt (now (s .entry)) at)) r (now (ws .exit)) (now (optional .exit)) ⌝ }
 {
+    // A block that was read has its head and its ids, so this is never the answer.
     let none = EnteredSet {
         set: NodeBits::empty(),
         full: true,
