@@ -77,12 +77,12 @@ filling reg s ws os set start count held is none x = record {
 }
 
 module _ {want : Entered} {s ws os set : List ℕ} {at left : ℕ} (x : Filling want s ws os set at left) where
-  pub filling-end : left ≤ 0 → want ≡ record { registry = registryOf ws; set = membersOf set }
+  pub filling-end : left ≤ 0 → Held ws os × (want ≡ record { registry = registryOf ws; set = membersOf set })
   filling-end none =
       let zero-left : left ≡ 0 = omega arith in
       let nothing : got [] at ≡ got (x .rest) (x .end) = subst (λ n. readMany n (readPath 4 PA) s at ≡ got (x .rest) (x .end)) zero-left (x .read) in
       let no : [] ≡ x .rest = cc in
-      x .same ∙ ap (enterPaths (registryOf ws) (membersOf set)) (sym no)
+      (x .held, x .same ∙ ap (enterPaths (registryOf ws) (membersOf set)) (sym no))
 
   module _ (some : 0 < left) (r : EnteredPath) (us ps : List ℕ) (entered : Enters (readPath 4 PA s at) (getOrCreateProperty (registryOf ws)) r us ps) where
     -- the first of the paths that are left, and the others

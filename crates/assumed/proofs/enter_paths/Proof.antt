@@ -52,7 +52,7 @@ loop-again c =
     filling-more (l .before .loop .inv) (l .loop-test .taken) (call .enter-path .result) _ _ (call .enter-path .ensures) _ _ (c .before .before .entered .given .1) _ (c .insert .ensures)
 
 returns-2 : tie.Need-returns-2 Inv-loop μ-loop
-returns-2 c = (c .before .loop .inv .held, filling-end (c .before .loop .inv) (c .loop-test .left))
+returns-2 c = filling-end (c .before .loop .inv) (c .loop-test .left)
 
 pub enter-paths-spec : {M : Type 1} → statement M
 enter-paths-spec =
