@@ -393,7 +393,7 @@ abbrev pub IsReduced : PropertyPathRegistry → NodeSet → Type 0
 IsReduced reg s = pass reg s ≡ unchanged reg s
 
 -- a node's path, walked again, leads back to the node and makes nothing
-abbrev LeadsBack : PropertyPathRegistry → NodeSet → NodeId → Type 0
+abbrev pub LeadsBack : PropertyPathRegistry → NodeSet → NodeId → Type 0
 LeadsBack reg s k = walkPath (reducedMark s) reg (fullPathOf reg k) ≡ record { registry = reg; node = k }
 
 -- a walk that comes back to its node took no mark away, so it is the walk under the path's own marks
@@ -410,7 +410,7 @@ node-back s reg k h le same =
     ap (marksAt (to .registry)) (same-node (to .node) k same) ∙ ap (λ (p : ReactiveScopeDependency). optionalMarks (p .path)) (extends-path k (path-extends (reducedMark s) reg d) le) in
     low .kept (omega arith) ∙ leads-back reg h (suc (k .0)) k (le-refl _) le (d .reactive) (d .span)
 
-node-still : (r : Reduced) (k : NodeId) → LeadsBack (r .registry) (r .set) k → reduceNode r k ≡ r
+pub node-still : (r : Reduced) (k : NodeId) → LeadsBack (r .registry) (r .set) k → reduceNode r k ≡ r
 unfolding reduceNode
 node-still r k e =
     ap (λ (at : Reached). record { registry = at .registry; set = cond (sameNode (at .node) k) (r .set) (insert (at .node) (remove k (r .set))); changed = r .changed || not (sameNode (at .node) k) }) e

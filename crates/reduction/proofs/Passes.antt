@@ -19,7 +19,7 @@ use Rattle.model.specs.Sets.{NodeSet, sameNode, contains, insert, remove, inter
 use Rattle.model.specs.Registry.{nodeLimit, PropertyPathRegistry, Reached, fullPathOf, walkPath}
 use Rattle.model.specs.RegistryLaws.{Sound, Proper, Extends, extends-length, path-proper}
 use Rattle.model.specs.Reduction.{Reduced, reducedMark, reduceNode, reduceNodes, hasOptional, pass}
-use Rattle.model.specs.ReductionLaws.{Members, node-extends, nodes-extend}
+use Rattle.model.specs.ReductionLaws.{Members, LeadsBack, node-still, node-extends, nodes-extend}
 use Rattle.reduction.specs.declared.ReducedSet.{ReducedSet}
 use Rattle.reduction.specs.Reduces.{reducedOf, ReducesBy, Reduces}
 
@@ -120,6 +120,15 @@ module _ {end : Reduced} {snapshot ws os : List ℕ} {r : ReducedSet} {from : �
 
     pub along-ahead : (from ≤ k .0) × (k .0 < 512)
     along-ahead = (ahead .from, ahead .below)
+
+    -- a node whose path leads back to it is passed over
+    pub along-still : LeadsBack (registryOf ws) (membersOf (r .set .words)) k → Along end snapshot ws os r (k .0 + 1)
+    along-still back = record {
+      held = a .held;
+      room = a .room;
+      inside = all .1;
+      left = ap (λ (x : Reduced). reduceNodes x (membersFrom snapshot (k .0 + 1))) (sym (node-still (reducedOf (registryOf ws) r) k back)) ∙ onward;
+    }
 
     pub along-full : (q : ReducedSet) (vs ps : List ℕ) → q .full ≡ true → Reduces one q vs ps → Reduces end q vs ps
     along-full q vs ps e full =

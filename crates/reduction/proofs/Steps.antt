@@ -19,7 +19,9 @@ use Rattle.registry.specs.Words.{nodeAt, countIn, registryOf, Held, Arrives}
 use Rattle.registry.proofs.View.{registry-length, origin-at}
 use Rattle.model.specs.Registry.{nodeLimit, PropertyPathRegistry, Reached, Origin, root, childOf, fullPathOf, withOptional, getOrCreatePropertyEntry, isChildBy, childNode, walkPath}
 use Rattle.model.specs.RegistryLaws.{Sound, Proper, Extends, extends-length, find-extends, ensure-extends, path-extends, path-proper, found, stepFrom, again-root, again-child, child-after, child-found}
+use Rattle.model.specs.Sets.{NodeSet}
 use Rattle.model.specs.Reduction.{reducedMark}
+use Rattle.model.specs.ReductionLaws.{LeadsBack}
 use Rattle.reduction.specs.Reduces.{ChildAt}
 
 -- An answer by its case.
@@ -97,3 +99,26 @@ module _ (mark : NodeId → DependencyPathEntry → Bool) {ws : List ℕ} {k : N
 
       pub walk-child : (r : Entered) (us os : List ℕ) → Arrives (stepFrom mark (record { registry = registryOf vs; node = q }) e) r us os → Arrives (again k) r us os
       walk-child r us os a = subst (λ (y : Reached). Arrives y r us os) (ap (λ (y : Reached). stepFrom mark y e) (sym walked) ∙ sym on) a
+
+    -- the parent's walk leads back to it, and the entry keeps its mark
+    pub walk-back : (o : Bool) → o ≡ mark p e → o ≡ e .optional → again p ≡ record { registry = reg; node = p } → again k ≡ record { registry = reg; node = k }
+    walk-back o own kept back = on ∙ ap (λ (y : Reached). stepFrom mark y e) back ∙ step-same mark reg p p k e o own (child-still ws back) refl kept
+
+-- A node that is reached from parent to parent: where its path leads back to it, so does that of the first node.
+pub record Climbing (ws : List ℕ) (s : NodeSet) (k at : NodeId) : Type 0 where
+  pub inside : at .0 < countIn ws
+  pub on : LeadsBack (registryOf ws) s at → LeadsBack (registryOf ws) s k
+
+module _ {ws : List ℕ} {s : NodeSet} {k at : NodeId} (x : Climbing ws s k at) (sound : Sound (registryOf ws)) {n : Node} (loaded : n ≡ nodeAt ws (at .0)) where
+  here : Loaded ws at n
+  here = record { sound = sound; here = x .inside; loaded = loaded }
+
+  pub climbed : {i : IdentifierId} {r : Bool} {span : ℕ} → n ≡ Root i r span → LeadsBack (registryOf ws) s k
+  climbed {i} {r} {span} e = x .on (walk-root (reducedMark s) here i r span e)
+
+  module _ {p : NodeId} {e : DependencyPathEntry} (child : n ≡ Child p e) where
+    pub climb-lower : p .0 < at .0
+    climb-lower = parent-before (reducedMark s) here child
+
+    pub climb : (o : Bool) → o ≡ reducedMark s p e → o ≡ e .optional → Climbing ws s k p
+    climb o own kept = record { inside = let l = climb-lower in let i = x .inside in omega arith; on = λ back. x .on (walk-back (reducedMark s) here child o own kept back) }

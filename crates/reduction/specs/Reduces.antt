@@ -9,13 +9,20 @@ use Rattle.entries.specs.declared.DependencyPathEntry.{DependencyPathEntry}
 use Rattle.rows.specs.Members.{membersOf}
 use Rattle.registry.specs.Words.{registryOf, Held}
 use Rattle.model.specs.Registry.{nodeLimit, PropertyPathRegistry, find, isChildBy}
+use Rattle.model.specs.Sets.{NodeSet}
 use Rattle.model.specs.Reduction.{Reduced}
+use Rattle.model.specs.ReductionLaws.{LeadsBack}
 use Rattle.reduction.specs.declared.ReducedSet.{ReducedSet}
 
 -- node k is the child of p by the entry e
 pub record ChildAt (reg : PropertyPathRegistry) (p : NodeId) (e : DependencyPathEntry) (k : NodeId) : Type 0 where
   pub inside : k .0 < length reg
   pub first : find (isChildBy p e) reg ≡ k .0
+
+-- What is told of a node where its path leads back to it.
+abbrev pub LeadsBackIf : Bool → PropertyPathRegistry → NodeSet → NodeId → Type 0
+LeadsBackIf true reg s k = LeadsBack reg s k
+LeadsBackIf false reg s k = Unit {0}
 
 -- the model's value of a registry and a set as the code holds it
 abbrev pub reducedOf : PropertyPathRegistry → ReducedSet → Reduced

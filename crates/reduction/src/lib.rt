@@ -3,12 +3,12 @@ ghost use mathlib.Core.Path.{_≡_};
 ghost use Prim.Native.Nat.{_<_};
 ghost use Rattle.entries.specs.declared.NodeId.{NodeId};
 ghost use Rattle.rows.specs.Members.{membersOf};
-ghost use Rattle.registry.specs.Words.{countIn, registryOf, Held, Arrives};
+ghost use Rattle.registry.specs.Words.{countIn, registryOf, HoldsRegistry, Held, Arrives};
 ghost use Rattle.model.specs.Registry.{fullPathOf, walkPath};
 ghost use Rattle.model.specs.RegistryLaws.{stepFrom};
 ghost use Rattle.model.specs.Reduction.{reducedMark, reduceNode, pass, reduceMaybeOptionalChains};
 ghost use Rattle.model.specs.ReductionLaws.{Members};
-ghost use Rattle.reduction.specs.Reduces.{ChildAt, reducedOf, Reduces};
+ghost use Rattle.reduction.specs.Reduces.{ChildAt, LeadsBackIf, reducedOf, Reduces};
 use entries::DependencyPathEntry;
 use entries::NodeId;
 use registry::Entered;
@@ -89,6 +89,27 @@ pub fn walk_again(
     }
 }
 
+// Whether each optional entry of node k's path keeps its mark, so that the path leads back to k. This walks up the parents and searches nothing.
+fn leads_back(ws: &[u64; 1665], set: NodeBits, k: NodeId) -> bool
+    requires { ⌜ HoldsRegistry (now ws) × (k .0 < countIn (now ws)) ⌝ }
+    ensures { λ r. ⌜ LeadsBackIf r (registryOf (now (ws .entry))) (membersOf (set .words)) k ⌝ }
+{
+    let mut at = k;
+    loop {
+        let n = load(ws, at);
+        let Node::Child(p, e) = n else {
+            return true;
+        };
+        let marked = e.optional;
+        let kept = reduced_mark(set, p, e);
+        if kept == marked {
+            at = p;
+        } else {
+            return false;
+        }
+    }
+}
+
 // One node of a pass: where its path leads elsewhere now, the node that it leads to takes its place at once.
 fn reduce_node(
     ws: &mut [u64; 1665],
@@ -141,11 +162,15 @@ fn pass(ws: &mut [u64; 1665], optional: &mut [u64; 8], set: NodeBits) -> Reduced
         let Next::At(k) = snapshot.next(from) else {
             return r;
         };
-        r = reduce_node(ws, optional, r, k);
-        if r.full {
-            return r;
+        if leads_back(ws, r.set, k) {
+            from = k.0 + 1;
+        } else {
+            r = reduce_node(ws, optional, r, k);
+            if r.full {
+                return r;
+            }
+            from = k.0 + 1;
         }
-        from = k.0 + 1;
     }
     r
 }
