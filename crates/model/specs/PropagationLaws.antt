@@ -52,7 +52,7 @@ unfolding intersectionOf
 members-intersection reg [] a = members-empty reg
 members-intersection reg (s ∷ ss) a = members-intersections reg s ss (a .0)
 
-members-setOf : (w : Work) → ProperWork w → (b : ℕ) → Members (w .registry) (setOf (w .sets) b)
+pub members-setOf : (w : Work) → ProperWork w → (b : ℕ) → Members (w .registry) (setOf (w .sets) b)
 members-setOf w p b = all-getD (Members (w .registry)) (w .sets) b [] (p .members) (members-empty (w .registry))
 
 -- what a block reduces: its set, joined

@@ -12,19 +12,19 @@ use Rattle.model.specs.Reduction.{Reduced, reduceMaybeOptionalChains}
 use Rattle.model.specs.ReductionLaws.{Members, unchanged, IsReduced, reduced-already}
 use Rattle.model.specs.Visit.{leave}
 use Rattle.model.specs.Propagation.{Work, setOf, doneNeighbours, intersectionOf, joinWith, join}
-use Rattle.model.specs.PropagationLaws.{ProperWork, joinedSet, members-joined, join-proper}
+use Rattle.model.specs.PropagationLaws.{ProperWork, joinedSet, members-setOf, members-joined, join-proper}
 use Rattle.rows.specs.Members.{membersOf}
 use Rattle.rows.specs.Rows.{rowOf, rowsOf, RowSet}
 use Rattle.rows.proofs.Rows.{row-at}
 use Rattle.rows.proofs.Members.{same-self, same-lists}
 use Rattle.registry.specs.Words.{registryOf, Held}
 use Rattle.reduction.specs.declared.ReducedSet.{ReducedSet}
-use Rattle.reduction.specs.Reduces.{reducedOf, Reduces}
+use Rattle.reduction.specs.Reduces.{KnownReduced, reducedOf, Reduces}
 use Rattle.reduction.proofs.Passes.{reduces-to, reduces-full}
 use Rattle.graph.specs.Bytes.{sizeIn, neighbours}
 use Rattle.propagation.specs.declared.Progress.{Progress}
 use Rattle.propagation.specs.declared.Progress.the-variants.{Changed, Full}
-use Rattle.propagation.specs.Joins.{marksOf, workOf, visitedOf, joinIn, doneSets, Ready, AllReduced, Holds, Joins, Visits}
+use Rattle.propagation.specs.Joins.{marksOf, workOf, visitedOf, joinIn, doneSets, Ready, ReducedBefore, AllReduced, Holds, Joins, Visits}
 use Rattle.propagation.proofs.Marks.{mark-set}
 use Rattle.propagation.proofs.Reductions.{stands-proper}
 
@@ -61,6 +61,12 @@ module _ {g : List ℕ} {backward : Bool} {b : ℕ} {marks sets ws os own found 
     pub join-members : Members (registryOf ws) (membersOf all)
     unfolding workOf
     join-members = subst (Members (registryOf ws)) (sym joined-is) (members-joined (done g backward b marks) b (workOf (sizeIn g) sets ws changed) proper)
+
+    -- the block's own set is reduced where all are
+    pub join-known : {later : Bool} → ReducedBefore later (sizeIn g) sets ws → KnownReduced later (registryOf ws) (membersOf own)
+    unfolding workOf
+    join-known before e =
+        (subst (Members (registryOf ws)) (sym own-row) (members-setOf (workOf (sizeIn g) sets ws changed) proper b), subst (IsReduced (registryOf ws)) (sym own-row) (before e b (made .inside)))
 
     -- what a reduced set makes of the work
     abbrev joinedBy : Reduced → Work

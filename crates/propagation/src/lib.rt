@@ -132,7 +132,7 @@ fn join(
     if later && own.same_set(all) {
         return Progress::Changed(changed);
     }
-    let r = reduction::reduce_maybe_optional_chains(ws, optional, all);
+    let r = reduction::reduce_maybe_optional_chains(ws, optional, all, own, later);
     if r.full {
         return Progress::Full;
     }

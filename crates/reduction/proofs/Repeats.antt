@@ -11,11 +11,11 @@ use Rattle.registry.specs.Words.{registryOf, Held}
 use Rattle.model.specs.Tests.{decide}
 use Rattle.model.specs.Sets.{NodeSet}
 use Rattle.model.specs.Registry.{PropertyPathRegistry}
-use Rattle.model.specs.RegistryLaws.{extends-length}
+use Rattle.model.specs.RegistryLaws.{Extends, extends-length}
 use Rattle.model.specs.Reduction.{Reduced, pass, optionalMarksOf, reduceMaybeOptionalChains}
-use Rattle.model.specs.ReductionLaws.{Members, pass-shrunk, pass-less, reduction-extends, reduction-repeats}
+use Rattle.model.specs.ReductionLaws.{Members, members-extends, pass-extends, pass-shrunk, pass-less, reduction-extends, reduction-repeats, reduced-extends, reduced-already}
 use Rattle.reduction.specs.declared.ReducedSet.{ReducedSet}
-use Rattle.reduction.specs.Reduces.{reducedOf, ReducesBy, Reduces}
+use Rattle.reduction.specs.Reduces.{KnownReduced, reducedOf, ReducesBy, Reduces}
 use Rattle.reduction.proofs.Passes.{reduces-to, reduces-full}
 
 -- what comes after a pass
@@ -88,6 +88,26 @@ module _ {end : Reduced} {ws os : List ℕ} {r : ReducedSet} (a : Repeating end 
                 (λ t. ap (onwards (registryOf vs) q) t ∙ ap (λ (x : Reduced). reduceMaybeOptionalChains (x .registry) (x .set)) (sym (to .1)) ∙ sym (on .0 (flag ∙ t)) ∙ whole)
                 (λ t. ap (onwards (registryOf vs) q) t ∙ sym (to .1) ∙ sym (on .1 (flag ∙ t)) ∙ whole);
           }
+
+      -- a set that is known to be reduced stays so while the passes make nodes
+      pub known-more : {known : Bool} (t : NodeSet) → KnownReduced known reg t → KnownReduced known (registryOf vs) t
+      known-more t k e =
+          let longer = subst (λ (x : Reduced). Extends reg (x .registry)) (to .1) (pass-extends reg s) in
+          let held = k e in
+          (members-extends t longer (held .0), reduced-extends reg t (a .held .sound) (held .0) longer (held .1))
+
+      -- the pass left a set that is known to be reduced
+      pub repeating-known : {known : Bool} (t : NodeBits) → KnownReduced known reg (membersOf (t .words)) → known ≡ true → membersOf (t .words) ≡ membersOf (q .set .words)
+          → Reduces end (record { set = t; changed = false; full = false }) vs ps
+      repeating-known {known} t k e same =
+          let after = known-more {known = known} (membersOf (t .words)) k e in
+          let done = reduced-already (registryOf vs) (membersOf (t .words)) (to .0 .sound) (after .0) (after .1) in (
+            to .0,
+            sym (repeating-more .left)
+                ∙ decide (q .changed)
+                (λ c. ap (onwards (registryOf vs) q) c ∙ ap (reduceMaybeOptionalChains (registryOf vs)) (sym same) ∙ done)
+                (λ c. ap (onwards (registryOf vs) q) c ∙ (λ i. record { registry = registryOf vs; set = sym same i; changed = c i })),
+          )
 
       pub repeating-less : passesLeft vs q < passesLeft ws r
       repeating-less =

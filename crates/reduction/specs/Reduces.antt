@@ -11,7 +11,7 @@ use Rattle.registry.specs.Words.{registryOf, Held}
 use Rattle.model.specs.Registry.{nodeLimit, PropertyPathRegistry, find, isChildBy}
 use Rattle.model.specs.Sets.{NodeSet}
 use Rattle.model.specs.Reduction.{Reduced}
-use Rattle.model.specs.ReductionLaws.{LeadsBack}
+use Rattle.model.specs.ReductionLaws.{Members, LeadsBack, IsReduced}
 use Rattle.reduction.specs.declared.ReducedSet.{ReducedSet}
 
 -- node k is the child of p by the entry e
@@ -23,6 +23,10 @@ pub record ChildAt (reg : PropertyPathRegistry) (p : NodeId) (e : DependencyPath
 abbrev pub LeadsBackIf : Bool → PropertyPathRegistry → NodeSet → NodeId → Type 0
 LeadsBackIf true reg s k = LeadsBack reg s k
 LeadsBackIf false reg s k = Unit {0}
+
+-- A set of the registry's nodes is reduced, where that is known.
+abbrev pub KnownReduced : Bool → PropertyPathRegistry → NodeSet → Type 0
+KnownReduced known reg s = known ≡ true → Members reg s × IsReduced reg s
 
 -- the model's value of a registry and a set as the code holds it
 abbrev pub reducedOf : PropertyPathRegistry → ReducedSet → Reduced

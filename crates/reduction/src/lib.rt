@@ -8,7 +8,7 @@ ghost use Rattle.model.specs.Registry.{fullPathOf, walkPath};
 ghost use Rattle.model.specs.RegistryLaws.{stepFrom};
 ghost use Rattle.model.specs.Reduction.{reducedMark, reduceNode, pass, reduceMaybeOptionalChains};
 ghost use Rattle.model.specs.ReductionLaws.{Members};
-ghost use Rattle.reduction.specs.Reduces.{ChildAt, LeadsBackIf, reducedOf, Reduces};
+ghost use Rattle.reduction.specs.Reduces.{ChildAt, LeadsBackIf, KnownReduced, reducedOf, Reduces};
 use entries::DependencyPathEntry;
 use entries::NodeId;
 use registry::Entered;
@@ -175,13 +175,15 @@ fn pass(ws: &mut [u64; 1665], optional: &mut [u64; 8], set: NodeBits) -> Reduced
     r
 }
 
-// Passes until one changes nothing.
+// Passes until one changes nothing. Where `known` says that the set `before` is reduced, a pass that leaves that set is the last: the next would change nothing.
 pub fn reduce_maybe_optional_chains(
     ws: &mut [u64; 1665],
     optional: &mut [u64; 8],
     set: NodeBits,
+    before: NodeBits,
+    known: bool,
 ) -> ReducedSet
-    requires { ⌜ Held (now ws) (now optional) × Members (registryOf (now ws)) (membersOf (set .words)) ⌝ }
+    requires { ⌜ Held (now ws) (now optional) × Members (registryOf (now ws)) (membersOf (set .words)) × KnownReduced known (registryOf (now ws)) (membersOf (before .words)) ⌝ }
     ensures { λ r. ⌜ Reduces (reduceMaybeOptionalChains (registryOf (now (ws .entry))) (membersOf (set .words))) r (now (ws .exit)) (now (optional .exit)) ⌝ }
 {
     let mut r = ReducedSet {
@@ -193,6 +195,13 @@ pub fn reduce_maybe_optional_chains(
         r = pass(ws, optional, r.set);
         if r.full {
             return r;
+        }
+        if known && before.same_set(r.set) {
+            return ReducedSet {
+                set: before,
+                changed: false,
+                full: false,
+            };
         }
     }
     r

@@ -3,7 +3,7 @@
 use native.Mathlib.Omega.{arith}
 use mathlib.Core.Path.{refl, sym, _∙_}
 use borrow.Author.Needs.{needs}
-use Rattle.propagation.proofs.Joining.{Made, join-members, join-still, join-full, join-holds}
+use Rattle.propagation.proofs.Joining.{Made, join-members, join-known, join-still, join-full, join-holds}
 use Rattle.propagation.proofs.join.Statement.{statement}
 use Rattle.propagation.proofs.join.Tie as tie
 
@@ -24,7 +24,7 @@ intersection-of-done-requires : tie.Need-intersection-of-done-requires
 intersection-of-done-requires c κs = let s = c .before .before .before in (s .pre .0 .fits, s .pre .2)
 
 reduce-maybe-optional-chains-requires : tie.Need-reduce-maybe-optional-chains-requires
-reduce-maybe-optional-chains-requires c κs = let u = c .before .before .before in (entry u .pre .0 .stands .held, join-members (made u) (entry u .args .changed))
+reduce-maybe-optional-chains-requires c κs = let u = c .before .before .before in (entry u .pre .0 .stands .held, join-members (made u) (entry u .args .changed), join-known (made u) (entry u .args .changed) (entry u .pre .1))
 
 returns : tie.Need-returns
 returns c =
