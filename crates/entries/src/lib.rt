@@ -1,6 +1,6 @@
 // The types that all crates share. A number is kept in a struct of its own where the Rust keeps it apart from other numbers.
 ghost use mathlib.Core.Path.{_≡_};
-ghost use Rattle.entries.specs.Path.{sameProperty, sameEntry};
+ghost use Rattle.entries.specs.Path.{sameProperty, sameEntry, areEqualPaths};
 ghost use Rattle.entries.specs.Property.{propertyOf, isNumber, valueOf};
 ghost use Rattle.entries.specs.Access.{isOptionalAccess, isDependencyAccess, accessOf, mergeAccess};
 ghost use Rattle.entries.specs.Refusals.{refusalNumber};
@@ -88,6 +88,19 @@ impl DependencyPathEntry {
             false
         }
     }
+}
+
+// `are_equal_paths` of the Rust: as many entries, and the same property and the same optional mark at each place; spans do not count.
+pub fn are_equal_paths(a: &[DependencyPathEntry], b: &[DependencyPathEntry]) -> bool
+    ensures { λ r. ⌜ r ≡ areEqualPaths (now (a .entry)) (now (b .entry)) ⌝ }
+{
+    let mut equal = a.len() == b.len();
+    let mut i = 0;
+    while equal && i < a.len() {
+        equal = a[i].same(b[i]);
+        i += 1;
+    }
+    equal
 }
 
 // How a position of the dependency tree is reached, and whether a dependency ends there.
