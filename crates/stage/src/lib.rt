@@ -148,7 +148,7 @@ pub fn perform(operation: Operation, s: &[u8], out: &mut [u8]) -> Outcome
     }
     let mut ids = [0u32; 128];
     let mut places = [0usize; 128];
-    let read = job::read_job(s, &mut ids, &mut places);
+    let read = reader::read_job(s, &mut ids, &mut places);
     match read {
         ReadJob::Value(head) => perform_read(operation, s, &ids, &places, head, out),
         ReadJob::Refused(refusal) => Outcome::Refused(refusal),
