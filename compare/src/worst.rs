@@ -101,6 +101,27 @@ pub fn loaded_ladder(steps: usize, climbs: usize, count: usize, length: usize) -
     job
 }
 
+/// A ladder of `steps` steps in which the first `kinds` of the four kinds of its blocks (by place modulo 4) have a root and
+/// its child of their own, and all other blocks the child by an optional entry. At each visit that entry joins the set and is
+/// reduced to the child that is there, so the reduction is run although it changes nothing.
+pub fn joined_anew(mut job: Job, steps: usize, kinds: usize) -> Job {
+    let (ladder, source) = (2 * steps, job.blocks.len() - 2);
+    for kind in 0..kinds {
+        let root = 20 + kind as u32;
+        let optional = path(root, 10, 1, true);
+        for (place, block) in job.blocks[..=ladder].iter_mut().enumerate() {
+            if place < ladder && place % 4 == kind {
+                block.assumed.extend([path(root, 10, 0, false), path(root, 10, 1, false)]);
+            } else {
+                block.assumed.push(optional.clone());
+            }
+        }
+        // The source is before each high block.
+        job.blocks[source].assumed.push(optional);
+    }
+    job
+}
+
 /// Blocks each after the `predecessors` blocks before it, in a ring or not.
 pub fn dense(count: usize, predecessors: usize, ring: bool) -> Vec<Block> {
     let before = |id: u32| {

@@ -151,18 +151,54 @@ pub fn spread(seed: u64, count: usize, mut accepted: impl FnMut(&[u8]) -> bool) 
     sizes.chain(generated).filter(|job| accepted(job)).take(count).collect()
 }
 
+/// A job with its name.
+type Named = (String, Job);
+
 /// Jobs among which the slowest is looked for, each with its name.
 pub fn slow_jobs() -> Vec<(String, Vec<u8>)> {
-    let mut jobs: Vec<(String, Job)> = worst::jobs();
+    let jobs = [worst::jobs(), ladders(), dense_graphs(), chains()].concat();
+    jobs.into_iter().map(|(name, job)| (name, job.to_bytes())).collect()
+}
+
+/// How many optional chains, and of how many entries each, that nothing makes plain.
+const BALLAST: [(usize, usize); 12] = [
+    (480, 1),
+    (400, 1),
+    (340, 1),
+    (340, 2),
+    (300, 1),
+    (300, 2),
+    (260, 1),
+    (240, 3),
+    (220, 1),
+    (120, 7),
+    (56, 16),
+    (48, 16),
+];
+
+/// Jobs of about 100 rounds, with and without blocks at which a path joins anew at each visit.
+fn ladders() -> Vec<Named> {
+    let mut jobs = Vec::new();
     for (steps, climbs) in [(61, 2), (50, 2), (33, 3)] {
-        for (count, length) in
-            [(480, 1), (400, 1), (340, 2), (300, 2), (240, 3), (120, 7), (56, 16), (48, 16)]
-        {
-            let job = worst::loaded_ladder(steps, climbs, count, length);
-            let chains = format!("{count} optional chains of {length} entries in all blocks");
-            jobs.push((format!("ladder of {steps} steps climbed {climbs} times, {chains}"), job));
+        for (count, length) in BALLAST {
+            for kinds in 0..=4 {
+                let name = format!(
+                    "ladder of {steps} steps climbed {climbs} times, {count} optional chains of {length} entries in all blocks, \
+                     {kinds} of 4 kinds of blocks joined anew"
+                );
+                jobs.push((
+                    name,
+                    worst::joined_anew(worst::loaded_ladder(steps, climbs, count, length), steps, kinds),
+                ));
+            }
         }
     }
+    jobs
+}
+
+/// Blocks with many predecessors, and paths in the middle one.
+fn dense_graphs() -> Vec<Named> {
+    let mut jobs = Vec::new();
     for (count, predecessors) in [(128, 32), (128, 48), (96, 60), (64, 63)] {
         for ring in [false, true] {
             for (kind, paths) in [
@@ -179,6 +215,12 @@ pub fn slow_jobs() -> Vec<(String, Vec<u8>)> {
             }
         }
     }
+    jobs
+}
+
+/// Chains of 128 blocks in both orders, with paths in one block.
+fn chains() -> Vec<Named> {
+    let mut jobs = Vec::new();
     for (kind, paths) in [
         ("120 optional chains of 16 entries", worst::ballast(120, 16)),
         ("240 optional chains of 7 entries", worst::ballast(240, 7)),
@@ -195,5 +237,5 @@ pub fn slow_jobs() -> Vec<(String, Vec<u8>)> {
             }
         }
     }
-    jobs.into_iter().map(|(name, job)| (name, job.to_bytes())).collect()
+    jobs
 }

@@ -94,6 +94,11 @@ impl Timer {
         Times { library, library_reading, rust_stage, rust_reading, rust_writing }
     }
 
+    /// Whether the library accepts a job.
+    pub fn accepts(&mut self, job: &[u8]) -> bool {
+        interface::answer(job, &mut self.out).is_ok()
+    }
+
     /// The library's answer of a job.
     pub fn time_library(&mut self, job: &[u8]) -> f64 {
         let start = Instant::now();

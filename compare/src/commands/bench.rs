@@ -51,13 +51,13 @@ mod timing {
             ratios.push(row(class.name, &timed));
             all.extend(timed);
         }
-        let (name, job) = slowest(&mut timer, &mut accepted);
+        let (name, job, tried) = slowest(&mut timer);
         let timed = time_jobs(&mut timer, "slowest found", &[job]);
         ratios.push(row("slowest found", &timed));
         all.extend(timed);
         let mean = |of: fn(&[f64; 2]) -> f64| geometric_mean(ratios.iter().map(of));
         println!("{:<76} {:>7.1} {:>7.1}", "geometric mean of the classes", mean(|r| r[0]), mean(|r| r[1]));
-        println!("the slowest job found: {name}");
+        println!("the slowest of {tried} accepted jobs at the limits: {name}");
         if let Some(file) = &options.plot {
             all.extend(time_jobs(
                 &mut timer,
@@ -94,14 +94,20 @@ mod timing {
         ratios
     }
 
-    /// The job for which the library takes longest, of those tried.
-    fn slowest(timer: &mut Timer, mut accepted: impl FnMut(&[u8]) -> bool) -> (String, Vec<u8>) {
-        let jobs = slow_jobs().into_iter().filter(|(_, job)| accepted(job));
-        let timed = jobs.map(|(name, job)| {
+    /// The job for which the library takes longest, with its name, and how many were tried.
+    fn slowest(timer: &mut Timer) -> (String, Vec<u8>, usize) {
+        let mut slowest = (0.0, String::new(), Vec::new());
+        let mut tried = 0;
+        for (name, job) in slow_jobs() {
+            if !timer.accepts(&job) {
+                continue;
+            }
+            tried += 1;
             let time = (0..3).map(|_| timer.time_library(&job)).fold(f64::INFINITY, f64::min);
-            (time, name, job)
-        });
-        let slowest = timed.max_by(|a, b| a.0.total_cmp(&b.0)).expect("some job is accepted");
-        (slowest.1, slowest.2)
+            if time > slowest.0 {
+                slowest = (time, name, job);
+            }
+        }
+        (slowest.1, slowest.2, tried)
     }
 }
