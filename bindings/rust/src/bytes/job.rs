@@ -1,0 +1,102 @@
+//! Reads a job, or finds the refusal from 2 to 8 with its place.
+
+use super::fields::{Fault, Fields, Malformed};
+use crate::build_error::{check_ids, BadId, IdPlace};
+use crate::ids::BlockId;
+use crate::job::{Block, Job};
+use crate::limits;
+use crate::refusal::{Place, Record, Refusal};
+
+/// Where the scope block's id stands in the header.
+const SCOPE_BYTE: usize = 6;
+/// Where a block's id stands in its record.
+const ID_BYTE: usize = 2;
+/// Where the first predecessor stands in a block's record.
+const PREDECESSORS_BYTE: usize = 8;
+
+pub(crate) fn read_job(bytes: &[u8]) -> Result<Job, Refusal> {
+    if bytes.len() > limits::JOB_BYTES {
+        return Err(Refusal::LongJob);
+    }
+    let mut fields = Fields::new(bytes);
+    let mut block_bytes = Vec::new();
+    let (blocks, candidates, scope) = header(&mut fields).map_err(within(Record::Header))?;
+    let mut job = Job::builder(scope);
+    for block in 0..blocks {
+        block_bytes.push(fields.at());
+        job = job.block(read_block(&mut fields, block)?);
+    }
+    for candidate in 0..candidates {
+        let path = fields.path(*b"CA", "the mark CA").map_err(within(Record::Candidate(candidate)))?;
+        job = job.candidate(path);
+    }
+    fields.end().map_err(within(Record::End))?;
+    let job = job.unchecked();
+    check_ids(&job).map_err(|bad| bad_id(bad, &block_bytes))?;
+    Ok(job)
+}
+
+/// How many blocks and candidates there are, and the scope block.
+fn header(fields: &mut Fields) -> Result<(usize, usize, BlockId), Malformed> {
+    fields.mark(*b"HD", "the mark HD")?;
+    let blocks = fields.long_count(1..=limits::BLOCKS, "how many blocks (1 to 128)")?;
+    let candidates = fields.long_count(0..=limits::CANDIDATES, "how many candidates (0 to 64)")?;
+    let scope = fields.u32("the scope block's id")?;
+    Ok((blocks, candidates, BlockId(scope)))
+}
+
+fn read_block(fields: &mut Fields, place: usize) -> Result<Block, Refusal> {
+    let (mut block, assumed) = block_head(fields).map_err(within(Record::Block(place)))?;
+    for path in 0..assumed {
+        let read =
+            fields.path(*b"PA", "the mark PA").map_err(within(Record::Assumed { block: place, path }))?;
+        block = block.assuming(read);
+    }
+    Ok(block)
+}
+
+/// A block without its assumed paths, and how many they are.
+fn block_head(fields: &mut Fields) -> Result<(Block, usize), Malformed> {
+    fields.mark(*b"BL", "the mark BL")?;
+    let id = BlockId(fields.u32("the block's id")?);
+    let predecessors = fields.count(0..=limits::PREDECESSORS, "how many predecessors (0 to 64)")?;
+    let assumed = fields.count(0..=limits::ASSUMED, "how many assumed paths")?;
+    let mut block = Block::new(id);
+    for _ in 0..predecessors {
+        block = block.after([BlockId(fields.u32("a predecessor's id")?)]);
+    }
+    Ok((block, assumed))
+}
+
+/// The refusal for a field of this record.
+fn within(record: Record) -> impl Fn(Malformed) -> Refusal {
+    move |Malformed { fault, byte, field }| {
+        let place = Some(Place { byte, record, field });
+        match fault {
+            Fault::MissingByte => Refusal::MissingByte(place),
+            Fault::WrongMark => Refusal::WrongMark(place),
+            Fault::OutOfRange => Refusal::OutOfRange(place),
+            Fault::ExtraByte => Refusal::ExtraByte(place),
+        }
+    }
+}
+
+/// The refusal for an id, where the block records start at these bytes.
+fn bad_id(bad: BadId, block_bytes: &[usize]) -> Refusal {
+    let place = match bad.stands {
+        IdPlace::Scope => Place { byte: SCOPE_BYTE, record: Record::Header, field: "the scope block's id" },
+        IdPlace::Block(block) => {
+            let byte = block_bytes[block] + ID_BYTE;
+            Place { byte, record: Record::Block(block), field: "the block's id" }
+        }
+        IdPlace::Predecessor { block, place } => {
+            let byte = block_bytes[block] + PREDECESSORS_BYTE + 4 * place;
+            Place { byte, record: Record::Block(block), field: "a predecessor's id" }
+        }
+    };
+    if bad.repeated {
+        Refusal::RepeatedId(Some(place))
+    } else {
+        Refusal::UnknownBlock(Some(place))
+    }
+}

@@ -1,0 +1,54 @@
+//! Writes a job's bytes.
+
+use crate::job::{Block, Job};
+use crate::path::{Entry, Path, Property};
+
+/// The bytes of a job whose counts fit their fields.
+pub(crate) fn write_job(job: &Job) -> Vec<u8> {
+    let mut out = b"HD".to_vec();
+    out.extend((job.blocks().len() as u16).to_le_bytes());
+    out.extend((job.candidates().len() as u16).to_le_bytes());
+    out.extend(job.scope().0.to_le_bytes());
+    for block in job.blocks() {
+        write_block(&mut out, block);
+    }
+    for candidate in job.candidates() {
+        write_path(&mut out, *b"CA", candidate);
+    }
+    out
+}
+
+fn write_block(out: &mut Vec<u8>, block: &Block) {
+    out.extend(b"BL");
+    out.extend(block.id().0.to_le_bytes());
+    out.push(block.predecessors().len() as u8);
+    out.push(block.assumed().len() as u8);
+    for predecessor in block.predecessors() {
+        out.extend(predecessor.0.to_le_bytes());
+    }
+    for path in block.assumed() {
+        write_path(out, *b"PA", path);
+    }
+}
+
+fn write_path(out: &mut Vec<u8>, mark: [u8; 2], path: &Path) {
+    out.extend(mark);
+    out.extend(path.identifier().0.to_le_bytes());
+    out.push(path.is_reactive().into());
+    out.extend(path.span().0.to_le_bytes());
+    out.push(path.entries().len() as u8);
+    for entry in path.entries() {
+        write_entry(out, entry);
+    }
+}
+
+fn write_entry(out: &mut Vec<u8>, entry: &Entry) {
+    let (kind, value) = match entry.property {
+        Property::Name(value) => (0, value),
+        Property::Number(value) => (1, value),
+    };
+    out.push(entry.optional.into());
+    out.push(kind);
+    out.extend(value.to_le_bytes());
+    out.extend(entry.span.0.to_le_bytes());
+}

@@ -1,0 +1,140 @@
+//! Jobs: the scope block, the blocks, the candidates.
+
+use super::cursor::Cursor;
+use super::error::{NotationError, Position};
+use super::number::whole_u32;
+use super::path::path;
+use crate::build_error::{BuildError, IdPlace};
+use crate::ids::BlockId;
+use crate::job::{Block, Job, JobBuilder};
+use crate::limits;
+use std::str::FromStr;
+
+impl FromStr for Job {
+    type Err = NotationError;
+
+    fn from_str(text: &str) -> Result<Self, NotationError> {
+        let mut cursor = Cursor::new(text);
+        let mut positions = Positions::default();
+        let builder = job(&mut cursor, &mut positions)?;
+        builder.build().map_err(|why| {
+            let position = positions.of(&why).unwrap_or_else(|| cursor.position());
+            NotationError::new(position, why.to_string())
+        })
+    }
+}
+
+/// Where the parts of a job stand in the text.
+#[derive(Default)]
+struct Positions {
+    scope: Option<Position>,
+    blocks: Vec<BlockPositions>,
+    candidates: Vec<Position>,
+}
+
+#[derive(Default)]
+struct BlockPositions {
+    id: Option<Position>,
+    predecessors: Vec<Position>,
+    assumed: Vec<Position>,
+}
+
+impl Positions {
+    /// The part that keeps the text from being a job.
+    fn of(&self, why: &BuildError) -> Option<Position> {
+        match *why {
+            BuildError::NoBlocks => None,
+            BuildError::TooManyBlocks => self.blocks.get(limits::BLOCKS)?.id,
+            BuildError::TooManyCandidates => self.candidates.get(limits::CANDIDATES).copied(),
+            BuildError::TooManyPredecessors { block } => {
+                self.blocks[block].predecessors.get(limits::PREDECESSORS).copied()
+            }
+            BuildError::TooManyAssumed { block } => self.blocks[block].assumed.get(limits::ASSUMED).copied(),
+            BuildError::BadId(bad) => match bad.stands {
+                IdPlace::Scope => self.scope,
+                IdPlace::Block(block) => self.blocks[block].id,
+                IdPlace::Predecessor { block, place } => self.blocks[block].predecessors.get(place).copied(),
+            },
+            BuildError::TooLong { .. } => self.scope,
+        }
+    }
+}
+
+/// The whole text.
+fn job(cursor: &mut Cursor, positions: &mut Positions) -> Result<JobBuilder, NotationError> {
+    cursor.skip_blank();
+    if !cursor.keyword("scope") {
+        return Err(cursor.due("`scope` and the scope block's id"));
+    }
+    cursor.skip_blank();
+    positions.scope = Some(cursor.position());
+    let scope = BlockId(whole_u32(cursor, "the scope block's id")?);
+    let mut builder = Job::builder(scope);
+    cursor.skip_blank();
+    while cursor.keyword("block") {
+        let mut of_block = BlockPositions::default();
+        builder = builder.block(block(cursor, &mut of_block)?);
+        positions.blocks.push(of_block);
+    }
+    if positions.blocks.is_empty() {
+        return Err(cursor.due("`block` and a block's id"));
+    }
+    candidates(cursor, builder, positions)
+}
+
+/// A block after its keyword, and the blanks behind it.
+fn block(cursor: &mut Cursor, positions: &mut BlockPositions) -> Result<Block, NotationError> {
+    cursor.skip_blank();
+    positions.id = Some(cursor.position());
+    let mut block = Block::new(BlockId(whole_u32(cursor, "a block's id")?));
+    cursor.skip_blank();
+    if cursor.keyword("after") {
+        let predecessors = list(cursor, &mut positions.predecessors, |cursor| {
+            whole_u32(cursor, "a predecessor's id").map(BlockId)
+        })?;
+        block = block.after(predecessors);
+    }
+    while cursor.keyword("assumes") {
+        let assumed = list(cursor, &mut positions.assumed, path)?;
+        block = assumed.into_iter().fold(block, Block::assuming);
+    }
+    Ok(block)
+}
+
+/// The candidates, to the end of the text.
+fn candidates(
+    cursor: &mut Cursor,
+    mut builder: JobBuilder,
+    positions: &mut Positions,
+) -> Result<JobBuilder, NotationError> {
+    while cursor.keyword("candidate") {
+        let candidates = list(cursor, &mut positions.candidates, path)?;
+        builder = candidates.into_iter().fold(builder, JobBuilder::candidate);
+    }
+    match cursor.peek() {
+        None => Ok(builder),
+        Some(_) if positions.candidates.is_empty() => Err(cursor.due(AFTER_A_BLOCK)),
+        Some(_) => Err(cursor.due("`,`, `candidate` or the end of the job")),
+    }
+}
+
+/// What can stand after a block.
+const AFTER_A_BLOCK: &str = "`after`, `assumes`, `block`, `candidate` or the end of the job";
+
+/// One item or more with commas between, and the blanks behind them; notes where each stands.
+fn list<T>(
+    cursor: &mut Cursor,
+    positions: &mut Vec<Position>,
+    item: impl Fn(&mut Cursor) -> Result<T, NotationError>,
+) -> Result<Vec<T>, NotationError> {
+    let mut items = Vec::new();
+    loop {
+        cursor.skip_blank();
+        positions.push(cursor.position());
+        items.push(item(cursor)?);
+        cursor.skip_blank();
+        if !cursor.take(",") {
+            return Ok(items);
+        }
+    }
+}

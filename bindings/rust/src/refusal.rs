@@ -1,0 +1,155 @@
+//! The refusals of the stage, and where in a job each was met.
+
+use std::fmt;
+
+/// Why the stage turned a job back. The names are those of the stage's own code.
+///
+/// The stage gives a number. For 3 to 8 this crate's reader finds the place, for display only; it is `None` where that
+/// reader would not refuse by the same number.
+#[derive(Clone, Copy, Debug, PartialEq, Eq)]
+pub enum Refusal {
+    /// 1: the out buffer has fewer than 24,576 bytes.
+    ShortBuffer,
+    /// 2: the job has more than 32,768 bytes.
+    LongJob,
+    /// 3: a field needs a byte past the job's end.
+    MissingByte(Option<Place>),
+    /// 4: another mark stands where one is due.
+    WrongMark(Option<Place>),
+    /// 5: a field's value is outside its range.
+    OutOfRange(Option<Place>),
+    /// 6: a byte follows the last candidate.
+    ExtraByte(Option<Place>),
+    /// 7: two blocks have one id, or one block names a predecessor twice.
+    RepeatedId(Option<Place>),
+    /// 8: a predecessor, or the scope block, is no block of the job.
+    UnknownBlock(Option<Place>),
+    /// 9: the registry has more than 512 nodes when propagation ends.
+    ManyNodes,
+}
+
+impl Refusal {
+    /// The number in the specification.
+    pub fn number(&self) -> u8 {
+        match self {
+            Self::ShortBuffer => 1,
+            Self::LongJob => 2,
+            Self::MissingByte(_) => 3,
+            Self::WrongMark(_) => 4,
+            Self::OutOfRange(_) => 5,
+            Self::ExtraByte(_) => 6,
+            Self::RepeatedId(_) => 7,
+            Self::UnknownBlock(_) => 8,
+            Self::ManyNodes => 9,
+        }
+    }
+
+    /// The place at which it was met, for 3 to 8.
+    pub fn place(&self) -> Option<Place> {
+        match self {
+            Self::MissingByte(place)
+            | Self::WrongMark(place)
+            | Self::OutOfRange(place)
+            | Self::ExtraByte(place)
+            | Self::RepeatedId(place)
+            | Self::UnknownBlock(place) => *place,
+            Self::ShortBuffer | Self::LongJob | Self::ManyNodes => None,
+        }
+    }
+
+    /// The refusal of a number, without a place, if it is a number of one.
+    pub fn from_number(number: u8) -> Option<Self> {
+        Some(match number {
+            1 => Self::ShortBuffer,
+            2 => Self::LongJob,
+            3 => Self::MissingByte(None),
+            4 => Self::WrongMark(None),
+            5 => Self::OutOfRange(None),
+            6 => Self::ExtraByte(None),
+            7 => Self::RepeatedId(None),
+            8 => Self::UnknownBlock(None),
+            9 => Self::ManyNodes,
+            _ => return None,
+        })
+    }
+
+    fn meaning(&self) -> (&'static str, &'static str) {
+        match self {
+            Self::ShortBuffer => ("ShortBuffer", "the out buffer has fewer than 24,576 bytes"),
+            Self::LongJob => ("LongJob", "the job has more than 32,768 bytes"),
+            Self::MissingByte(_) => ("MissingByte", "a field needs a byte past the job's end"),
+            Self::WrongMark(_) => ("WrongMark", "another mark stands where one is due"),
+            Self::OutOfRange(_) => ("OutOfRange", "a field's value is outside its range"),
+            Self::ExtraByte(_) => ("ExtraByte", "a byte follows the last candidate"),
+            Self::RepeatedId(_) => {
+                ("RepeatedId", "two blocks have one id, or one block names a predecessor twice")
+            }
+            Self::UnknownBlock(_) => {
+                ("UnknownBlock", "a predecessor, or the scope block, is no block of the job")
+            }
+            Self::ManyNodes => ("ManyNodes", "the registry has more than 512 nodes when propagation ends"),
+        }
+    }
+}
+
+impl fmt::Display for Refusal {
+    fn fmt(&self, f: &mut fmt::Formatter<'_>) -> fmt::Result {
+        let (name, meaning) = self.meaning();
+        write!(f, "refusal {}, {name}: {meaning}", self.number())?;
+        match self.place() {
+            Some(place) => write!(f, "; {place}"),
+            None => Ok(()),
+        }
+    }
+}
+
+impl std::error::Error for Refusal {}
+
+/// Where in a job's bytes a refusal was met.
+#[derive(Clone, Copy, Debug, PartialEq, Eq)]
+pub struct Place {
+    /// The first byte of the field, from 0.
+    pub byte: usize,
+    /// The record that the field belongs to.
+    pub record: Record,
+    /// What the field says.
+    pub field: &'static str,
+}
+
+impl fmt::Display for Place {
+    fn fmt(&self, f: &mut fmt::Formatter<'_>) -> fmt::Result {
+        write!(f, "at byte {}, in {}: {}", self.byte, self.record, self.field)
+    }
+}
+
+/// A record of a job. Places are counted from 0, and shown counted from 1.
+#[derive(Clone, Copy, Debug, PartialEq, Eq)]
+pub enum Record {
+    /// `HD`.
+    Header,
+    /// The `BL` of the block at this place.
+    Block(usize),
+    /// A `PA` of a block.
+    Assumed {
+        /// The block's place.
+        block: usize,
+        /// The path's place among the block's.
+        path: usize,
+    },
+    /// The `CA` at this place.
+    Candidate(usize),
+    /// What follows the last record.
+    End,
+}
+
+impl fmt::Display for Record {
+    fn fmt(&self, f: &mut fmt::Formatter<'_>) -> fmt::Result {
+        match self {
+            Self::Header => write!(f, "the HD record"),
+            Self::Block(block) => write!(f, "BL record {}", block + 1),
+            Self::Assumed { block, path } => write!(f, "PA record {} of BL record {}", path + 1, block + 1),
+            Self::Candidate(candidate) => write!(f, "CA record {}", candidate + 1),
+            Self::End => write!(f, "what follows the last record"),
+        }
+    }
+}
