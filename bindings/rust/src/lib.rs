@@ -37,6 +37,7 @@ mod build_error;
 mod bytes;
 pub mod draw;
 pub mod explain;
+mod graph;
 mod ids;
 #[allow(unsafe_code)]
 #[path = "../../../interface/scope_deps.rs"]

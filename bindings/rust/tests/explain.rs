@@ -1,0 +1,153 @@
+//! Explanations hold together, and say what happened.
+
+mod common;
+
+use common::jobs;
+use scope_deps::explain::{explain, Base, End, Explanation, How, Mismatch, Origin};
+use scope_deps::{answer, sheet, BlockId, Job, Path};
+
+fn explained(job: &Job) -> Option<Explanation> {
+    let (sheet, answer) = (sheet(job).ok()?, answer(job).ok()?);
+    Some(explain(job, &sheet, &answer).unwrap_or_else(|why| panic!("{why}:\n{job}")))
+}
+
+fn text(job: &str) -> String {
+    explained(&job.parse().unwrap()).unwrap().to_string()
+}
+
+/// That each step rests on earlier ones, and the last is the scope block's.
+fn check_origin(job: &Job, origin: &Origin) {
+    let mut told: Vec<(BlockId, &Path)> = Vec::new();
+    for step in &origin.steps {
+        let had = |block: BlockId, path: &Path| told.iter().any(|&(b, p)| b == block && p.same_entries(path));
+        assert!(step.path.same_names(&origin.path));
+        match &step.how {
+            How::Assumed => {
+                let record = &job.blocks()[job.place_of(step.block).unwrap()];
+                assert!(record.assumed().iter().any(|path| path.same_entries(&step.path)));
+            }
+            How::Reduced(from) => assert!(had(step.block, from), "{job}"),
+            How::Joined { from, .. } => {
+                assert!(!from.is_empty() && from.iter().all(|&near| had(near, &step.path)), "{job}");
+            }
+        }
+        told.push((step.block, &step.path));
+    }
+    let last = origin.steps.last().unwrap();
+    assert!(last.block == job.scope() && last.path.same_entries(&origin.path), "{job}");
+}
+
+#[test]
+fn every_job_is_explained_step_by_step() {
+    let (mut known, mut cut, mut covered, mut joined) = (0, 0, 0, 0);
+    for job in jobs(6, 6_000) {
+        let Some(explanation) = explained(&job) else { continue };
+        assert_eq!(explanation.reasons.len(), job.candidates().len());
+        explanation.origins.iter().for_each(|origin| check_origin(&job, origin));
+        joined += explanation.origins.iter().filter(|origin| origin.steps.len() > 2).count();
+        for reason in &explanation.reasons {
+            known += reason.bases.iter().filter(|base| matches!(base, Base::Known { .. })).count();
+            cut += usize::from(matches!(reason.end, End::Cut { .. }));
+            covered += usize::from(matches!(reason.end, End::Covered { .. }));
+        }
+    }
+    assert!(
+        [known, cut, covered, joined].iter().all(|&count| count > 100),
+        "{known} {cut} {covered} {joined}"
+    );
+}
+
+#[test]
+fn no_block_is_passed_over_where_there_is_no_loop() {
+    let ascending = |job: &Job| {
+        let before = |at: usize, id: &BlockId| job.place_of(*id).is_some_and(|place| place < at);
+        job.blocks()
+            .iter()
+            .enumerate()
+            .all(|(at, block)| block.predecessors().iter().all(|id| before(at, id)))
+    };
+    let mut steps = 0;
+    for job in jobs(7, 4_000).filter(ascending) {
+        let Some(explanation) = explained(&job) else { continue };
+        for step in explanation.origins.iter().flat_map(|origin| &origin.steps) {
+            if let How::Joined { passed_over, .. } = &step.how {
+                assert!(passed_over.is_empty(), "{job}");
+                steps += 1;
+            }
+        }
+    }
+    assert!(steps > 100, "{steps}");
+}
+
+#[test]
+fn a_cut_and_a_mark_made_plain() {
+    let said = text("scope 7 block 7 assumes 1 candidate 1?.10.11");
+    assert_eq!(
+        said,
+        "\
+candidate 1?.10.11
+ returned 1.10
+    ?.10  becomes .10: 1 is known in block 7, by the path 1 [1]
+    .11   is cut: 1.10 is not known in block 7, since no path of its set reaches it
+
+[1] the path 1 in block 7
+    block 7 assumes it
+"
+    );
+}
+
+#[test]
+fn a_candidate_covered_by_another_and_an_optional_path_that_decides() {
+    let said = text("scope 7 block 7 assumes 1?.10 candidate 1?.10, 1.10, 2");
+    assert_eq!(
+        said,
+        "\
+candidate 1?.10
+ returned 1
+    ?.10  is not returned: candidate 1.10 is cut at 1, and depending on that is enough
+
+candidate 1.10
+ returned 1
+    .10  is cut: 1 is not known in block 7, since 1?.10, the first path of its set to reach it, reads on by `?.`
+
+candidate 2
+ returned 2
+    the variable itself is returned
+"
+    );
+}
+
+#[test]
+fn a_reduced_path_and_the_way_it_came() {
+    let said = text("scope 2 block 0 assumes 1, 1?.10 block 1 after 0 block 2 after 1 candidate 1.10.11");
+    assert!(said.contains(".11  stays plain: 1.10 is known in block 2, by the path 1.10 ["), "{said}");
+    let way = "block 0 assumes 1?.10
+    block 0 has it by reduction of 1?.10
+    block 1 has it from 0, its only predecessor
+    block 2 has it from 1, its only predecessor\n";
+    assert!(said.contains(way), "{said}");
+}
+
+#[test]
+fn a_loop_passes_a_block_over() {
+    let said = text(
+        "scope 3 block 0 block 1 after 0, 3 block 2 after 1 assumes 5 block 3 after 1, 2 block 4 after 1
+         candidate 5.10",
+    );
+    let way = "block 2 assumes it
+    block 3 has it from 2; 1, also among its predecessors, was passed over: it is on a loop with 3 and was being visited\n";
+    assert!(said.contains(way), "{said}");
+}
+
+#[test]
+fn sheet_and_answer_of_other_jobs_are_not_explained() {
+    let job = |text: &str| text.parse::<Job>().unwrap();
+    let one = job("scope 7 block 7 assumes 1 candidate 1.10");
+    let other = job("scope 7 block 7 candidate 1.10");
+    let elsewhere = job("scope 8 block 8 assumes 1 candidate 1.10");
+    let told = |s: &Job, a: &Job| explain(&one, &sheet(s).unwrap(), &answer(a).unwrap()).err();
+    assert_eq!(told(&one, &one), None);
+    assert_eq!(told(&other, &one), Some(Mismatch));
+    assert_eq!(told(&one, &other), Some(Mismatch));
+    assert_eq!(told(&elsewhere, &one), Some(Mismatch));
+}
