@@ -1,0 +1,160 @@
+//! Help that teaches.
+
+use super::failure::Failure;
+
+const ALL: &str = "\
+scope-deps reads, answers, explains and draws jobs of the scope-dependency stage.
+
+usage: scope-deps COMMAND [OPTIONS] [FILE]
+
+  encode     a job as text -> its bytes
+  decode     a job's bytes -> text
+  answer     a job -> the paths that the stage returns
+  sheet      a job -> the paths that each block holds in the end
+  explain    a job -> why each candidate is returned as it is
+  draw       a job -> a picture of it, as SVG
+  help       help on one of these, or on the `notation`
+
+FILE holds one job. Where it is missing or `-`, standard input is read. `answer`, `sheet`, `explain`
+and `draw` take the job as text or in bytes, and see for themselves which it is.
+
+  -o, --output FILE    write there, and not to standard output
+  --from FORM          take the job as `text`, `bytes` or `hex` (hexadecimal digits)
+  --bytes              of `answer` and `sheet`: write bytes, and not text
+  -h, --help           this, or after a command help on it
+
+A first job: block 7 assumes that variable 1 is neither null nor undefined. What becomes of property 11
+of property 10 of it?
+
+  $ echo 'scope 7 block 7 assumes 1 candidate 1?.10.11' | scope-deps explain
+  candidate 1?.10.11
+   returned 1.10
+      ?.10  becomes .10: 1 is known in block 7, by the path 1 [1]
+      .11   is cut: 1.10 is not known in block 7, since no path of its set reaches it
+
+  [1] the path 1 in block 7
+      block 7 assumes it
+
+The exit status is 0 on success, 1 where the job is refused or cannot be read or written, and 2 where
+the command line makes no sense. Messages go to standard error.
+";
+
+const NOTATION: &str = "\
+A job as text:
+
+  scope 3                           the scope block is block 3
+  block 0                           blocks follow in the job's order
+  block 1 after 0                   its predecessors, with commas between
+    assumes 5, reactive 5?.10       paths that are there when the block runs
+  block 2 after 0
+    assumes 5
+  block 3 after 1, 2
+  candidate 5@70?.10@71[0]          candidates stand last, each after `candidate` or after a comma
+
+A path starts with a variable's number. Then its entries follow:
+
+  .10       the property with the name 10, read plainly
+  ?.10      the same, read only where the base is neither null nor undefined
+  [0]       the property with the number 0; [-0], [1.5], [NaN] and [-Infinity] are others
+  ?.[0]     the same, optional
+  [0x5]     the number of these 64 bits, where no decimal says them well
+  @71       after the variable or an entry: the span of the path or of that entry; none is 0
+  reactive  before the path: its variable is reactive
+
+Names and variables are the host's numbers for them. Blanks and new lines may stand anywhere but
+within a path, and a comment goes from `#` to the end of its line. docs/NOTATION.md has the grammar.
+";
+
+const ENCODE: &str = "\
+usage: scope-deps encode [-o FILE] [FILE]
+
+Writes the bytes of a job that is written as text. A text that is no job is refused with its line and
+column. `scope-deps help notation` shows how a job is written.
+
+  $ echo 'scope 7 block 7 assumes reactive 1 candidate reactive 1@5.10@6' | scope-deps encode | xxd -p
+  4844010001000700000042 ...
+";
+
+const DECODE: &str = "\
+usage: scope-deps decode [-o FILE] [--from hex] [FILE]
+
+Writes as text a job that is in bytes; `encode` makes the same bytes of it again. With `--from hex` the
+bytes are given in hexadecimal digits, with white space or `/` between them.
+
+A job that the stage would refuse by 2 to 8 has no text. The message then says the number, what it
+means, and for 3 to 8 at which byte and in which record:
+
+  $ echo 4844 0100 4100 | scope-deps decode --from hex
+  scope-deps: standard input: refusal 5, OutOfRange: a field's value is outside its range; at byte 4,
+  in the HD record: how many candidates (0 to 64)
+";
+
+const ANSWER: &str = "\
+usage: scope-deps answer [-o FILE] [--bytes] [--from FORM] [FILE]
+
+Writes what the stage returns for a job: how many rounds propagation took, whether it settled, and
+each returned path.
+
+  $ echo 'scope 7 block 7 assumes reactive 1 candidate reactive 1@5.10@6' | scope-deps answer
+  rounds 1, settled
+  returned reactive 1@6.10@6
+";
+
+const SHEET: &str = "\
+usage: scope-deps sheet [-o FILE] [--bytes] [--from FORM] [FILE]
+
+Writes what propagation arrived at: the nodes of all paths, by number, and the paths that each block
+holds, that is those known in it to be neither null nor undefined.
+
+  $ echo 'scope 0 block 0 assumes 1, 1?.10' | scope-deps sheet
+  rounds 2, settled
+  node 0 1
+  node 1 1?.10
+  node 2 1.10
+  block 0 holds 1, 1.10
+";
+
+const EXPLAIN: &str = "\
+usage: scope-deps explain [-o FILE] [--from FORM] [FILE]
+
+Says for each candidate why its returned path is what it is. An entry reads a property of its base. It
+is returned plain where the scope block knows that the base is neither null nor undefined; otherwise an
+optional entry stays optional, and at a plain one the path is cut. A number in brackets leads to the
+path by which the base is known, with the blocks that assume it and those by way of which it came.
+
+  $ echo 'scope 1 block 0 assumes 1 block 1 after 0 candidate 1.10.11' | scope-deps explain
+  candidate 1.10.11
+   returned 1.10
+      .10  stays plain: 1 is known in block 1, by the path 1 [1]
+      .11  is cut: 1.10 is not known in block 1, since no path of its set reaches it
+
+  [1] the path 1 in block 1
+      block 0 assumes it
+      block 1 has it from 0, its only predecessor
+";
+
+const DRAW: &str = "\
+usage: scope-deps draw [-o FILE.svg] [--from FORM] [FILE]
+
+Draws a job, with its sheet and its answer, as one SVG file that a browser shows: the blocks in layers
+from the first down, arrows for control, those that close a loop dashed; in each block the paths that
+it assumes and those that it holds in the end; beside the scope block each candidate with what is
+returned of it and where it is cut. What is too long for its box is there in full under the pointer.
+
+  $ scope-deps draw -o job.svg job.txt
+";
+
+/// The help on a topic, or on all.
+pub fn text(topic: Option<&str>) -> Result<&'static str, Failure> {
+    match topic {
+        None => Ok(ALL),
+        Some("notation") => Ok(NOTATION),
+        Some("encode") => Ok(ENCODE),
+        Some("decode") => Ok(DECODE),
+        Some("answer") => Ok(ANSWER),
+        Some("sheet") => Ok(SHEET),
+        Some("explain") => Ok(EXPLAIN),
+        Some("draw") => Ok(DRAW),
+        Some(other) => Err(Failure::Misused(format!("there is no help on `{other}`"))),
+    }
+}
