@@ -159,7 +159,7 @@ fn a_set_counts_its_nodes() {
         let Ok(sheet) = scope_deps::sheet(&job) else { continue };
         for (id, set) in sheet.sets() {
             assert_eq!(set.len(), sheet.paths(id).count());
-            assert_eq!(set.is_empty(), set.len() == 0);
+            assert_eq!(set.is_empty(), set.iter().next().is_none());
             seen += set.len();
         }
     }

@@ -1,0 +1,76 @@
+//! The examples: their answers, the pictures of them, and the jobs in the documents.
+
+mod common;
+
+use common::repository;
+use scope_deps::draw::draw;
+use scope_deps::{answer, sheet, Job};
+use std::fs;
+use std::path::PathBuf;
+
+fn read(file: PathBuf) -> String {
+    fs::read_to_string(&file).unwrap_or_else(|why| panic!("{}: {why}", file.display()))
+}
+
+/// The names of the examples.
+fn names() -> Vec<String> {
+    let files = fs::read_dir(repository("examples")).unwrap().map(|file| file.unwrap().path());
+    let jobs = files.filter(|file| file.extension().is_some_and(|extension| extension == "job"));
+    let mut names: Vec<String> =
+        jobs.map(|file| file.file_stem().unwrap().to_str().unwrap().into()).collect();
+    names.sort();
+    names
+}
+
+fn job(name: &str) -> Job {
+    let text = read(repository(&format!("examples/{name}.job")));
+    text.parse().unwrap_or_else(|why| panic!("{name}: {why}"))
+}
+
+#[test]
+fn each_example_has_the_answer_beside_it() {
+    let names = names();
+    assert_eq!(names, ["diamond", "loop", "no-last-session", "optional-chain"]);
+    for name in names {
+        let expected = read(repository(&format!("examples/{name}.answer")));
+        assert_eq!(answer(&job(&name)).unwrap().to_string(), expected, "{name}");
+    }
+}
+
+#[test]
+fn each_example_says_what_it_shows_and_the_readme_lists_it() {
+    let readme = read(repository("README.md"));
+    for name in names() {
+        assert!(read(repository(&format!("examples/{name}.job"))).starts_with("# "));
+        assert!(readme.contains(&format!("examples/{name}.job")), "{name}");
+    }
+}
+
+#[test]
+fn the_pictures_in_the_readme_are_those_that_are_drawn() {
+    let readme = read(repository("README.md"));
+    for name in ["no-last-session", "loop"] {
+        let (job, file) = (job(name), format!("docs/pictures/{name}.svg"));
+        let svg = draw(&job, &sheet(&job).unwrap(), &answer(&job).unwrap()).unwrap();
+        assert!(svg == read(repository(&file)), "{file}: draw it again by `scope-deps draw`");
+        assert!(readme.contains(&file));
+    }
+}
+
+/// The indented parts of a document that start a job.
+fn jobs_of(document: &str) -> Vec<String> {
+    let lines: Vec<&str> = document.lines().collect();
+    let parts = lines.split(|line| !line.starts_with("    ") && !line.is_empty());
+    let texts = parts.map(|part| part.join("\n"));
+    texts.filter(|text| text.trim_start().starts_with("scope ")).collect()
+}
+
+#[test]
+fn the_jobs_in_the_document_on_the_notation_are_jobs() {
+    let jobs = jobs_of(&read(repository("docs/NOTATION.md")));
+    assert!(!jobs.is_empty());
+    for text in jobs {
+        let job: Job = text.parse().unwrap_or_else(|why| panic!("{why}\n{text}"));
+        assert!(answer(&job).is_ok());
+    }
+}
