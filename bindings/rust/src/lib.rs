@@ -26,8 +26,8 @@
 //! ```
 //!
 //! The stage itself is the proved library behind the C interface; nothing of it is done again here. Jobs, answers and
-//! sheets can be read and written as text (`docs/NOTATION.md`), explain says why each path is returned as it is, and
-//! draw makes a picture.
+//! sheets can be read and written as text (`docs/NOTATION.md`). [`explain`](mod@explain) says why each path is
+//! returned as it is, and [`draw`](mod@draw) makes a picture.
 
 #![deny(missing_docs)]
 #![deny(unsafe_code)]

@@ -100,7 +100,7 @@ fn a_bad_text_is_shown_with_line_column_and_excerpt() {
     let said = message(&["explain", job.to_str().unwrap()], "", 1);
     assert!(said.contains("bad.txt:2:19: after `?` there is a `.`"), "{said}");
     assert!(said.ends_with("2 | \tblock 7 assumes 1?10\n  | \t                 ^\n"), "{said}");
-    assert!(message(&["encode"], [0xff], 1).contains("no text"));
+    assert!(message(&["encode", "--from", "text"], [0xff], 1).contains("no text"));
 }
 
 #[test]
@@ -115,6 +115,26 @@ fn a_refused_job_says_its_number_and_place() {
     assert!(message(&["decode"], vec![0; limits::JOB_BYTES + 1], 1).contains("refusal 2, LongJob"));
     assert!(message(&["decode", "--from", "hex"], "4844 0", 1).contains("odd number"));
     assert!(message(&["decode", "--from", "hex"], "48 zz", 1).contains("other characters"));
+}
+
+#[test]
+fn the_wrong_one_of_encode_and_decode_is_told() {
+    assert!(message(&["encode"], hex(BYTES), 1).contains("`decode` takes"));
+    assert!(message(&["decode"], TEXT, 1).contains("this is text"));
+    assert!(message(&["decode"], BYTES, 1).contains("`--from hex`"));
+    assert!(message(&["decode"], "", 1).contains("refusal 3, MissingByte"));
+}
+
+#[test]
+fn the_script_builds_and_runs_the_tool_from_any_directory() {
+    let output = Command::new(repository("bin/scope-deps").canonicalize().unwrap())
+        .args(["answer", "-"])
+        .current_dir(env!("CARGO_TARGET_TMPDIR"))
+        .stdin(fs::File::open(repository("examples/diamond.job")).unwrap())
+        .output()
+        .unwrap();
+    assert!(output.status.success(), "{output:?}");
+    assert_eq!(output.stdout, fs::read(repository("examples/diamond.answer")).unwrap());
 }
 
 #[test]

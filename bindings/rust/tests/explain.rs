@@ -3,8 +3,8 @@
 mod common;
 
 use common::jobs;
-use scope_deps::explain::{explain, Base, End, Explanation, How, Mismatch, Origin};
-use scope_deps::{answer, sheet, BlockId, Job, Path};
+use scope_deps::explain::{explain, Base, End, Explanation, How, Mismatch, Origin, Side};
+use scope_deps::{answer, limits, sheet, BlockId, Entry, Job, JobBuilder, Path, Property, Sheet};
 
 fn explained(job: &Job) -> Option<Explanation> {
     let (sheet, answer) = (sheet(job).ok()?, answer(job).ok()?);
@@ -15,8 +15,21 @@ fn text(job: &str) -> String {
     explained(&job.parse().unwrap()).unwrap().to_string()
 }
 
-/// That each step rests on earlier ones, and the last is the scope block's.
+/// The neighbours of a block on one side, but not itself.
+fn neighbours(job: &Job, id: BlockId, side: Side) -> Vec<BlockId> {
+    let block = &job.blocks()[job.place_of(id).unwrap()];
+    let after =
+        job.blocks().iter().filter(|other| other.predecessors().contains(&id)).map(|other| other.id());
+    let all: Vec<BlockId> = match side {
+        Side::Predecessors => block.predecessors().to_vec(),
+        Side::Successors => after.collect(),
+    };
+    all.into_iter().filter(|&near| near != id).collect()
+}
+
+/// That each step rests on earlier ones and on the sheet, and the last is the scope block's.
 fn check_origin(job: &Job, origin: &Origin) {
+    let sheet = sheet(job).unwrap();
     let mut told: Vec<(BlockId, &Path)> = Vec::new();
     for step in &origin.steps {
         let had = |block: BlockId, path: &Path| told.iter().any(|&(b, p)| b == block && p.same_entries(path));
@@ -26,11 +39,24 @@ fn check_origin(job: &Job, origin: &Origin) {
                 let record = &job.blocks()[job.place_of(step.block).unwrap()];
                 assert!(record.assumed().iter().any(|path| path.same_entries(&step.path)));
             }
-            How::Reduced(from) => assert!(had(step.block, from), "{job}"),
-            How::Joined { from, .. } => {
+            How::Reduced { from, bases } => {
+                assert!(had(step.block, from), "{job}");
+                let marks = step.path.entries().iter().zip(from.entries());
+                let made_plain = marks.filter(|(now, before)| before.optional && !now.optional).count();
+                let holds = |path: &Path| sheet.paths(step.block).any(|held| held.same_entries(path));
+                assert!(!holds(&step.path) || bases.len() == made_plain, "{job}");
+                assert!(bases.iter().all(holds), "{job}");
+            }
+            How::Joined { side, from, passed_over } => {
                 assert!(!from.is_empty() && from.iter().all(|&near| had(near, &step.path)), "{job}");
+                let mut told = [&from[..], passed_over].concat();
+                let mut all = neighbours(job, step.block, *side);
+                told.sort();
+                all.sort();
+                assert_eq!(told, all, "{job}");
             }
         }
+        assert_eq!(step.kept, sheet.paths(step.block).any(|held| held.same_entries(&step.path)));
         told.push((step.block, &step.path));
     }
     let last = origin.steps.last().unwrap();
@@ -55,6 +81,27 @@ fn every_job_is_explained_step_by_step() {
         [known, cut, covered, joined].iter().all(|&count| count > 100),
         "{known} {cut} {covered} {joined}"
     );
+}
+
+/// The job with this scope block, and a candidate for each path that the block holds, one entry longer.
+fn with_scope(job: &Job, sheet: &Sheet, scope: BlockId) -> Option<Job> {
+    let blocks = job.blocks().iter().cloned().fold(Job::builder(scope), JobBuilder::block);
+    let longer = sheet.paths(scope).filter_map(|path| path.then(Entry::plain(Property::Name(77))).ok());
+    longer.take(limits::CANDIDATES).fold(blocks, JobBuilder::candidate).build().ok()
+}
+
+#[test]
+fn every_path_that_a_block_holds_is_explained() {
+    let mut steps = 0;
+    for job in jobs(9, 2_000).filter(|job| job.to_bytes().len() < 500) {
+        let Ok(sheet) = sheet(&job) else { continue };
+        for job in job.blocks().iter().filter_map(|block| with_scope(&job, &sheet, block.id())) {
+            let Some(explanation) = explained(&job) else { continue };
+            explanation.origins.iter().for_each(|origin| check_origin(&job, origin));
+            steps += explanation.origins.iter().map(|origin| origin.steps.len()).sum::<usize>();
+        }
+    }
+    assert!(steps > 5_000, "{steps}");
 }
 
 #[test]
@@ -122,10 +169,28 @@ fn a_reduced_path_and_the_way_it_came() {
     let said = text("scope 2 block 0 assumes 1, 1?.10 block 1 after 0 block 2 after 1 candidate 1.10.11");
     assert!(said.contains(".11  stays plain: 1.10 is known in block 2, by the path 1.10 ["), "{said}");
     let way = "block 0 assumes 1?.10
-    block 0 has it by reduction of 1?.10
+    block 0 has it by reduction of 1?.10, since it holds 1
     block 1 has it from 0, its only predecessor
     block 2 has it from 1, its only predecessor\n";
     assert!(said.contains(way), "{said}");
+}
+
+#[test]
+fn a_form_that_a_block_had_for_a_while() {
+    let said = text(
+        "scope 2 block 2 after 1, 5 assumes 1 block 1 after 5 assumes 1.10 block 5 assumes 1?.10
+         block 4 after 2, 5 candidate 1.10.11",
+    );
+    let way = "block 5 assumes 1?.10
+    block 1 had 1?.10 for a while from 5, its only predecessor
+    block 2 had 1?.10 for a while, since each of its predecessors had it: 1, 5
+    block 2 has it by reduction of 1?.10, since it holds 1\n";
+    assert!(said.contains(way), "{said}");
+}
+
+#[test]
+fn a_job_without_candidates_is_explained_too() {
+    assert_eq!(text("scope 7 block 7"), "the job has no candidate, so no path is returned\n");
 }
 
 #[test]
@@ -135,7 +200,7 @@ fn a_loop_passes_a_block_over() {
          candidate 5.10",
     );
     let way = "block 2 assumes it
-    block 3 has it from 2; 1, also among its predecessors, was passed over: it is on a loop with 3 and was being visited\n";
+    block 3 has it from 2; its predecessor 1 was passed over, being on a loop with 3 and still being visited\n";
     assert!(said.contains(way), "{said}");
 }
 

@@ -21,14 +21,24 @@ pub fn run(request: Request) -> Result<(), Failure> {
 }
 
 fn result(run: &Run, input: &Input) -> Result<Vec<u8>, Failure> {
-    let usual = match run.command {
-        Command::Encode => Some(Form::Text),
-        Command::Decode => Some(Form::Bytes),
-        _ => None,
-    };
-    let job = input.job(run.from.or(usual))?;
+    let job = input.job(form(run, input)?)?;
     let refused = |why| Failure::Refused { place: input.place.clone(), why };
     made(run, &job).map_err(refused)
+}
+
+/// The form that was said, or else the one that it seems to be and that the command takes.
+fn form(run: &Run, input: &Input) -> Result<Form, Failure> {
+    let wrong = |why: &str| Failure::Form { place: input.place.clone(), why: why.to_string() };
+    match (run.from, run.command, input.looks_like()) {
+        (Some(form), ..) => Ok(form),
+        (None, Command::Encode, Form::Bytes) => {
+            Err(wrong("this is no text, but may be a job in bytes, which `decode` takes"))
+        }
+        (None, Command::Decode, Form::Text) => {
+            Err(wrong("this is text, and not a job in bytes; a hex dump is taken with `--from hex`"))
+        }
+        (None, _, form) => Ok(form),
+    }
 }
 
 /// What the command makes of a job.

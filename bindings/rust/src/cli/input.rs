@@ -32,25 +32,28 @@ impl Input {
             None => io::stdin().lock().take(MOST_BYTES).read_to_end(&mut bytes),
         };
         match read {
+            Ok(count) if count as u64 == MOST_BYTES => {
+                Err(Failure::Form { place, why: format!("this has {MOST_BYTES} bytes or more") })
+            }
             Ok(_) => Ok(Self { place, bytes }),
             Err(why) => Err(Failure::Input { place, why }),
         }
     }
 
-    /// The job, in the form that was said or else in the one that it looks like.
-    pub fn job(&self, form: Option<Form>) -> Result<Job, Failure> {
-        match form.unwrap_or_else(|| self.looks_like()) {
+    /// The job, in this form.
+    pub fn job(&self, form: Form) -> Result<Job, Failure> {
+        match form {
             Form::Text => self.job_of_text(),
             Form::Bytes => self.job_of_bytes(&self.bytes),
             Form::Hex => self.job_of_bytes(&self.bytes_of_hex()?),
         }
     }
 
-    /// A job's bytes start with `HD`, and hold zeros, which no text does.
-    fn looks_like(&self) -> Form {
+    /// The form in which the job seems to be. A job's bytes start with `HD`, and hold zeros, which no text does.
+    pub fn looks_like(&self) -> Form {
         let is_control = |byte: &u8| byte.is_ascii_control() && !byte.is_ascii_whitespace();
         let no_text = self.bytes.iter().any(is_control) || std::str::from_utf8(&self.bytes).is_err();
-        if self.bytes.starts_with(b"HD") || no_text {
+        if self.bytes.starts_with(b"HD") || no_text || self.bytes.is_empty() {
             Form::Bytes
         } else {
             Form::Text

@@ -23,7 +23,7 @@
 //! [1] the path 5 in block 3
 //!     block 1 assumes it
 //!     block 2 assumes it
-//!     block 3 has it, since each of its predecessors has it: 1, 2
+//!     block 3 has it, since each of its predecessors had it: 1, 2
 //! ");
 //! # Ok::<(), Box<dyn std::error::Error>>(())
 //! ```

@@ -27,6 +27,8 @@ pub struct Step {
     pub block: BlockId,
     /// The form.
     pub path: Path,
+    /// Whether the block holds it in the end; otherwise reduction made another form of it.
+    pub kept: bool,
     /// How it came there.
     pub how: How,
 }
@@ -36,8 +38,13 @@ pub struct Step {
 pub enum How {
     /// The block assumes it.
     Assumed,
-    /// Reduction made it of this form, which the block had before.
-    Reduced(Path),
+    /// Reduction made it of another form, which the block had before.
+    Reduced {
+        /// The other form.
+        from: Path,
+        /// The bases whose entries became plain, as far as the block holds them in the end.
+        bases: Vec<Path>,
+    },
     /// Neighbours had it.
     Joined {
         /// On which side they are.
@@ -63,12 +70,15 @@ pub(super) struct Origins<'a> {
     job: &'a Job,
     sheet: &'a Sheet,
     graph: Graph,
+    /// The paths of each block's set.
+    sets: Vec<Vec<Path>>,
     pub(super) found: Vec<Origin>,
 }
 
 impl<'a> Origins<'a> {
     pub(super) fn new(job: &'a Job, sheet: &'a Sheet) -> Self {
-        Self { job, sheet, graph: Graph::new(job), found: Vec::new() }
+        let sets = sheet.sets().map(|(id, _)| sheet.paths(id).collect()).collect();
+        Self { job, sheet, graph: Graph::new(job), sets, found: Vec::new() }
     }
 
     /// The place of the origin of a path of the scope block's set.
@@ -96,6 +106,7 @@ struct Reason {
 struct Search<'a> {
     job: &'a Job,
     graph: &'a Graph,
+    sets: &'a [Vec<Path>],
     forms: Vec<Path>,
     /// For each block, which forms its set has in the end.
     ends_with: Vec<Vec<bool>>,
@@ -140,7 +151,8 @@ impl<'a> Search<'a> {
         let ends_with = sheet.sets().map(|(_, set)| nodes.iter().map(|&node| set.contains(node)).collect());
         let ends_with: Vec<Vec<bool>> = ends_with.collect();
         let reasons = vec![vec![None; forms.len()]; ends_with.len()];
-        Self { job, graph: &origins.graph, forms, ends_with, reasons, order: Vec::new() }
+        let (graph, sets) = (&origins.graph, &origins.sets[..]);
+        Self { job, graph, sets, forms, ends_with, reasons, order: Vec::new() }
     }
 
     /// The steps to the scope block, if it is reached.
@@ -195,8 +207,8 @@ impl<'a> Search<'a> {
     fn reason(&self, held: Held, kind: Kind) -> Option<Reason> {
         let (block, form) = held;
         match kind {
-            Kind::Reduced => self.made_of(block, |from| self.reduced(block, from) == Some(form)),
-            Kind::ReducedTwice => self.made_of(block, |from| plainer(&self.forms[form], &self.forms[from])),
+            Kind::Reduced => self.made_of(held, |from| self.reduced(block, from) == Some(form)),
+            Kind::ReducedTwice => self.made_of(held, |from| plainer(&self.forms[form], &self.forms[from])),
             Kind::Joined { for_a_while, loops } => {
                 let had = |near: usize| self.has((near, form)) && (for_a_while || self.ends_with[near][form]);
                 let sides = [Side::Predecessors, Side::Successors];
@@ -206,20 +218,27 @@ impl<'a> Search<'a> {
     }
 
     /// That reduction made the form of one that the block had and has no more.
-    fn made_of(&self, block: usize, makes: impl Fn(usize) -> bool) -> Option<Reason> {
-        let gone =
-            (0..self.forms.len()).filter(|&from| self.has((block, from)) && !self.ends_with[block][from]);
-        let from = gone.into_iter().find(|&from| makes(from))?;
-        Some(Reason { how: How::Reduced(self.forms[from].clone()), rests_on: vec![(block, from)] })
+    fn made_of(&self, (block, form): Held, makes: impl Fn(usize) -> bool) -> Option<Reason> {
+        let gone = |from: &usize| self.has((block, *from)) && !self.ends_with[block][*from];
+        let made_of = (0..self.forms.len()).filter(gone).find(|&from| makes(from))?;
+        let from = self.forms[made_of].clone();
+        let bases =
+            bases_made_plain(&self.forms[form], &from).filter(|base| self.holds(block, base)).collect();
+        Some(Reason { how: How::Reduced { from, bases }, rests_on: vec![(block, made_of)] })
     }
 
-    /// What reduction makes of a form in a block: of the plainer ones that the block has, the one whose entries stay
-    /// optional the longest, since an entry becomes plain only where its base is in the set.
+    fn holds(&self, block: usize, path: &Path) -> bool {
+        self.sets[block].iter().any(|held| held.same_entries(path))
+    }
+
+    /// What reduction makes of a form in a block: one that the block has, and whose entries are plainer only where the
+    /// block has their base.
     fn reduced(&self, block: usize, from: usize) -> Option<usize> {
-        let left = (0..self.forms.len()).filter(|&form| self.ends_with[block][form]);
-        let made = left.filter(|&form| plainer(&self.forms[form], &self.forms[from]));
-        made.max_by_key(|&form| {
-            self.forms[form].entries().iter().map(|entry| entry.optional).collect::<Vec<_>>()
+        let from = &self.forms[from];
+        let mut left = (0..self.forms.len()).filter(|&form| self.ends_with[block][form]);
+        left.find(|&form| {
+            let form = &self.forms[form];
+            plainer(form, from) && bases_made_plain(form, from).all(|base| self.holds(block, &base))
         })
     }
 
@@ -258,7 +277,8 @@ impl<'a> Search<'a> {
 
     fn step(&self, (block, form): Held) -> Step {
         let reason = self.reasons[block][form].as_ref().expect("only what has a reason is needed");
-        Step { block: self.job.blocks()[block].id(), path: self.forms[form].clone(), how: reason.how.clone() }
+        let (path, kept) = (self.forms[form].clone(), self.ends_with[block][form]);
+        Step { block: self.job.blocks()[block].id(), path, kept, how: reason.how.clone() }
     }
 }
 
@@ -266,4 +286,11 @@ impl<'a> Search<'a> {
 fn plainer(one: &Path, other: &Path) -> bool {
     let mut marks = one.entries().iter().zip(other.entries());
     marks.all(|(one, other)| other.optional || !one.optional) && !one.same_entries(other)
+}
+
+/// The bases of the entries that are plain in the first and optional in the second.
+fn bases_made_plain<'p>(one: &'p Path, other: &'p Path) -> impl Iterator<Item = Path> + 'p {
+    let marks = one.entries().iter().zip(other.entries()).enumerate();
+    let made_plain = marks.filter(|(_, (one, other))| other.optional && !one.optional);
+    made_plain.map(|(level, _)| one.prefix(level))
 }

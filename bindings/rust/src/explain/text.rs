@@ -1,12 +1,16 @@
 //! An explanation as text.
 
 use super::{Base, End, Explanation, How, Reason, Side, Step, Unknown};
+use crate::ids::BlockId;
 use crate::notation::show::with_commas;
 use crate::path::{Entry, Path};
 use std::fmt;
 
 impl fmt::Display for Explanation {
     fn fmt(&self, f: &mut fmt::Formatter<'_>) -> fmt::Result {
+        if self.reasons.is_empty() {
+            writeln!(f, "the job has no candidate, so no path is returned")?;
+        }
         for (place, reason) in self.reasons.iter().enumerate() {
             let gap = if place > 0 { "\n" } else { "" };
             writeln!(f, "{gap}candidate {:#}", reason.candidate)?;
@@ -87,24 +91,38 @@ fn change(own: Entry, returned: Entry) -> String {
 
 fn step_text(step: &Step, path: &Path) -> String {
     let (block, it) = (step.block, it(&step.path, path));
+    let has = if step.kept { format!("has {it}") } else { format!("had {it} for a while") };
     match &step.how {
         How::Assumed => format!("block {block} assumes {it}"),
-        How::Reduced(from) => format!("block {block} has {it} by reduction of {from:#}"),
-        How::Joined { side, from, passed_over } => {
-            let (one, many) = match side {
-                Side::Predecessors => ("predecessor", "predecessors"),
-                Side::Successors => ("successor", "successors"),
-            };
-            let (blocks, over) = (with_commas(from), with_commas(passed_over));
-            match (from.len(), passed_over.is_empty()) {
-                (1, true) => format!("block {block} has {it} from {blocks}, its only {one}"),
-                (_, true) => format!("block {block} has {it}, since each of its {many} has it: {blocks}"),
-                (_, false) => format!(
-                    "block {block} has {it} from {blocks}; {over}, also among its {many}, was passed over: \
-                     it is on a loop with {block} and was being visited"
-                ),
-            }
+        How::Reduced { from, bases } if bases.is_empty() => {
+            format!("block {block} {has} by reduction of {from:#}")
         }
+        How::Reduced { from, bases } => {
+            let bases: Vec<String> = bases.iter().map(|base| format!("{base:#}")).collect();
+            let bases = with_commas(&bases);
+            format!("block {block} {has} by reduction of {from:#}, since it holds {bases}")
+        }
+        How::Joined { side, from, passed_over } => {
+            format!("block {block} {has}{}", joined_text(block, *side, from, passed_over))
+        }
+    }
+}
+
+fn joined_text(block: BlockId, side: Side, from: &[BlockId], passed_over: &[BlockId]) -> String {
+    let (one, many) = match side {
+        Side::Predecessors => ("predecessor", "predecessors"),
+        Side::Successors => ("successor", "successors"),
+    };
+    let (blocks, over) = (with_commas(from), with_commas(passed_over));
+    match (from.len(), passed_over.len()) {
+        (1, 0) => format!(" from {blocks}, its only {one}"),
+        (_, 0) => format!(", since each of its {many} had it: {blocks}"),
+        (_, 1) => format!(
+            " from {blocks}; its {one} {over} was passed over, being on a loop with {block} and still being visited"
+        ),
+        _ => format!(
+            " from {blocks}; its {many} {over} were passed over, being on loops with {block} and still being visited"
+        ),
     }
 }
 
