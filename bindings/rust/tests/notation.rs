@@ -111,7 +111,7 @@ fn a_text_that_is_no_job_is_refused_where_it_goes_wrong() {
         "scope 7\nblock 7 7",
         2,
         9,
-        "`after`, `assumes`, `block`, `candidate` or the end of the job is due here, not `7`",
+        "`,`, `after`, `assumes`, `block`, `candidate` or the end of the job is due here, not `7`",
     );
     wrong(
         "scope 7 block 7\ncandidate 1, 2 3",
@@ -119,6 +119,9 @@ fn a_text_that_is_no_job_is_refused_where_it_goes_wrong() {
         16,
         "`,`, `candidate` or the end of the job is due here, not `3`",
     );
+    let once = "a block's predecessors stand in one list, right after its id";
+    wrong("scope 7\nblock 7 assumes 1 after 7", 2, 19, once);
+    wrong("scope 7\nblock 7 after 7 after 8", 2, 17, once);
     wrong("scope 7 block 7 assumes 1?10", 1, 26, "after `?` there is a `.`, as in `1?.10` or `1?.[0]`");
     wrong("scope 7 block 7 assumes 1.[0]", 1, 27, "a number read plainly has no dot before it: `1[0]`");
     wrong("scope 7 block 7 assumes 1.x", 1, 27, "a name's number is due here, not `x`");

@@ -15,12 +15,19 @@ pub(crate) enum Fault {
     ExtraByte,
 }
 
-/// A field that cannot be read.
+/// An answer or a sheet that cannot be read, and the field at which that shows.
 #[derive(Clone, Copy, Debug, PartialEq, Eq)]
 pub struct Malformed {
     pub(crate) fault: Fault,
     pub(crate) byte: usize,
     pub(crate) field: &'static str,
+}
+
+impl Malformed {
+    /// The first byte of the field, from 0.
+    pub fn byte(&self) -> usize {
+        self.byte
+    }
 }
 
 impl fmt::Display for Malformed {

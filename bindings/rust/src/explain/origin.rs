@@ -110,6 +110,8 @@ struct Search<'a> {
     forms: Vec<Path>,
     /// For each block, which forms its set has in the end.
     ends_with: Vec<Vec<bool>>,
+    /// For each block and form that its set has not, the one that reduction makes of it there.
+    becomes: Vec<Vec<Option<usize>>>,
     /// For each block and form the reason, as far as one is found.
     reasons: Vec<Vec<Option<Reason>>>,
     /// What has a reason, in the order of finding.
@@ -152,7 +154,14 @@ impl<'a> Search<'a> {
         let ends_with: Vec<Vec<bool>> = ends_with.collect();
         let reasons = vec![vec![None; forms.len()]; ends_with.len()];
         let (graph, sets) = (&origins.graph, &origins.sets[..]);
-        Self { job, graph, sets, forms, ends_with, reasons, order: Vec::new() }
+        let becomes = vec![vec![None; forms.len()]; ends_with.len()];
+        let mut search = Self { job, graph, sets, forms, ends_with, becomes, reasons, order: Vec::new() };
+        for block in 0..sets.len() {
+            let gone = |form: usize| Some(form).filter(|&form| !search.ends_with[block][form]);
+            let becomes = (0..search.forms.len()).map(|form| search.reduced(block, gone(form)?));
+            search.becomes[block] = becomes.collect();
+        }
+        search
     }
 
     /// The steps to the scope block, if it is reached.
@@ -201,13 +210,13 @@ impl<'a> Search<'a> {
 
     /// Whether the block has the form in the end, or one that reduction can have made of it.
     fn can_have_had(&self, (block, form): Held) -> bool {
-        self.ends_with[block][form] || self.reduced(block, form).is_some()
+        self.ends_with[block][form] || self.becomes[block][form].is_some()
     }
 
     fn reason(&self, held: Held, kind: Kind) -> Option<Reason> {
         let (block, form) = held;
         match kind {
-            Kind::Reduced => self.made_of(held, |from| self.reduced(block, from) == Some(form)),
+            Kind::Reduced => self.made_of(held, |from| self.becomes[block][from] == Some(form)),
             Kind::ReducedTwice => self.made_of(held, |from| plainer(&self.forms[form], &self.forms[from])),
             Kind::Joined { for_a_while, loops } => {
                 let had = |near: usize| self.has((near, form)) && (for_a_while || self.ends_with[near][form]);

@@ -98,6 +98,10 @@ fn block(cursor: &mut Cursor, positions: &mut BlockPositions) -> Result<Block, N
         let assumed = list(cursor, &mut positions.assumed, path)?;
         block = assumed.into_iter().fold(block, Block::assuming);
     }
+    let here = cursor.position();
+    if cursor.keyword("after") {
+        return Err(NotationError::new(here, "a block's predecessors stand in one list, right after its id"));
+    }
     Ok(block)
 }
 
@@ -119,7 +123,7 @@ fn candidates(
 }
 
 /// What can stand after a block.
-const AFTER_A_BLOCK: &str = "`after`, `assumes`, `block`, `candidate` or the end of the job";
+const AFTER_A_BLOCK: &str = "`,`, `after`, `assumes`, `block`, `candidate` or the end of the job";
 
 /// One item or more with commas between, and the blanks behind them; notes where each stands.
 fn list<T>(
