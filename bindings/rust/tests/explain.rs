@@ -189,6 +189,20 @@ fn a_form_that_a_block_had_for_a_while() {
 }
 
 #[test]
+fn a_form_that_reduction_made_and_took_away() {
+    let said = text(
+        "scope 2 block 1 assumes 1, 1?.10?.11 block 5 assumes 1.10?.11 block 2 after 1, 5 assumes 1.10
+         block 4 after 5 candidate 1.10.11.12",
+    );
+    let way = "block 1 assumes 1?.10?.11
+    block 5 assumes 1.10?.11
+    block 1 had 1.10?.11 for a while by reduction of 1?.10?.11, since it holds 1
+    block 2 had 1.10?.11 for a while, since each of its predecessors had it: 1, 5
+    block 2 has it by reduction of 1.10?.11, since it holds 1.10\n";
+    assert!(said.contains(way), "{said}");
+}
+
+#[test]
 fn a_job_without_candidates_is_explained_too() {
     assert_eq!(text("scope 7 block 7"), "the job has no candidate, so no path is returned\n");
 }
