@@ -203,6 +203,15 @@ fn a_form_that_reduction_made_and_took_away() {
 }
 
 #[test]
+fn a_reason_without_a_loop_is_preferred() {
+    let said = text(
+        "scope 1 block 0 assumes 5 block 1 after 0, 3 block 2 after 1 assumes 5 block 6 block 3 after 2, 6
+         candidate 5.10",
+    );
+    assert!(said.contains("block 1 has it from 2, its only successor\n"), "{said}");
+}
+
+#[test]
 fn a_job_without_candidates_is_explained_too() {
     assert_eq!(text("scope 7 block 7"), "the job has no candidate, so no path is returned\n");
 }
