@@ -60,12 +60,35 @@ pub use refusal::{Place, Record, Refusal};
 pub use sheet::{Node, NodeSet, Sheet};
 
 /// The answer of a job. Of the refusals only [`Refusal::ManyNodes`] can come.
+///
+/// ```
+/// use scope_deps::{answer, Job};
+///
+/// let job: Job = "scope 7 block 7 assumes 1 candidate 1?.10@6".parse()?;
+/// let answer = answer(&job)?;
+/// assert!(answer.is_settled());
+/// for path in &answer {
+///     assert_eq!(path.to_string(), "1@6.10@6");
+/// }
+/// # Ok::<(), Box<dyn std::error::Error>>(())
+/// ```
 pub fn answer(job: &Job) -> Result<Answer, Refusal> {
     let bytes = raw::answer(&job.to_bytes())?;
     Ok(Answer::from_bytes(&bytes).expect("the stage writes answers of its format"))
 }
 
 /// The sheet of a job. It is refused where the answer is.
+///
+/// ```
+/// use scope_deps::{sheet, BlockId, Job};
+///
+/// let job: Job = "scope 1 block 0 assumes 1, 1?.10 block 1 after 0".parse()?;
+/// let sheet = sheet(&job)?;
+/// // Since 1 is known, reduction makes `?.10` plain, and block 1 has both from block 0.
+/// let known: Vec<String> = sheet.paths(BlockId(1)).map(|path| path.to_string()).collect();
+/// assert_eq!(known, ["1", "1.10"]);
+/// # Ok::<(), Box<dyn std::error::Error>>(())
+/// ```
 pub fn sheet(job: &Job) -> Result<Sheet, Refusal> {
     let bytes = raw::sheet(&job.to_bytes())?;
     Ok(Sheet::from_bytes(&bytes).expect("the stage writes sheets of its format"))

@@ -91,6 +91,17 @@ impl Sheet {
 }
 
 /// A set of nodes.
+///
+/// ```
+/// use scope_deps::{sheet, Job, NodeId};
+///
+/// let sheet = sheet(&"scope 7 block 7 assumes 5, 6.1".parse::<Job>()?)?;
+/// let (_, set) = sheet.sets().next().expect("a job has a block");
+/// // Node 1 is the variable 6, on the way to 6.1, and not assumed itself.
+/// assert_eq!(set.iter().collect::<Vec<_>>(), [NodeId(0), NodeId(2)]);
+/// assert!(!set.contains(NodeId(1)));
+/// # Ok::<(), Box<dyn std::error::Error>>(())
+/// ```
 #[derive(Clone, Copy, Debug, PartialEq, Eq)]
 pub struct NodeSet([u8; limits::NODES / 8]);
 
