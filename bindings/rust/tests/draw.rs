@@ -89,6 +89,22 @@ fn a_picture_shows_the_cut_the_loop_and_the_scope() {
 }
 
 #[test]
+fn no_arrow_starts_with_a_stretch_without_length() {
+    let job =
+        "scope 3 block 0 block 1 after 0, 3 block 2 after 1 assumes 5, 6 block 3 after 1, 2 block 4 after 1 block 7 after 4";
+    let svg = drawn(&job.parse().unwrap()).unwrap();
+    let mut upright = 0;
+    for arrow in svg.lines().filter(|line| line.starts_with("<path class=") && line.contains('C')) {
+        let start = attribute(arrow, "d").trim_start_matches('M').split_once('C').unwrap().0;
+        let (from, to) = start.split_once('V').unwrap_or((start, ""));
+        let (_, top) = from.split_once(' ').unwrap();
+        assert_ne!(top, to, "{arrow}");
+        upright += usize::from(!to.is_empty());
+    }
+    assert!(upright > 0);
+}
+
+#[test]
 fn a_picture_refers_to_nothing_outside() {
     let svg = drawn(&"scope 7 block 7".parse().unwrap()).unwrap();
     assert!(svg.starts_with("<svg xmlns=\"http://www.w3.org/2000/svg\""));

@@ -85,7 +85,12 @@ fn path(arrow: &Arrow, placed: &Placed, boxes: &[BlockBox], start: f64, finish: 
     let upper = arrow.points[0];
     let at = placed.at(upper);
     let (mut x, mut y) = (start, at.layer_end);
-    let mut path = format!("M{x:.1} {:.1}V{y:.1}", at.y + boxes[upper].height);
+    let bottom = at.y + boxes[upper].height;
+    let mut path = format!("M{x:.1} {bottom:.1}");
+    // A browser takes an arrowhead's direction from the first stretch, which must have a length.
+    if y - bottom > 0.1 {
+        write!(path, "V{y:.1}").expect("a string");
+    }
     let last = arrow.points.len() - 1;
     for (place, &point) in arrow.points.iter().enumerate().skip(1) {
         let at = placed.at(point);
