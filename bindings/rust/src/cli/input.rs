@@ -1,7 +1,7 @@
 //! A job from a file or from standard input, in any of its forms.
 
 use super::failure::Failure;
-use scope_deps::{limits, Job};
+use scope_deps::{limits, raw, Job, Refusal};
 use std::fs::File;
 use std::io::{self, Read};
 
@@ -68,8 +68,12 @@ impl Input {
         text.parse().map_err(|why| Failure::Text { place, text: text.to_string(), why })
     }
 
+    /// The job, or the refusal that the stage itself gives these bytes.
     fn job_of_bytes(&self, bytes: &[u8]) -> Result<Job, Failure> {
-        Job::from_bytes(bytes).map_err(|why| Failure::Refused { place: self.place.clone(), why })
+        Job::from_bytes(bytes).map_err(|own| {
+            let why = raw::answer(bytes).err().unwrap_or(own);
+            Failure::Refused { place: self.place.clone(), why }
+        })
     }
 
     /// The bytes of hexadecimal digits. White space and `/` may stand between bytes.
@@ -83,7 +87,7 @@ impl Input {
             return Err(failed("this has an odd number of hexadecimal digits".into()));
         }
         if values.len() / 2 > limits::JOB_BYTES {
-            return Err(Failure::Refused { place: self.place.clone(), why: scope_deps::Refusal::LongJob });
+            return Err(Failure::Refused { place: self.place.clone(), why: Refusal::LongJob });
         }
         Ok(values.chunks(2).map(|pair| (pair[0] * 16 + pair[1]) as u8).collect())
     }
