@@ -91,7 +91,7 @@ impl Svg {
         self.text(174.0, y, "label", "control that closes a loop");
         let lines: [&[(&str, &str)]; 4] = [
             &[("assumed", "assumes"), ("label", ": paths taken as given in the block")],
-            &[("", "holds"), ("label", ": paths known there not to be null or undefined")],
+            &[("", "holds"), ("label", ": paths that count as known there, its propagated set")],
             &[("", "1"), ("knife", "|"), ("cut", ".10"), ("label", ": cut, since 1 is not known there")],
             &[
                 ("", "1"),
