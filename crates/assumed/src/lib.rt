@@ -54,17 +54,17 @@ fn enter_block(s: &[u8], at: usize, ws: &mut [u64; 1665], optional: &mut [u64; 8
     ensures { λ r. ⌜ Fills (enterPaths (registryOf (now (ws .entry))) [] (assumedAt (now (s .entry)) at)) r (now (ws .exit)) (now (optional .exit)) ⌝ }
 {
     // A block that was read has its head and its ids, so this is never the answer.
-    let none = EnteredSet {
+    let never = EnteredSet {
         set: NodeBits::empty(),
         full: true,
     };
     let head_field = job::block_head_at(s, at);
     let ReadBlockHead::Value(head, ids_at) = head_field else {
-        return none;
+        return never;
     };
     let ids = job::past_ids(s, ids_at, head.predecessors);
     let Passed::To(paths_at) = ids else {
-        return none;
+        return never;
     };
     enter_paths(s, paths_at, head.assumed, ws, optional)
 }

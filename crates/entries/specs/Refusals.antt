@@ -3,7 +3,7 @@ use Prim.Native.Nat.{ℕ}
 use Rattle.entries.specs.declared.Refusal.{Refusal}
 use Rattle.entries.specs.declared.Refusal.the-variants.{ShortBuffer, LongJob, MissingByte, WrongMark, OutOfRange, ExtraByte, RepeatedId, UnknownBlock, ManyNodes}
 
--- "One of the numbered refusals": 1 to 9 in the order of that list.
+-- 1 to 9, in the order of that list.
 abbrev pub refusalNumber : Refusal → ℕ
 refusalNumber ShortBuffer = 1
 refusalNumber LongJob = 2

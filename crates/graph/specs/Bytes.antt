@@ -55,7 +55,8 @@ unfoldable pub graphIn : List ℕ → Graph
 unfolding predecessorsFrom successorsFrom
 graphIn g = record { size = sizeIn g; predecessors = neighbours g false; successors = neighbours g true }
 
--- What a reader needs: the numbers stay in their ranges, a neighbour of a block is a block, and the blocks have the last ranks.
+-- What reading the graph needs: the numbers stay in their ranges, a neighbour of a block is a block, and no block has a successor of a rank below the last
+-- ones, which the blocks have.
 pub record GraphFits (g : List ℕ) : Type 0 where
   pub size : sizeIn g ≤ 128
   pub degree : (b : ℕ) → b < sizeIn g → degreeIn g b ≤ 64

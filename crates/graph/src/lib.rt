@@ -1,5 +1,5 @@
 // The graph of a job in lent bytes, read neighbour by neighbour. Byte b * 64 + i is the place of predecessor i of block b, byte 8192 + b how many it
-// has, byte 8320 + r the place of the block of rank r by ascending id. Of the 16 bytes from 8448 + b * 16 on, bit r % 8 of byte r / 8 says that the
+// has, byte 8320 + r the place of the block of rank r. The ranks of n blocks are 128 - n to 127, by ascending id. Of the 16 bytes from 8448 + b * 16 on, bit r % 8 of byte r / 8 says that the
 // block of rank r is a successor of block b. Byte 10496 is how many blocks there are.
 ghost use mathlib.Core.Path.{_≡_};
 ghost use mathlib.Core.Bool.{true, false};
@@ -12,8 +12,8 @@ pub enum Near {
     Nothing,
 }
 
-// A byte as a place.
-pub fn as_place(x: u8) -> usize
+// A byte as a number for places and counts.
+pub fn as_number(x: u8) -> usize
     ensures { λ r. ⌜ r ≡ x ⌝ }
 {
     x as usize
@@ -22,7 +22,7 @@ pub fn as_place(x: u8) -> usize
 pub fn size(graph: &[u8; 10497]) -> usize
     ensures { λ r. ⌜ r ≡ sizeIn (now (graph .entry)) ⌝ }
 {
-    as_place(graph[10496])
+    as_number(graph[10496])
 }
 
 fn lowest_bit(w: u8, from: usize) -> usize
@@ -41,9 +41,9 @@ fn next_predecessor(graph: &[u8; 10497], b: usize, from: usize) -> Near
     requires { ⌜ GraphFits (now graph) × (b < sizeIn (now graph)) ⌝ }
     ensures { λ r. ⌜ Finds (now (graph .entry)) false b from r ⌝ }
 {
-    let degree = as_place(graph[8192 + b]);
+    let degree = as_number(graph[8192 + b]);
     if from < degree {
-        let k = as_place(graph[b * 64 + from]);
+        let k = as_number(graph[b * 64 + from]);
         Near::At(k, from + 1)
     } else {
         Near::Nothing
@@ -65,7 +65,7 @@ fn next_successor(graph: &[u8; 10497], b: usize, from: usize) -> Near
         let bit = lowest_bit(graph[8448 + b * 16 + at], r % 8);
         let rank = at * 8 + bit;
         if bit < 8 {
-            let k = as_place(graph[8320 + rank]);
+            let k = as_number(graph[8320 + rank]);
             return Near::At(k, rank + 1);
         }
         r = rank;

@@ -52,11 +52,11 @@ passes (suc most) reg s =
     let r = pass reg s in
     elim (r .changed) [ true ↦ passes most (r .registry) (r .set) | false ↦ r ]
 
--- how many optional marks a path has, and all the paths of a set's nodes
+-- how many optional marks a path has
 unfoldable pub optionalMarks : List DependencyPathEntry → ℕ
 optionalMarks es = countOf (λ (e : DependencyPathEntry). e .optional) es
 
--- and those of a set's nodes together
+-- how many the paths of a set's nodes have together
 unfoldable pub optionalMarksOf : PropertyPathRegistry → NodeSet → ℕ
 unfolding optionalMarks
 optionalMarksOf reg s = sumOf (λ k. optionalMarks (fullPathOf reg k .path)) s

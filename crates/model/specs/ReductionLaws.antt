@@ -126,7 +126,7 @@ node-lowered s reg k h le =
           (λ e. let other = eqb-false after (marksAt reg k) e in omega arith),
     )
 
--- A set of a sound registry's nodes.
+-- A set of the registry's nodes.
 pub record Members (reg : PropertyPathRegistry) (s : NodeSet) : Type 0 where
   pub ascending : Ascending s
   pub inside : All (λ k. k .0 < length reg) s

@@ -17,7 +17,7 @@ nodeLimit = 512
 abbrev pub rootMark : ℕ
 rootMark = 65535
 
--- where a node hangs: it is a root, or the child of a node by an entry
+-- where a node comes from: it is a root, or the child of a node by an entry
 pub data Origin : Type 0 where
   root : Origin
   childOf : NodeId → DependencyPathEntry → Origin
@@ -31,7 +31,7 @@ pub record PropertyPathNode : Type 0 where
 abbrev pub PropertyPathRegistry : Type 0
 PropertyPathRegistry = List PropertyPathNode
 
--- A node hangs nowhere: it is a root.
+-- A node is a root.
 abbrev pub isRoot : Origin → Bool
 isRoot root = true
 isRoot (childOf q f) = false
@@ -40,7 +40,7 @@ isRoot (childOf q f) = false
 abbrev pub isRootFor : IdentifierId → PropertyPathNode → Bool
 isRootFor i n = isRoot (n .origin) && eqb (n .fullPath .identifier .0) (i .0)
 
--- A node hangs at this parent, by an entry whose property and optional mark are these.
+-- A node is the child of this parent, by an entry whose property and optional mark are these.
 abbrev pub isChild : NodeId → DependencyPathEntry → Origin → Bool
 isChild p e root = false
 isChild p e (childOf q f) = eqb (q .0) (p .0) && sameEntry f e

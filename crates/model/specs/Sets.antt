@@ -34,7 +34,7 @@ union s t = foldl (λ r k. insert k r) s t
 abbrev pub intersection : NodeSet → NodeSet → NodeSet
 intersection s t = select (contains t) s
 
--- Two sets have the same nodes (a walk "changes nothing").
+-- Two sets have the same nodes: by this it is told whether a set has changed.
 abbrev pub sameSet : NodeSet → NodeSet → Bool
 sameSet [] [] = true
 sameSet [] (y ∷ ys) = false

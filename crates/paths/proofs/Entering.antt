@@ -26,7 +26,7 @@ use Rattle.registry.specs.Words.{countIn, registryOf, Held, Arrives}
 use Rattle.registry.proofs.View.{registry-length}
 use Rattle.paths.specs.declared.EnteredPath.{EnteredPath}
 use Rattle.paths.specs.declared.EnteredPath.the-variants.{At, Full, Refused}
-use Rattle.paths.specs.Enters.{walkOwn, Enters, fullOr}
+use Rattle.paths.specs.Enters.{walkOwn, Enters, fullOrRefused}
 
 -- a record that is made of another
 pub enters-mapped : {A B : Type 0} (f : A → B) (x : Read A) (reach : B → Reached) (r : EnteredPath) (ws os : List ℕ) → Enters x (λ a. reach (f a)) r ws os → Enters (mapped f x) reach r ws os
@@ -38,15 +38,15 @@ enters-mapped f (refused q) reach Full ws os h = absurd h
 enters-mapped f (refused q) reach (Refused p) ws os h = h
 
 -- wherever it would lead, there is no room
-pub enters-full : {A : Type 0} (x : Read A) (reach : A → Reached) (ws os : List ℕ) → ((a : A) → nodeLimit < length (reach a .registry)) → Enters x reach (fullOr x) ws os
+pub enters-full : {A : Type 0} (x : Read A) (reach : A → Reached) (ws os : List ℕ) → ((a : A) → nodeLimit < length (reach a .registry)) → Enters x reach (fullOrRefused x) ws os
 enters-full (got a n) reach ws os h = h a
 enters-full (refused q) reach ws os h = refl
 
 -- what is said where there is no room, by how far the rest of the record was passed
-pub rest-read : {A : Type 0} (x : Read A) {n : ℕ} → passed x ≡ got tt n → Full ≡ fullOr x
+pub rest-read : {A : Type 0} (x : Read A) {n : ℕ} → passed x ≡ got tt n → Full ≡ fullOrRefused x
 rest-read x e = rw (passed-got x e .1)
 
-pub rest-refused : {A : Type 0} (x : Read A) {r : Refusal} → passed x ≡ refused r → Refused r ≡ fullOr x
+pub rest-refused : {A : Type 0} (x : Read A) {r : Refusal} → passed x ≡ refused r → Refused r ≡ fullOrRefused x
 rest-refused x e = rw (passed-refused x e)
 
 -- The registry's answers by their case, with what the next call asks.
@@ -111,9 +111,9 @@ module _ {A : Type 0} {whole : Read A} {reach : A → Reached} {s ws os : List �
       unfolding walkFrom
       step r us ps h = x .on r us ps (rw rest (enters-mapped (λ es. e ∷ es) (readMany (left - 1) (readEntry 4) s next) (walkOwn (registryOf ws) node) r us ps h))
 
-      pub entering-full : (r : EnteredPath) (us ps : List ℕ) → nodeLimit < length (child .registry) → r ≡ fullOr (readMany (left - 1) (readEntry 4) s next) → Enters whole reach r us ps
+      pub entering-full : (r : EnteredPath) (us ps : List ℕ) → nodeLimit < length (child .registry) → r ≡ fullOrRefused (readMany (left - 1) (readEntry 4) s next) → Enters whole reach r us ps
       entering-full r us ps full is =
-          rw is (step (fullOr (readMany (left - 1) (readEntry 4) s next)) us ps (enters-full (readMany (left - 1) (readEntry 4) s next) (λ es. walkFrom ownMark child es) us ps (λ es. let longer = extends-length (walk-extends ownMark child es) in omega arith)))
+          rw is (step (fullOrRefused (readMany (left - 1) (readEntry 4) s next)) us ps (enters-full (readMany (left - 1) (readEntry 4) s next) (λ es. walkFrom ownMark child es) us ps (λ es. let longer = extends-length (walk-extends ownMark child es) in omega arith)))
 
       pub entering-more : (vs qs : List ℕ) (k : NodeId) → Held vs qs → k .0 < countIn vs → child ≡ record { registry = registryOf vs; node = k }
           → Entering whole reach s vs qs k next (left - 1)
@@ -141,10 +141,10 @@ module _ (mark : ℕ) (s : List ℕ) (at : ℕ) where
       unfolding getOrCreateProperty
       path-entered r us ps h = rw (path-by-head, marked, read) (enters-mapped (pathOf head) (readMany (head .entries) (readEntry 4) s entriesAt) (getOrCreateProperty reg) r us ps h)
 
-      pub path-full : (r : EnteredPath) (us ps : List ℕ) → nodeLimit < length (root .registry) → r ≡ fullOr (readMany (head .entries) (readEntry 4) s entriesAt)
+      pub path-full : (r : EnteredPath) (us ps : List ℕ) → nodeLimit < length (root .registry) → r ≡ fullOrRefused (readMany (head .entries) (readEntry 4) s entriesAt)
           → Enters (readPath 4 mark s at) (getOrCreateProperty reg) r us ps
       path-full r us ps full is =
-          rw is (path-entered (fullOr (readMany (head .entries) (readEntry 4) s entriesAt)) us ps (enters-full (readMany (head .entries) (readEntry 4) s entriesAt) (λ es. walkFrom ownMark root es) us ps (λ es. let longer = extends-length (walk-extends ownMark root es) in omega arith)))
+          rw is (path-entered (fullOrRefused (readMany (head .entries) (readEntry 4) s entriesAt)) us ps (enters-full (readMany (head .entries) (readEntry 4) s entriesAt) (λ es. walkFrom ownMark root es) us ps (λ es. let longer = extends-length (walk-extends ownMark root es) in omega arith)))
 
       pub path-rooted : (vs : List ℕ) (k : NodeId) → root ≡ record { registry = registryOf vs; node = k } → (r : EnteredPath) (us ps : List ℕ)
           → Enters (readMany (head .entries) (readEntry 4) s entriesAt) (walkOwn (registryOf vs) k) r us ps → Enters (readPath 4 mark s at) (getOrCreateProperty reg) r us ps

@@ -17,7 +17,7 @@ abbrev pub walkOwn : PropertyPathRegistry → NodeId → List DependencyPathEntr
 walkOwn reg k es = walkFrom ownMark (record { registry = reg; node = k }) es
 
 -- The record that reads to a value leads to the node that `reach` gives for it, with the place after it, or the registry has no room for that (refusal 9
--- by the model's `withinNodes`). One that is refused is refused for the same, whether there is room or not.
+-- by the model's `withinNodes`). One that is refused is refused for the same reason, whether there is room or not.
 abbrev pub Enters : {A : Type 0} → Read A → (A → Reached) → EnteredPath → List ℕ → List ℕ → Type 0
 Enters (got a next) reach (At k n) ws os = Arrives (reach a) (entered.At k) ws os × (n ≡ next)
 Enters (got a next) reach Full ws os = nodeLimit < length (reach a .registry)
@@ -27,6 +27,6 @@ Enters (refused r) reach Full ws os = ⊥
 Enters (refused r) reach (Refused q) ws os = q ≡ r
 
 -- There is no room for a record: what is said of it, by what reading it gives.
-abbrev pub fullOr : {A : Type 0} → Read A → EnteredPath
-fullOr (got a next) = Full
-fullOr (refused r) = Refused r
+abbrev pub fullOrRefused : {A : Type 0} → Read A → EnteredPath
+fullOrRefused (got a next) = Full
+fullOrRefused (refused r) = Refused r

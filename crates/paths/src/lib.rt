@@ -6,7 +6,7 @@ ghost use Rattle.model.specs.Job.{readEntry, readPath};
 ghost use Rattle.model.specs.Registry.{getOrCreateProperty};
 ghost use Rattle.model.specs.Answer.{spanWidth};
 ghost use Rattle.registry.specs.Words.{countIn, registryOf, Held};
-ghost use Rattle.paths.specs.Enters.{walkOwn, Enters, fullOr};
+ghost use Rattle.paths.specs.Enters.{walkOwn, Enters, fullOrRefused};
 use entries::NodeId;
 use entries::Refusal;
 use fields::Passed;
@@ -23,7 +23,7 @@ pub enum EnteredPath {
 
 // The registry has no room for a path of which `left` entries stand from a place on: full, unless the record cannot be read.
 fn full_or_refused(s: &[u8], at: usize, left: u8) -> EnteredPath
-    ensures { λ r. ⌜ r ≡ fullOr (readMany left (readEntry spanWidth) (now (s .entry)) at) ⌝ }
+    ensures { λ r. ⌜ r ≡ fullOrRefused (readMany left (readEntry spanWidth) (now (s .entry)) at) ⌝ }
 {
     let rest = job::past_entries(s, at, left);
     let Passed::To(_) = rest else {

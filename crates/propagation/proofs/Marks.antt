@@ -7,7 +7,7 @@ use mathlib.Core.List.{List, [], _∷_, map}
 use lib.ListN.{length, getD, set, take, replicate, List·getD-map}
 use lib.Seq.{take-set-lt, getD-take}
 use Rattle.model.specs.Visit.{TraversalState, Unmarked, Done, isMarked, isDone}
-use Rattle.propagation.specs.Joins.{markOf, marksOf}
+use Rattle.propagation.specs.Joins.{stateOf, marksOf}
 
 map-set : (f : ℕ → TraversalState) (l : List ℕ) (i v : ℕ) → map f (set l i v) ≡ set (map f l) i (f v)
 map-set f [] i v = refl
@@ -24,42 +24,42 @@ take-replicate zero m a h = refl
 take-replicate (suc n) zero a h = absurd (omega arith)
 take-replicate {A} (suc n) (suc m) a h = ap (λ (l : List A). a ∷ l) (take-replicate n m a (omega arith))
 
-map-replicate : (n : ℕ) → map markOf (replicate n 0) ≡ replicate n Unmarked
+map-replicate : (n : ℕ) → map stateOf (replicate n 0) ≡ replicate n Unmarked
 map-replicate zero = refl
 map-replicate (suc n) = ap (λ (l : List TraversalState). Unmarked ∷ l) (map-replicate n)
 
 pub marks-cleared : (n : ℕ) → n ≤ 128 → marksOf n (replicate 128 0) ≡ replicate n Unmarked
 unfolding marksOf
-marks-cleared n h = ap (map markOf) (take-replicate n 128 0 h) ∙ map-replicate n
+marks-cleared n h = ap (map stateOf) (take-replicate n 128 0 h) ∙ map-replicate n
 
 module _ (n : ℕ) (marks : List ℕ) (b : ℕ) (inside : b < n) where
-  pub mark-set : (v : ℕ) → marksOf n (set marks b v) ≡ set (marksOf n marks) b (markOf v)
+  pub mark-set : (v : ℕ) → marksOf n (set marks b v) ≡ set (marksOf n marks) b (stateOf v)
   unfolding marksOf
-  mark-set v = ap (map markOf) (take-set-lt n marks b v inside) ∙ map-set markOf (take n marks) b v
+  mark-set v = ap (map stateOf) (take-set-lt n marks b v inside) ∙ map-set stateOf (take n marks) b v
 
-  mark-at : b < length marks → getD (marksOf n marks) b Done ≡ markOf (getD marks b 0)
+  mark-at : b < length marks → getD (marksOf n marks) b Done ≡ stateOf (getD marks b 0)
   unfolding marksOf
-  mark-at room = List·getD-map markOf (take n marks) b 2 ∙ ap markOf (getD-take n marks b 2 inside ∙ getD-any marks b 2 0 room)
+  mark-at room = List·getD-map stateOf (take n marks) b 2 ∙ ap stateOf (getD-take n marks b 2 inside ∙ getD-any marks b 2 0 room)
 
   pub zero-unmarked : b < length marks → getD marks b 0 ≡ 0 → isMarked (getD (marksOf n marks) b Done) ≡ false
-  zero-unmarked room e = ap isMarked (mark-at room ∙ ap markOf e)
+  zero-unmarked room e = ap isMarked (mark-at room ∙ ap stateOf e)
 
   pub more-marked : b < length marks → (getD marks b 0 ≡ 0 → ⊥) → isMarked (getD (marksOf n marks) b Done) ≡ true
   more-marked room h = ap isMarked (mark-at room) ∙ above (getD marks b 0) h
     where
-      above : (m : ℕ) → (m ≡ 0 → ⊥) → isMarked (markOf m) ≡ true
+      above : (m : ℕ) → (m ≡ 0 → ⊥) → isMarked (stateOf m) ≡ true
       above zero d = absurd (d refl)
       above (suc zero) d = refl
       above (suc (suc m)) d = refl
 
-  done-at : isDone (getD (marksOf n marks) b Unmarked) ≡ isDone (markOf (getD marks b 0))
+  done-at : isDone (getD (marksOf n marks) b Unmarked) ≡ isDone (stateOf (getD marks b 0))
   unfolding marksOf
-  done-at = ap isDone (List·getD-map markOf (take n marks) b 0 ∙ ap markOf (getD-take n marks b 0 inside))
+  done-at = ap isDone (List·getD-map stateOf (take n marks) b 0 ∙ ap stateOf (getD-take n marks b 0 inside))
 
   pub below-done : getD marks b 0 < 2 → isDone (getD (marksOf n marks) b Unmarked) ≡ false
   below-done h = done-at ∙ low (getD marks b 0) h
     where
-      low : (m : ℕ) → m < 2 → isDone (markOf m) ≡ false
+      low : (m : ℕ) → m < 2 → isDone (stateOf m) ≡ false
       low zero l = refl
       low (suc zero) l = refl
       low (suc (suc m)) l = absurd (omega arith)
@@ -67,7 +67,7 @@ module _ (n : ℕ) (marks : List ℕ) (b : ℕ) (inside : b < n) where
   pub is-done : 2 ≤ getD marks b 0 → isDone (getD (marksOf n marks) b Unmarked) ≡ true
   is-done h = done-at ∙ high (getD marks b 0) h
     where
-      high : (m : ℕ) → 2 ≤ m → isDone (markOf m) ≡ true
+      high : (m : ℕ) → 2 ≤ m → isDone (stateOf m) ≡ true
       high zero l = absurd (omega arith)
       high (suc zero) l = absurd (omega arith)
       high (suc (suc m)) l = refl

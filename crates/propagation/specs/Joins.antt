@@ -19,14 +19,14 @@ use Rattle.propagation.specs.declared.Progress.{Progress}
 use Rattle.propagation.specs.declared.Progress.the-variants.{Changed, Full}
 
 -- 0 is an unmarked block, 1 an Active one, any other number a Done one; the code stores 2
-abbrev pub markOf : ℕ → TraversalState
-markOf zero = Unmarked
-markOf (suc zero) = Active
-markOf (suc (suc k)) = Done
+abbrev pub stateOf : ℕ → TraversalState
+stateOf zero = Unmarked
+stateOf (suc zero) = Active
+stateOf (suc (suc k)) = Done
 
 -- the marks of n blocks
 unfoldable pub marksOf : ℕ → List ℕ → List TraversalState
-marksOf n marks = map markOf (take n marks)
+marksOf n marks = map stateOf (take n marks)
 
 -- the work of n blocks
 unfoldable pub workOf : ℕ → List ℕ → List ℕ → Bool → Work

@@ -271,7 +271,8 @@ fn walk(
     Progress::Changed(so_far)
 }
 
-// A forward and a backward walk, from no set changed. The backward one is never the first.
+// A forward and a backward walk, of which the backward one is never the first. They start from no set changed; whether one had changed before the round is
+// not read, so the contract may say `true`.
 fn round(
     graph: &[u8; 10497],
     marks: &mut [u8; 128],

@@ -19,7 +19,7 @@ pub record ChildAt (reg : PropertyPathRegistry) (p : NodeId) (e : DependencyPath
   pub inside : k .0 < length reg
   pub first : find (isChildBy p e) reg ≡ k .0
 
--- What is told of a node where its path leads back to it.
+-- A node's path leads back to it, where that is said.
 abbrev pub LeadsBackIf : Bool → PropertyPathRegistry → NodeSet → NodeId → Type 0
 LeadsBackIf true reg s k = LeadsBack reg s k
 LeadsBackIf false reg s k = Unit {0}

@@ -89,7 +89,8 @@ pub fn walk_again(
     }
 }
 
-// Whether each optional entry of node k's path keeps its mark, so that the path leads back to k. This walks up the parents and searches nothing.
+// True where each optional entry of node k's path keeps its mark, so that the path leads back to k; false promises nothing. This walks up the parents and
+// searches nothing.
 fn leads_back(ws: &[u64; 1665], set: NodeBits, k: NodeId) -> bool
     requires { ⌜ HoldsRegistry (now ws) × (k .0 < countIn (now ws)) ⌝ }
     ensures { λ r. ⌜ LeadsBackIf r (registryOf (now (ws .entry))) (membersOf (set .words)) k ⌝ }
@@ -145,7 +146,8 @@ fn reduce_node(
     }
 }
 
-// The set's nodes with an optional entry, ascending, as they are at the start.
+// The set's nodes with an optional entry, ascending, as they are at the start. One whose path leads back to it is passed over, since walking it again would
+// change nothing and make nothing.
 fn pass(ws: &mut [u64; 1665], optional: &mut [u64; 8], set: NodeBits) -> ReducedSet
     requires { ⌜ Held (now ws) (now optional) × Members (registryOf (now ws)) (membersOf (set .words)) ⌝ }
     ensures { λ r. ⌜ Reduces (pass (registryOf (now (ws .entry))) (membersOf (set .words))) r (now (ws .exit)) (now (optional .exit)) ⌝ }
@@ -175,7 +177,8 @@ fn pass(ws: &mut [u64; 1665], optional: &mut [u64; 8], set: NodeBits) -> Reduced
     r
 }
 
-// Passes until one changes nothing. Where `known` says that the set `before` is reduced, a pass that leaves that set is the last: the next would change nothing.
+// Passes until one changes nothing. Where `known` says that the set `before` is reduced, a pass that leaves that set is the last: the next would
+// change nothing and make nothing.
 pub fn reduce_maybe_optional_chains(
     ws: &mut [u64; 1665],
     optional: &mut [u64; 8],

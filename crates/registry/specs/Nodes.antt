@@ -20,13 +20,13 @@ sameKey (Child p e) (Root j q t) = false
 sameKey (Child p e) (Child q f) = eqb (p .0) (q .0) && sameEntry e f
 
 -- The bucket in which a node is looked for, below 128: nodes with the same key have the same. A child's comes from its parent and its property's value. A number
--- as a property has the 64 bits of a float, of which a small integer uses the high ones, so that high and low bits are added. The factors are 0.7549 and 0.5698
--- times 2^20, of the low-discrepancy sequence R2: where parents and values go up together, as along a chain of new names, the buckets still differ.
+-- as a property has the 64 bits of a float, of which a small integer uses the high ones, so that high and low bits are added. The factors are chosen
+-- so that the buckets still differ where parents and values go up together, as along a chain of new names.
 abbrev pub bucketOf : Node → ℕ
 bucketOf (Root i r s) = i .0 % 128
 bucketOf (Child p e) = (p .0 % 65536 * 791547 + (valueOf (e .property) % 4294967296 + valueOf (e .property) / 70368744177664) * 597521) / 8192 % 128
 
--- where a node hangs
+-- a root, or the child of a node by an entry
 abbrev pub originOf : Node → Origin
 originOf (Root i r s) = root
 originOf (Child p e) = childOf p e

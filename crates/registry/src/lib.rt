@@ -18,7 +18,7 @@ use entries::NodeId;
 use entries::PropertyLiteral;
 use rows::NodeBits;
 
-// A node as it hangs: a root with its identifier, reactive mark and span, or the child of a node by an entry.
+// A node: a root with its identifier, reactive mark and span, or the child of a node by an entry.
 pub enum Node {
     Root(IdentifierId, bool, u64),
     Child(NodeId, DependencyPathEntry),
@@ -95,7 +95,7 @@ const REACTIVE: u64 = 1125899906842624;
 const LINK: u64 = 2251799813685248;
 
 impl Node {
-    pub fn head(self) -> u64
+    fn head(self) -> u64
         requires { ⌜ ParentFits self ⌝ }
         ensures { λ r. ⌜ (unpack r (valueIn self) (spanIn self) ≡ self) × (r < linkUnit) ⌝ }
     {

@@ -4,8 +4,7 @@ use native.Mathlib.Omega.{arith}
 use mathlib.Core.Path.{_≡_, refl, sym, ap, subst, _∙_}
 use mathlib.Core.Bool.{cond}
 use mathlib.Core.List.{List, [], _∷_, _++_}
-use lib.ListN.{length, take, drop, set, replicate, length-append, length-replicate, length-set}
-use lib.Seq.{take-append-seam}
+use lib.ListN.{length, drop, set, replicate, length-append, length-replicate, length-set}
 use lib.Dec.{ltb}
 use Rattle.entries.specs.declared.Refusal.{Refusal}
 use Rattle.entries.specs.declared.Refusal.the-variants.{ShortBuffer, LongJob}
@@ -49,13 +48,11 @@ output operation.Sheet s out e = ap programOutput (sheet-verdict s out) ∙ shee
 
 -- What an outcome says of the verdict and the buffer.
 abbrev Stands : Verdict → List ℕ → List ℕ → Outcome → Type 0
-Stands v before after (Written n) = (take n after ≡ programOutput v) × (n ≤ length after)
+Stands v before after (Written n) = (after ≡ programOutput v ++ drop n before) × (n ≡ length (programOutput v))
 Stands v before after (Refused r) = (v ≡ turnsBack r) × (after ≡ before)
 
 stands : (v : Verdict) (before after : List ℕ) → after ≡ bufferAfter v before → Stands v before after (outcomeOf v)
-stands (writes bytes) before after e =
-    let size = ap length e ∙ length-append bytes (drop (length bytes) before) in
-    (ap (take (length bytes)) e ∙ take-append-seam bytes (drop (length bytes) before), omega arith)
+stands (writes bytes) before after e = (e, refl)
 stands (turnsBack r) before after e = (refl, e)
 
 meets-stands : {v : Verdict} {o told : Outcome} {before after : List ℕ} → Meets v o before after → o ≡ told → Stands v before after told
@@ -63,8 +60,11 @@ meets-stands {v} {o} {told} {before} {after} m e = subst (Stands v before after)
 
 module _ (op : Operation) (s before after : List ℕ) {o : Outcome} (size : length before ≡ leastBuffer) (m : Meets (verdictOf op s before) o before after) where
   -- The operation's bytes are the output.
-  pub written : {n : ℕ} → o ≡ Written n → Responds op s after n
-  written e = let w = meets-stands m e in record { bytes = w .0 ∙ output op s before size; within = w .1 }
+  pub written : {n : ℕ} → o ≡ Written n → Responds op s before after n
+  written {n} e =
+      let w = meets-stands m e in
+      let out = output op s before size in
+      record { buffer = w .0 ∙ ap (λ (bytes : List ℕ). bytes ++ drop n before) out; size = w .1 ∙ ap length out }
 
   -- After a refusal there is room for its three bytes.
   pub room : {r : Refusal} → o ≡ Refused r → length after ≡ leastBuffer
@@ -77,7 +77,7 @@ module _ (op : Operation) (s before after : List ℕ) {o : Outcome} (size : leng
 abbrev put : List ℕ → ℕ → List ℕ
 put xs k = set (set (set xs 0 0x52) 1 0x46) 2 k
 
-put-is : (xs : List ℕ) (k : ℕ) → 3 ≤ length xs → take 3 (put xs k) ≡ 0x52 ∷ 0x46 ∷ k ∷ []
+put-is : (xs : List ℕ) (k : ℕ) → 3 ≤ length xs → put xs k ≡ (0x52 ∷ 0x46 ∷ k ∷ []) ++ drop 3 xs
 put-is (a ∷ b ∷ c ∷ xs) k h = refl
 put-is (a ∷ b ∷ []) k h = absurd (omega (arith, h))
 put-is (a ∷ []) k h = absurd (omega (arith, h))
@@ -90,12 +90,16 @@ pub third : (xs : List ℕ) (a b : ℕ) → length xs ≡ leastBuffer → 2 < le
 third xs a b e = let l = length-set (set xs 0 a) 1 b ∙ length-set xs 0 a in omega arith
 
 -- RF and the number are the output.
-pub refused : (op : Operation) (s before after : List ℕ) {o : Outcome} {r : Refusal} {k : ℕ} → length before ≡ leastBuffer → Meets (verdictOf op s before) o before after → o ≡ Refused r → k ≡ refusalNumber r → Responds op s (put after k) 3
+pub refused : (op : Operation) (s before after : List ℕ) {o : Outcome} {r : Refusal} {k : ℕ} → length before ≡ leastBuffer → Meets (verdictOf op s before) o before after → o ≡ Refused r → k ≡ refusalNumber r
+    → Responds op s before (put after k) 3
 refused op s before after {o} {r} {k} size m e n =
     let l = room op s before after size m e in
-    let l2 = third after 0x52 0x46 l in
-    let l3 = length-set (set (set after 0 0x52) 1 0x46) 2 k in
+    let out : 0x52 ∷ 0x46 ∷ k ∷ [] ≡ programOf op s = ap (λ (x : ℕ). 0x52 ∷ 0x46 ∷ x ∷ []) n ∙ refusal-output op s before after size m e in
     record {
-      bytes = put-is after k (omega arith) ∙ ap (λ (x : ℕ). 0x52 ∷ 0x46 ∷ x ∷ []) n ∙ refusal-output op s before after size m e;
-      within = omega arith;
+      buffer = put-is after k (omega arith) ∙ ap (λ (bytes : List ℕ). bytes ++ drop 3 after) out ∙ ap (λ (xs : List ℕ). programOf op s ++ drop 3 xs) (meets-stands m e .1);
+      size = ap length out;
     }
+
+-- What is to be written is a part of the buffer.
+pub within : {op : Operation} {s before after : List ℕ} {n : ℕ} → Responds op s before after n → n ≤ length after
+within {op} {s} {before} {after} {n} r = let all = ap length (r .buffer) ∙ length-append (programOf op s) (drop n before) in let own = r .size in omega arith

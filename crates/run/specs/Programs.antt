@@ -1,10 +1,10 @@
 -- What the programs `answer` and `sheet` write.
-use Prim.Native.Nat.{ℕ, _≤_, _<_}
+use Prim.Native.Nat.{ℕ, _<_}
 use native.Mathlib.Omega.{arith}
 use mathlib.Core.Path.{_≡_, ap}
 use mathlib.Core.Bool.{true}
-use mathlib.Core.List.{List}
-use lib.ListN.{length, take, replicate}
+use mathlib.Core.List.{List, _++_}
+use lib.ListN.{length, take, drop, replicate}
 use lib.Seq.{length-take-le, take-all}
 use lib.Dec.{ltb}
 use Rattle.model.specs.Tests.{decide, ltb-true, ltb-false}
@@ -20,10 +20,10 @@ abbrev pub programOf : Operation → List ℕ → List ℕ
 programOf operation.Answer = answerProgram
 programOf operation.Sheet = sheetProgram
 
--- The buffer's first n bytes, which it has, are what the operation's program writes of the job.
-pub record Responds (op : Operation) (job buffer : List ℕ) (n : ℕ) : Type 0 where
-  pub bytes : take n buffer ≡ programOf op job
-  pub within : n ≤ length buffer
+-- What the operation's program writes of the job are the buffer's first n bytes, and those beyond stay.
+pub record Responds (op : Operation) (job before after : List ℕ) (n : ℕ) : Type 0 where
+  pub buffer : after ≡ programOf op job ++ drop n before
+  pub size : n ≡ length (programOf op job)
 
 -- how many bytes of a job a program reads at most
 abbrev pub bytesRead : ℕ

@@ -9,7 +9,7 @@ use stage::Outcome;
 // How many bytes at the buffer's start are to be written: the operation's, or RF and the refusal's number.
 pub fn respond(operation: Operation, s: &[u8], out: &mut [u8]) -> usize
     requires { ⌜ length (now out) ≡ leastBuffer ⌝ }
-    ensures { λ r. ⌜ Responds operation (now (s .entry)) (now (out .exit)) r ⌝ }
+    ensures { λ r. ⌜ Responds operation (now (s .entry)) (now (out .entry)) (now (out .exit)) r ⌝ }
 {
     let outcome = stage::perform(operation, s, out);
     match outcome {

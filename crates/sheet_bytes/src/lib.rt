@@ -64,7 +64,7 @@ fn parent_number(n: Node) -> u64
     }
 }
 
-// The entry by which a node hangs: optional, kind and value, or as many zeros for a root.
+// The entry by which a node is a child: optional, kind and value, or as many zeros for a root.
 fn put_origin(out: &mut [u8], at: usize, n: Node) -> usize
     requires { ⌜ at + 10 ≤ length (now out) ⌝ }
     ensures { λ r. ⌜ Writes (now (out .entry)) (now (out .exit)) at (originBytes (originOf n)) r ⌝ }
@@ -75,7 +75,7 @@ fn put_origin(out: &mut [u8], at: usize, n: Node) -> usize
     }
 }
 
-// A node: its parent, its root's identifier, the entry by which it hangs, its span and its root's reactive mark.
+// A node: its parent, its root's identifier, the entry by which it is a child, its span and its root's reactive mark.
 fn put_node(ws: &[u64; 1665], k: NodeId, out: &mut [u8], at: usize) -> usize
     requires { ⌜ HoldsRegistry (now ws) × (k .0 < countIn (now ws)) × (at + 23 ≤ length (now out)) ⌝ }
     ensures { λ r. ⌜ Writes (now (out .entry)) (now (out .exit)) at (nodeBytes spanWidth (nodeAt (registryOf (now (ws .entry))) (k .0))) r ⌝ }

@@ -170,7 +170,7 @@ pub fn sheet(s: &[u8], out: &mut [u8]) -> Outcome
 }
 
 impl Outcome {
-    // Document 01's number: the length, or minus the refusal.
+    // Document 01's number: the length, or minus the refusal's number.
     fn number(self) -> i64
         requires { ⌜ FitsNumber self ⌝ }
         ensures { λ r. ⌜ r ≡ outcomeNumber self ⌝ }

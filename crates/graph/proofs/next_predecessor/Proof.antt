@@ -9,18 +9,18 @@ use Rattle.graph.proofs.next_predecessor.Tie as tie
 byte : (c : tie.Then1) → c .before .before .before .args .b * 64 + c .before .before .before .args .from < 8192
 byte c =
     let s = c .before .before .before in
-    predecessor-byte (s .pre .0) (s .pre .1) (s .args .from) _ (c .before .as-place .ensures) (c .if1 .taken)
+    predecessor-byte (s .pre .0) (s .pre .1) (s .args .from) _ (c .before .as-number .ensures) (c .if1 .taken)
 
 returns : tie.Need-returns
 returns c =
     let t = c .before .before in
     let s = t .before .before .before in
-    predecessor-next (s .pre .0) (s .pre .1) (s .args .from) _ _ (t .before .as-place .ensures) (t .if1 .taken) (c .as-place2 .ensures)
+    predecessor-next (s .pre .0) (s .pre .1) (s .args .from) _ _ (t .before .as-number .ensures) (t .if1 .taken) (c .as-number2 .ensures)
 
 returns-2 : tie.Need-returns-2
 returns-2 c =
     let s = c .before .before .before in
-    let d = c .before .as-place .ensures in
+    let d = c .before .as-number .ensures in
     no-predecessor (s .args .graph .now) (s .args .b) (s .args .from) (omega arith)
 
 pub next-predecessor-spec : {M : Type 1} → statement M

@@ -33,7 +33,7 @@ returns c =
     let l = t .before .before .before .before .before in
     let s = l .before .before .before in
     successor-next (s .pre .0) (s .pre .1) (l .loop .r) (t .before .lowest-bit .result) (t .before .before .before .before .loop-test .taken) (t .before .lowest-bit .ensures)
-    (s .args .from) _ (l .loop .inv .0) (l .loop .inv .1) (t .if2 .taken) (c .as-place .ensures)
+    (s .args .from) _ (l .loop .inv .0) (l .loop .inv .1) (t .if2 .taken) (c .as-number .ensures)
 
 loop-again : tie.Need-loop-again Inv-loop μ-loop
 loop-again c =

@@ -2,11 +2,12 @@
 use mathlib.Core.Path.{sym}
 use lib.Seq.{length-take-le}
 use borrow.Author.Needs.{needs}
+use Rattle.run.proofs.Responding.{within}
 use Rattle.run.proofs.run.Statement.{statement}
 use Rattle.run.proofs.run.Tie as tie
 
 slice-aggregate-write-all : tie.Need-slice-aggregate-write-all
-slice-aggregate-write-all c = let r = c .before .before .respond in sym (length-take-le (r .result) _ (r .ensures .within))
+slice-aggregate-write-all c = let r = c .before .before .respond in sym (length-take-le (r .result) _ (within (r .ensures)))
 
 pub run-spec : {M : Type 1} → statement M
 run-spec =
@@ -19,7 +20,7 @@ run-spec =
     (λ c. search needs)
     (λ c. search needs)
     (λ c κs. search needs)
-    (λ c. search needs)
+    (λ c. let inside = within (c .before .respond .ensures) in search needs)
     slice-aggregate-write-all
     (λ c κs. search needs)
     (λ c. search needs))
