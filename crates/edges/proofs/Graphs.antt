@@ -15,7 +15,7 @@ use Rattle.model.specs.Tests.{decide, passes-test, test-passes, and-first}
 use Rattle.model.specs.Rounds.{placesFrom}
 use Rattle.rows.specs.Members.{bit}
 use Rattle.rows.proofs.Words.{zero-bit}
-use Rattle.graph.specs.Bytes.{sizeIn, degreeIn, predecessorIn, blockOfRank, succeeds, predecessorsFrom, successorsFrom}
+use Rattle.graph.specs.Bytes.{sizeIn, degreeIn, predecessorIn, blockOfRank, isSuccessor, predecessorsFrom, successorsFrom}
 use Rattle.graph.proofs.Neighbours.{none-among}
 use Rattle.edges.specs.Rows.{RowsFilled}
 use Rattle.edges.specs.Order.{orderFrom, Ordered}
@@ -99,7 +99,7 @@ module _ (rows : ℕ → List ℕ) (n : ℕ) (order g₀ g₁ g₂ : List ℕ) (
 
     -- Successors.
 
-    no-bits : (b q : ℕ) → succeeds g₂ b q ≡ false
+    no-bits : (b q : ℕ) → isSuccessor g₂ b q ≡ false
     no-bits b q =
         let p : ℕ = 8448 + b * 16 + q / 8 in
         ap (λ w. bit w (q % 8)) (x₂ .outside p (inr (omega arith)) ∙ x₁ .behind p (omega arith) ∙ zeros p (omega arith)) ∙ zero-bit (q % 8)
@@ -110,18 +110,18 @@ module _ (rows : ℕ → List ℕ) (n : ℕ) (order g₀ g₁ g₂ : List ℕ) (
         let d : degreeIn g₂ b - 0 ≡ length (rows b) = let e = degree₂ b l in omega arith in
         ap (λ m. map (predecessorIn g₂ b) (placesFrom 0 m)) d ∙ by-place (predecessorIn g₂ b) (rows b) 0 (λ i h. ap (predecessorIn g₂ b) (zero-add i) ∙ predecessor₂ b i l h)
 
-    bit-is : (b q : ℕ) → b < 128 → q < 128 → succeeds g b q ≡ leb (128 - n) q && (ltb q 128 && namesAsPredecessor g₂ q b)
+    bit-is : (b q : ℕ) → b < 128 → q < 128 → isSuccessor g b q ≡ leb (128 - n) q && (ltb q 128 && namesAsPredecessor g₂ q b)
     bit-is b q b< q< =
         ap (λ w. bit w (q % 8)) (getD-set-other g₃ 10496 (8448 + b * 16 + q / 8) n 0 (λ e. omega arith))
         ∙ x₃ .bits b q b< q<
         ∙ ap (λ x. x || (leb (128 - n) q && (ltb q 128 && namesAsPredecessor g₂ q b))) (no-bits b q)
 
-    pub bit-below : (b q : ℕ) → b < 128 → q < 128 - n → succeeds g b q ≡ false
+    pub bit-below : (b q : ℕ) → b < 128 → q < 128 - n → isSuccessor g b q ≡ false
     bit-below b q b< l =
         bit-is b q b< (omega arith)
         ∙ ap (λ x. x && (ltb q 128 && namesAsPredecessor g₂ q b)) (decide (leb (128 - n) q) (λ t. let m = leb→le (128 - n) q (test-passes t) in absurd (omega arith)) (λ f. f))
 
-    pub bit-from : (b q : ℕ) → b < 128 → 128 - n ≤ q → q < 128 → succeeds g b q ≡ anyOf (eqb b) (rows (blockOfRank g q))
+    pub bit-from : (b q : ℕ) → b < 128 → 128 - n ≤ q → q < 128 → isSuccessor g b q ≡ anyOf (eqb b) (rows (blockOfRank g q))
     bit-from b q b< from q< =
         bit-is b q b< q<
         ∙ within (leb (128 - n) q) (ltb q 128) (namesAsPredecessor g₂ q b) (passes-test (le→leb (128 - n) q from)) (passes-test (lt→ltb q 128 q<))
@@ -141,6 +141,6 @@ module _ (rows : ℕ → List ℕ) (n : ℕ) (order g₀ g₁ g₂ : List ℕ) (
     successors-are b b< =
         none-among g b (128 - n) 0 (omega arith) (λ q a l. bit-below b q b< (omega arith))
         ∙ ap (successorsFrom g b) (zero-add (128 - n))
-        ∙ map-select (blockOfRank g) (succeeds g b) (λ j. anyOf (eqb b) (rows j)) (placesFrom (128 - n) (128 - (128 - n)))
-        (places-all (λ q. succeeds g b q ≡ anyOf (eqb b) (rows (blockOfRank g q))) (128 - n) (128 - (128 - n)) (λ q a l. bit-from b q b< a (omega arith)))
+        ∙ map-select (blockOfRank g) (isSuccessor g b) (λ j. anyOf (eqb b) (rows j)) (placesFrom (128 - n) (128 - (128 - n)))
+        (places-all (λ q. isSuccessor g b q ≡ anyOf (eqb b) (rows (blockOfRank g q))) (128 - n) (128 - (128 - n)) (λ q a l. bit-from b q b< a (omega arith)))
         ∙ ap (select (λ j. anyOf (eqb b) (rows j))) order-is

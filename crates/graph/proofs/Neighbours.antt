@@ -9,9 +9,9 @@ use lib.ListN.{getD}
 use Rattle.model.specs.Lists.{select}
 use Rattle.model.specs.Rounds.{placesFrom}
 use Rattle.rows.specs.Members.{bit}
-use Rattle.graph.specs.Bytes.{sizeIn, degreeIn, predecessorIn, blockOfRank, succeeds, predecessorsFrom, successorsFrom, neighboursFrom, GraphFits, Next, Finds, Lowest}
-use Rattle.graph.specs.declared.Near.{Near}
-use Rattle.graph.specs.declared.Near.the-variants.{At, Nothing}
+use Rattle.graph.specs.Bytes.{sizeIn, degreeIn, predecessorIn, blockOfRank, isSuccessor, predecessorsFrom, successorsFrom, neighboursFrom, GraphFits, Next, Finds, Lowest}
+use Rattle.graph.specs.declared.Neighbour.{Neighbour}
+use Rattle.graph.specs.declared.Neighbour.the-variants.{At, Nothing}
 
 -- the places from k to an end
 pub places-more : (k n : ℕ) → k < n → placesFrom k (n - k) ≡ k ∷ placesFrom (k + 1) (n - (k + 1))
@@ -31,20 +31,20 @@ module _ (g : List ℕ) (b : ℕ) where
   unfolding predecessorsFrom
   no-predecessor i l = ap (map (predecessorIn g b)) (places-end i (degreeIn g b) l)
 
-  successor-here : (r : ℕ) → r < 128 → succeeds g b r ≡ true → successorsFrom g b r ≡ blockOfRank g r ∷ successorsFrom g b (r + 1)
+  successor-here : (r : ℕ) → r < 128 → isSuccessor g b r ≡ true → successorsFrom g b r ≡ blockOfRank g r ∷ successorsFrom g b (r + 1)
   unfolding successorsFrom
-  successor-here r l t = ap (λ (rs : List ℕ). map (blockOfRank g) (select (succeeds g b) rs)) (places-more r 128 l) ∙ rw t
+  successor-here r l t = ap (λ (rs : List ℕ). map (blockOfRank g) (select (isSuccessor g b) rs)) (places-more r 128 l) ∙ rw t
 
-  none-here : (r : ℕ) → r < 128 → succeeds g b r ≡ false → successorsFrom g b r ≡ successorsFrom g b (r + 1)
+  none-here : (r : ℕ) → r < 128 → isSuccessor g b r ≡ false → successorsFrom g b r ≡ successorsFrom g b (r + 1)
   unfolding successorsFrom
-  none-here r l t = ap (λ (rs : List ℕ). map (blockOfRank g) (select (succeeds g b) rs)) (places-more r 128 l) ∙ rw t
+  none-here r l t = ap (λ (rs : List ℕ). map (blockOfRank g) (select (isSuccessor g b) rs)) (places-more r 128 l) ∙ rw t
 
   pub no-successor : (r : ℕ) → 128 ≤ r → successorsFrom g b r ≡ []
   unfolding successorsFrom
-  no-successor r l = ap (λ (rs : List ℕ). map (blockOfRank g) (select (succeeds g b) rs)) (places-end r 128 l)
+  no-successor r l = ap (λ (rs : List ℕ). map (blockOfRank g) (select (isSuccessor g b) rs)) (places-end r 128 l)
 
   -- n ranks whose bits are not set
-  pub none-among : (n r : ℕ) → r + n ≤ 128 → ((j : ℕ) → r ≤ j → j < r + n → succeeds g b j ≡ false) → successorsFrom g b r ≡ successorsFrom g b (r + n)
+  pub none-among : (n r : ℕ) → r + n ≤ 128 → ((j : ℕ) → r ≤ j → j < r + n → isSuccessor g b j ≡ false) → successorsFrom g b r ≡ successorsFrom g b (r + n)
   none-among zero r l h = ap (successorsFrom g b) (omega arith)
   none-among (suc n) r l h =
       none-here r (omega arith) (h r (omega arith) (omega arith))
@@ -76,7 +76,7 @@ module _ {g : List ℕ} {b : ℕ} (fits : GraphFits g) (here : b < sizeIn g) whe
 
   -- the byte of rank r, whose lowest bit from there on is bit m
   module _ (r m : ℕ) (small : r < 128) (lowest : Lowest (getD g (8448 + b * 16 + r / 8) 0) (r % 8) m) where
-    in-byte : (j : ℕ) → r ≤ j → j < r / 8 * 8 + 8 → succeeds g b j ≡ bit (getD g (8448 + b * 16 + r / 8) 0) (j % 8)
+    in-byte : (j : ℕ) → r ≤ j → j < r / 8 * 8 + 8 → isSuccessor g b j ≡ bit (getD g (8448 + b * 16 + r / 8) 0) (j % 8)
     in-byte j h l = let e : j / 8 ≡ r / 8 = omega arith in ap (λ (i : ℕ). bit (getD g (8448 + b * 16 + i) 0) (j % 8)) e
 
     pub passed : successorsFrom g b r ≡ successorsFrom g b (r / 8 * 8 + m)
@@ -91,7 +91,7 @@ module _ {g : List ℕ} {b : ℕ} (fits : GraphFits g) (here : b < sizeIn g) whe
     successor-next start k le same l found =
         let a = lowest .above in
         let e : (r / 8 * 8 + m) % 8 ≡ m = omega arith in
-        let set : succeeds g b (r / 8 * 8 + m) ≡ true = in-byte (r / 8 * 8 + m) (omega arith) (omega arith) ∙ rw e (lowest .found l) in
+        let set : isSuccessor g b (r / 8 * 8 + m) ≡ true = in-byte (r / 8 * 8 + m) (omega arith) (omega arith) ∙ rw e (lowest .found l) in
         record {
           inside = rw found (fits .successor b (r / 8 * 8 + m) here (omega arith) set);
           onward = omega arith;
@@ -100,7 +100,7 @@ module _ {g : List ℕ} {b : ℕ} (fits : GraphFits g) (here : b < sizeIn g) whe
         }
 
 -- An answer by its case.
-module _ (g : List ℕ) (backward : Bool) (b from : ℕ) (r : Near) (found : Finds g backward b from r) where
+module _ (g : List ℕ) (backward : Bool) (b from : ℕ) (r : Neighbour) (found : Finds g backward b from r) where
   pub found-at : (k next : ℕ) → r ≡ At k next → Next g backward b from k next
   found-at k next e = subst (Finds g backward b from) e found
 

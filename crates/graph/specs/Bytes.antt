@@ -8,8 +8,8 @@ use Rattle.model.specs.Lists.{select}
 use Rattle.model.specs.Rounds.{placesFrom}
 use Rattle.model.specs.Propagation.{Graph}
 use Rattle.rows.specs.Members.{bit}
-use Rattle.graph.specs.declared.Near.{Near}
-use Rattle.graph.specs.declared.Near.the-variants.{At, Nothing}
+use Rattle.graph.specs.declared.Neighbour.{Neighbour}
+use Rattle.graph.specs.declared.Neighbour.the-variants.{At, Nothing}
 
 -- how many blocks there are
 abbrev pub sizeIn : List ℕ → ℕ
@@ -28,8 +28,8 @@ abbrev pub blockOfRank : List ℕ → ℕ → ℕ
 blockOfRank g r = getD g (8320 + r) 0
 
 -- the block of rank r is a successor of block b
-abbrev pub succeeds : List ℕ → ℕ → ℕ → Bool
-succeeds g b r = bit (getD g (8448 + b * 16 + r / 8) 0) (r % 8)
+abbrev pub isSuccessor : List ℕ → ℕ → ℕ → Bool
+isSuccessor g b r = bit (getD g (8448 + b * 16 + r / 8) 0) (r % 8)
 
 -- the predecessors of a block from number i on
 unfoldable pub predecessorsFrom : List ℕ → ℕ → ℕ → List ℕ
@@ -39,7 +39,7 @@ predecessorsFrom g b i = map (predecessorIn g b) (placesFrom i (degreeIn g b - i
 -- the successors of a block from rank r on, ranks ascending
 unfoldable pub successorsFrom : List ℕ → ℕ → ℕ → List ℕ
 unfolding placesFrom
-successorsFrom g b r = map (blockOfRank g) (select (succeeds g b) (placesFrom r (128 - r)))
+successorsFrom g b r = map (blockOfRank g) (select (isSuccessor g b) (placesFrom r (128 - r)))
 
 -- "With predecessors" forward, "with successors" backward: the neighbours of a block from a number on
 abbrev pub neighboursFrom : List ℕ → Bool → ℕ → ℕ → List ℕ
@@ -61,8 +61,8 @@ pub record GraphFits (g : List ℕ) : Type 0 where
   pub size : sizeIn g ≤ 128
   pub degree : (b : ℕ) → b < sizeIn g → degreeIn g b ≤ 64
   pub predecessor : (b i : ℕ) → b < sizeIn g → i < degreeIn g b → predecessorIn g b i < sizeIn g
-  pub successor : (b r : ℕ) → b < sizeIn g → r < 128 → succeeds g b r ≡ true → blockOfRank g r < sizeIn g
-  pub low : (b r : ℕ) → b < sizeIn g → r < 128 - sizeIn g → succeeds g b r ≡ false
+  pub successor : (b r : ℕ) → b < sizeIn g → r < 128 → isSuccessor g b r ≡ true → blockOfRank g r < sizeIn g
+  pub low : (b r : ℕ) → b < sizeIn g → r < 128 - sizeIn g → isSuccessor g b r ≡ false
 
 -- k is the next neighbour, and the others come from number `next` on
 pub record Next (g : List ℕ) (backward : Bool) (b from k next : ℕ) : Type 0 where
@@ -72,7 +72,7 @@ pub record Next (g : List ℕ) (backward : Bool) (b from k next : ℕ) : Type 0 
   pub rest : neighboursFrom g backward b from ≡ k ∷ neighboursFrom g backward b next
 
 -- What is found from a number on: the next neighbour, or that there is none.
-abbrev pub Finds : List ℕ → Bool → ℕ → ℕ → Near → Type 0
+abbrev pub Finds : List ℕ → Bool → ℕ → ℕ → Neighbour → Type 0
 Finds g backward b from (At k next) = Next g backward b from k next
 Finds g backward b from Nothing = neighboursFrom g backward b from ≡ []
 

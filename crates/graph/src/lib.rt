@@ -7,7 +7,7 @@ ghost use Prim.Native.Nat.{_<_};
 ghost use Rattle.graph.specs.Bytes.{sizeIn, GraphFits, Finds, Lowest};
 
 // The next neighbour of a block, and from where on the one after it is looked for.
-pub enum Near {
+pub enum Neighbour {
     At(usize, usize),
     Nothing,
 }
@@ -37,21 +37,21 @@ fn lowest_bit(w: u8, from: usize) -> usize
     from + passed
 }
 
-fn next_predecessor(graph: &[u8; 10497], b: usize, from: usize) -> Near
+fn next_predecessor(graph: &[u8; 10497], b: usize, from: usize) -> Neighbour
     requires { ⌜ GraphFits (now graph) × (b < sizeIn (now graph)) ⌝ }
     ensures { λ r. ⌜ Finds (now (graph .entry)) false b from r ⌝ }
 {
     let degree = as_number(graph[8192 + b]);
     if from < degree {
         let k = as_number(graph[b * 64 + from]);
-        Near::At(k, from + 1)
+        Neighbour::At(k, from + 1)
     } else {
-        Near::Nothing
+        Neighbour::Nothing
     }
 }
 
 // The blocks have the last ranks, so a search from below them starts at the first. A byte with no bit left is passed in one test.
-fn next_successor(graph: &[u8; 10497], b: usize, from: usize) -> Near
+fn next_successor(graph: &[u8; 10497], b: usize, from: usize) -> Neighbour
     requires { ⌜ GraphFits (now graph) × (b < sizeIn (now graph)) ⌝ }
     ensures { λ r. ⌜ Finds (now (graph .entry)) true b from r ⌝ }
 {
@@ -66,15 +66,15 @@ fn next_successor(graph: &[u8; 10497], b: usize, from: usize) -> Near
         let rank = at * 8 + bit;
         if bit < 8 {
             let k = as_number(graph[8320 + rank]);
-            return Near::At(k, rank + 1);
+            return Neighbour::At(k, rank + 1);
         }
         r = rank;
     }
-    Near::Nothing
+    Neighbour::Nothing
 }
 
 // Forward the predecessors in job order, backward the successors by ascending id.
-pub fn next_near(graph: &[u8; 10497], backward: bool, b: usize, from: usize) -> Near
+pub fn next_neighbour(graph: &[u8; 10497], backward: bool, b: usize, from: usize) -> Neighbour
     requires { ⌜ GraphFits (now graph) × (b < sizeIn (now graph)) ⌝ }
     ensures { λ r. ⌜ Finds (now (graph .entry)) backward b from r ⌝ }
 {

@@ -397,7 +397,7 @@ abbrev pub LeadsBack : PropertyPathRegistry → NodeSet → NodeId → Type 0
 LeadsBack reg s k = walkPath (reducedMark s) reg (fullPathOf reg k) ≡ record { registry = reg; node = k }
 
 -- a walk that comes back to its node took no mark away, so it is the walk under the path's own marks
-node-back : (s : NodeSet) (reg : PropertyPathRegistry) (k : NodeId) → Sound reg → k .0 < length reg → sameNode (walkPath (reducedMark s) reg (fullPathOf reg k) .node) k ≡ true → LeadsBack reg s k
+pub node-back : (s : NodeSet) (reg : PropertyPathRegistry) (k : NodeId) → Sound reg → k .0 < length reg → sameNode (walkPath (reducedMark s) reg (fullPathOf reg k) .node) k ≡ true → LeadsBack reg s k
 unfolding optionalMarks
 node-back s reg k h le same =
     let d = fullPathOf reg k in

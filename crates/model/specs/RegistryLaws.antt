@@ -137,10 +137,12 @@ pub record StandsAsChild (reg : PropertyPathRegistry) (k : ℕ) (p : NodeId) (e 
   pub child : Child (fullPathOf reg p) e d
   pub only : find (isChildBy p e) reg ≡ k
 
+-- node k stands as what it comes from says
 abbrev pub Stands : PropertyPathRegistry → ℕ → Origin → ReactiveScopeDependency → Type 0
 Stands reg k root d = StandsAsRoot reg k d
 Stands reg k (childOf p e) d = StandsAsChild reg k p e d
 
+-- a registry as finding and making leaves it: each node stands so
 abbrev pub Sound : PropertyPathRegistry → Type 0
 Sound reg = (k : ℕ) → k < length reg → Stands reg k (nodeAt reg k .origin) (nodeAt reg k .fullPath)
 

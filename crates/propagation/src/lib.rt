@@ -13,7 +13,7 @@ ghost use Rattle.registry.specs.Words.{registryOf};
 ghost use Rattle.graph.specs.Bytes.{sizeIn, neighbours, GraphFits, graphIn};
 ghost use Rattle.propagation.specs.Joins.{marksOf, workOf, visitedOf, joinIn, visitIn, doneSets, intersectionWith, Intersects, Ready, ReducedBefore, Joins, Visits};
 ghost use Rattle.propagation.specs.Propagates.{inOrder, walkIn, Propagates};
-use graph::Near;
+use graph::Neighbour;
 use rows::NodeBits;
 
 // The intersection of some sets, where there are any.
@@ -101,7 +101,7 @@ fn intersection_of_done(
     let mut found = Intersection::of_none();
     let mut from = 0;
     loop {
-        let Near::At(k, next) = graph::next_near(graph, backward, b, from) else {
+        let Neighbour::At(k, next) = graph::next_neighbour(graph, backward, b, from) else {
             return found.or_empty();
         };
         found = with_neighbour(marks, sets, k, found);
@@ -196,7 +196,7 @@ fn visit(
     let mut so_far = changed;
     let mut from = 0;
     while from < 128 {
-        let Near::At(k, next) = graph::next_near(graph, backward, b, from) else {
+        let Neighbour::At(k, next) = graph::next_neighbour(graph, backward, b, from) else {
             return leave(graph, backward, b, marks, sets, ws, optional, later, so_far);
         };
         if marks[k] == 0 {

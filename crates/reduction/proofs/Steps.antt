@@ -3,9 +3,11 @@ use Prim.Native.Nat.{ℕ, _+_, _≤_, _<_}
 use native.Mathlib.Omega.{arith}
 use native.Mathlib.Nat.{le-trans}
 use mathlib.Core.Path.{_≡_, refl, sym, ap, subst, _∙_}
-use mathlib.Core.Bool.{Bool, true, false}
-use mathlib.Core.List.{List}
-use lib.ListN.{length}
+use mathlib.Core.Bool.{Bool, true, false, Bool·beq}
+use mathlib.Core.List.{List, [], _∷_}
+use mathlib.Core.Logic.{_⊎_, inl, inr}
+use lib.ListN.{length, length-append}
+use lib.Dec.{eqb}
 use Rattle.entries.specs.declared.IdentifierId.{IdentifierId}
 use Rattle.entries.specs.declared.NodeId.{NodeId}
 use Rattle.entries.specs.declared.DependencyPathEntry.{DependencyPathEntry}
@@ -17,12 +19,14 @@ use Rattle.registry.specs.declared.Entered.the-variants.{At, Full}
 use Rattle.registry.specs.Nodes.{originOf}
 use Rattle.registry.specs.Words.{nodeAt, countIn, registryOf, Held, Arrives}
 use Rattle.registry.proofs.View.{registry-length, origin-at}
-use Rattle.model.specs.Registry.{nodeLimit, PropertyPathRegistry, Reached, Origin, root, childOf, fullPathOf, withOptional, getOrCreatePropertyEntry, isChildBy, childNode, walkPath}
-use Rattle.model.specs.RegistryLaws.{Sound, Proper, Extends, extends-length, find-extends, ensure-extends, path-extends, path-proper, found, stepFrom, again-root, again-child, child-after, child-found}
-use Rattle.model.specs.Sets.{NodeSet}
+use Rattle.model.specs.Registry.{nodeLimit, PropertyPathRegistry, PropertyPathNode, Reached, Origin, root, childOf, find, findOrMake, fullPathOf, withOptional, getOrCreatePropertyEntry, isChild, isChildBy, childNode, walkPath}
+use Rattle.model.specs.RegistryLaws as Placed
+use Rattle.model.specs.RegistryLaws.{WasFound, WasMade, found-or-made, entry-optional, Sound, Proper, Extends, extends-length, find-extends, ensure-extends, path-extends, path-proper, found, stepFrom, again-root, again-child, child-after, child-found}
+use Rattle.model.specs.Sets.{NodeSet, sameNode}
 use Rattle.model.specs.Reduction.{reducedMark}
-use Rattle.model.specs.ReductionLaws.{LeadsBack}
-use Rattle.reduction.specs.Reduces.{ChildAt}
+use Rattle.model.specs.ReductionLaws.{LeadsBack, node-back}
+use Rattle.model.specs.Tests.{decide, never, beq-same, eqb-same, eqb-true, and-first, and-second}
+use Rattle.reduction.specs.Reduces.{ChildAt, leadsBack}
 
 -- An answer by its case.
 
@@ -104,21 +108,72 @@ module _ (mark : NodeId → DependencyPathEntry → Bool) {ws : List ℕ} {k : N
     pub walk-back : (o : Bool) → o ≡ mark p e → o ≡ e .optional → again p ≡ record { registry = reg; node = p } → again k ≡ record { registry = reg; node = k }
     walk-back o own kept back = on ∙ ap (λ (y : Reached). stepFrom mark y e) back ∙ step-same mark reg p p k e o own (child-still ws back) refl kept
 
--- A node that is reached from parent to parent: where its path leads back to it, so does that of the first node.
+    -- what the parent's walk reaches, the entry under its mark there, and the test for that child
+    abbrev reached : NodeId
+    reached = again p .node
+
+    abbrev marked : DependencyPathEntry
+    marked = withOptional e (mark reached e)
+
+    abbrev wanted : PropertyPathNode → Bool
+    wanted = isChildBy reached marked
+
+    abbrev new : PropertyPathNode
+    new = childNode reached (fullPathOf (again p .registry) reached) marked
+
+    -- the node's walk leads back to it: so does its parent's, and the entry keeps its mark
+    pub back-parent : again k ≡ record { registry = reg; node = k } → (again p ≡ record { registry = reg; node = p }) × (mark p e ≡ e .optional)
+    back-parent back = go (found-or-made wanted new (again p .registry))
+      where
+        to : findOrMake wanted new (again p .registry) ≡ record { registry = reg; node = k }
+        to = sym on ∙ back
+
+        go : WasFound wanted new (again p .registry) ⊎ WasMade wanted new (again p .registry) → (again p ≡ record { registry = reg; node = p }) × (mark p e ≡ e .optional)
+        go (inr m) =
+            let longer = extends-length (path-extends mark reg (fullPathOf reg p)) in
+            let more = ap length (m .appended) ∙ length-append (again p .registry) (new ∷ []) in
+            let same = ap (λ (y : Reached). length (y .registry)) to in
+            absurd (omega arith)
+        go (inl f) =
+            let same : again p .registry ≡ reg = sym (f .same) ∙ ap (λ (y : Reached). y .registry) to in
+            let number : find wanted (again p .registry) ≡ k .0 = ap (λ (y : Reached). y .node .0) to in
+            let passes : wanted (Placed.nodeAt reg (k .0)) ≡ true =
+            ap (λ (r : PropertyPathRegistry). wanted (Placed.nodeAt r (k .0))) (sym same) ∙ ap (λ (i : ℕ). wanted (Placed.nodeAt (again p .registry) i)) (sym number) ∙ f .passes in
+            let child-test : isChild reached marked (childOf p e) ≡ true = subst (λ (y : Origin). isChild reached marked y ≡ true) (hangs (Child p e) child) passes in
+            let parent : p .0 ≡ reached .0 = eqb-true (p .0) (reached .0) (and-first (eqb (p .0) (reached .0)) _ child-test) in
+            let kept : e .optional ≡ mark reached e = entry-optional e marked (and-second (eqb (p .0) (reached .0)) _ child-test) in
+            (λ i. record { registry = same i; node = record { 0 = sym parent i } }, ap (λ (i : ℕ). mark (record { 0 = i }) e) parent ∙ sym kept)
+
+-- A node that is reached from parent to parent: its path leads back to it where that of the first node does, and the other way round.
 pub record Climbing (ws : List ℕ) (s : NodeSet) (k at : NodeId) : Type 0 where
   pub inside : at .0 < countIn ws
   pub on : LeadsBack (registryOf ws) s at → LeadsBack (registryOf ws) s k
+  pub down : LeadsBack (registryOf ws) s k → LeadsBack (registryOf ws) s at
 
 module _ {ws : List ℕ} {s : NodeSet} {k at : NodeId} (x : Climbing ws s k at) (sound : Sound (registryOf ws)) {n : Node} (loaded : n ≡ nodeAt ws (at .0)) where
   here : Loaded ws at n
   here = record { sound = sound; here = x .inside; loaded = loaded }
 
-  pub climbed : {i : IdentifierId} {r : Bool} {span : ℕ} → n ≡ Root i r span → LeadsBack (registryOf ws) s k
-  climbed {i} {r} {span} e = x .on (walk-root (reducedMark s) here i r span e)
+  pub climbed : {i : IdentifierId} {r : Bool} {span : ℕ} → n ≡ Root i r span → true ≡ leadsBack (registryOf ws) s k
+  climbed {i} {r} {span} e = sym (ap (λ (y : Reached). sameNode (y .node) k) (x .on (walk-root (reducedMark s) here i r span e)) ∙ eqb-same (k .0))
 
   module _ {p : NodeId} {e : DependencyPathEntry} (child : n ≡ Child p e) where
     pub climb-lower : p .0 < at .0
     climb-lower = parent-before (reducedMark s) here child
 
-    pub climb : (o : Bool) → o ≡ reducedMark s p e → o ≡ e .optional → Climbing ws s k p
-    climb o own kept = record { inside = let l = climb-lower in let i = x .inside in omega arith; on = λ back. x .on (walk-back (reducedMark s) here child o own kept back) }
+    module _ (o : Bool) (own : o ≡ reducedMark s p e) where
+      pub climb : o ≡ e .optional → Climbing ws s k p
+      climb kept = record {
+        inside = let l = climb-lower in let i = x .inside in omega arith;
+        on = λ back. x .on (walk-back (reducedMark s) here child o own kept back);
+        down = λ back. back-parent (reducedMark s) here child (x .down back) .0;
+      }
+
+      pub climb-stops : k .0 < countIn ws → Bool·beq o (e .optional) ≡ false → false ≡ leadsBack (registryOf ws) s k
+      climb-stops first lost =
+          let size = registry-length ws in
+          decide (leadsBack (registryOf ws) s k)
+          (λ t.
+          let kept = own ∙ back-parent (reducedMark s) here child (x .down (node-back s (registryOf ws) k sound (omega arith) t)) .1 in
+          never (ap (λ b. Bool·beq b (e .optional)) kept ∙ beq-same (e .optional)) lost)
+          (λ t. sym t)

@@ -8,10 +8,10 @@ use Rattle.entries.specs.declared.NodeId.{NodeId}
 use Rattle.entries.specs.declared.DependencyPathEntry.{DependencyPathEntry}
 use Rattle.rows.specs.Members.{membersOf}
 use Rattle.registry.specs.Words.{registryOf, Held}
-use Rattle.model.specs.Registry.{nodeLimit, PropertyPathRegistry, find, isChildBy}
-use Rattle.model.specs.Sets.{NodeSet}
-use Rattle.model.specs.Reduction.{Reduced}
-use Rattle.model.specs.ReductionLaws.{Members, LeadsBack, IsReduced}
+use Rattle.model.specs.Registry.{nodeLimit, PropertyPathRegistry, find, isChildBy, fullPathOf, walkPath}
+use Rattle.model.specs.Sets.{NodeSet, sameNode}
+use Rattle.model.specs.Reduction.{Reduced, reducedMark}
+use Rattle.model.specs.ReductionLaws.{Members, IsReduced}
 use Rattle.reduction.specs.declared.ReducedSet.{ReducedSet}
 
 -- node k is the child of p by the entry e
@@ -19,10 +19,9 @@ pub record ChildAt (reg : PropertyPathRegistry) (p : NodeId) (e : DependencyPath
   pub inside : k .0 < length reg
   pub first : find (isChildBy p e) reg ≡ k .0
 
--- A node's path leads back to it, where that is said.
-abbrev pub LeadsBackIf : Bool → PropertyPathRegistry → NodeSet → NodeId → Type 0
-LeadsBackIf true reg s k = LeadsBack reg s k
-LeadsBackIf false reg s k = Unit {0}
+-- A node's path, walked again under the marks that the set leaves, leads back to it.
+abbrev pub leadsBack : PropertyPathRegistry → NodeSet → NodeId → Bool
+leadsBack reg s k = sameNode (walkPath (reducedMark s) reg (fullPathOf reg k) .node) k
 
 -- A set of the registry's nodes is reduced, where that is known.
 abbrev pub KnownReduced : Bool → PropertyPathRegistry → NodeSet → Type 0

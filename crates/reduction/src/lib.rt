@@ -8,7 +8,7 @@ ghost use Rattle.model.specs.Registry.{fullPathOf, walkPath};
 ghost use Rattle.model.specs.RegistryLaws.{stepFrom};
 ghost use Rattle.model.specs.Reduction.{reducedMark, reduceNode, pass, reduceMaybeOptionalChains};
 ghost use Rattle.model.specs.ReductionLaws.{Members};
-ghost use Rattle.reduction.specs.Reduces.{ChildAt, LeadsBackIf, KnownReduced, reducedOf, Reduces};
+ghost use Rattle.reduction.specs.Reduces.{ChildAt, leadsBack, KnownReduced, reducedOf, Reduces};
 use entries::DependencyPathEntry;
 use entries::NodeId;
 use registry::Entered;
@@ -89,11 +89,11 @@ pub fn walk_again(
     }
 }
 
-// True where each optional entry of node k's path keeps its mark, so that the path leads back to k; false promises nothing. This walks up the parents and
-// searches nothing.
+// Whether the path of node k, walked again under the marks that the set leaves, leads back to k: each optional entry keeps its mark. This goes up the parents
+// and searches nothing.
 fn leads_back(ws: &[u64; 1665], set: NodeBits, k: NodeId) -> bool
     requires { ⌜ HoldsRegistry (now ws) × (k .0 < countIn (now ws)) ⌝ }
-    ensures { λ r. ⌜ LeadsBackIf r (registryOf (now (ws .entry))) (membersOf (set .words)) k ⌝ }
+    ensures { λ r. ⌜ r ≡ leadsBack (registryOf (now (ws .entry))) (membersOf (set .words)) k ⌝ }
 {
     let mut at = k;
     loop {

@@ -14,7 +14,7 @@ use Rattle.model.specs.RegistryLaws.{property-true}
 use Rattle.registry.specs.declared.Node.{Node}
 use Rattle.registry.specs.declared.Node.the-variants.{Root, Child}
 use Rattle.registry.specs.Nodes.{sameKey, bucketOf, findNode}
-use Rattle.registry.specs.Words.{unpack, linkUnit, nodeAt, bucketAt, linkAt, endIn, countIn, nodesOf, BehindLast, Linked}
+use Rattle.registry.specs.Words.{unpack, linkUnit, nodeAt, bucketAt, linkAt, endIn, countIn, nodesOf, BehindLast, BucketsLinked}
 use Rattle.registry.proofs.Pack.{linked-word, link-back}
 use Rattle.registry.proofs.Stored.{stored, stored-count, stored-below, link-below, stored-at, stored-link, stored-end, end-elsewhere, none-found}
 
@@ -31,7 +31,7 @@ apart : (m n : Node) → bucketOf m ≢ bucketOf n → sameKey m n ≡ false
 apart m n h = decide (sameKey m n) (λ t. absurd (h (key-bucket m n t))) (λ t. t)
 
 -- Words that count no node, and whose ends are 0.
-pub none-linked : (ws : List ℕ) → countIn ws ≡ 0 → ((b : ℕ) → b < 128 → endIn ws b ≡ 0) → Linked ws
+pub none-linked : (ws : List ℕ) → countIn ws ≡ 0 → ((b : ℕ) → b < 128 → endIn ws b ≡ 0) → BucketsLinked ws
 none-linked ws none ends = record {
   ends = λ b l. let e = ends b l in record { within = omega arith; last = λ k m. absurd (omega arith); later = λ j a m. absurd (omega arith) };
   links = λ k l. absurd (omega arith);
@@ -54,7 +54,7 @@ moved ws vs b limit e same h =
     }
 
 -- One node more: it is the last of its bucket, and its link is the end that its bucket had.
-module _ (ws : List ℕ) (b h v s : ℕ) (n : Node) (linked : Linked ws) (room : countIn ws < 512) (own : b ≡ bucketOf n) (small : b < 128) (long : length ws ≡ 1665)
+module _ (ws : List ℕ) (b h v s : ℕ) (n : Node) (linked : BucketsLinked ws) (room : countIn ws < 512) (own : b ≡ bucketOf n) (small : b < 128) (long : length ws ≡ 1665)
     (low : h < linkUnit) (is : unpack h v s ≡ n) where
   abbrev k : ℕ
   k = countIn ws
@@ -113,7 +113,7 @@ module _ (ws : List ℕ) (b h v s : ℕ) (n : Node) (linked : Linked ws) (room :
       (subst (BehindLast vs (bucketAt ws j) j) (sym (link-below ws k b word v s room small long j l))
       (moved ws vs (bucketAt ws j) j (linkAt ws j) (λ i m. node-old i (omega arith)) (linked .links j l)))
 
-  pub linked-more : Linked vs
+  pub linked-more : BucketsLinked vs
   linked-more =
       let counted : countIn vs ≡ k + 1 = stored-count ws k b word v s room small long in
       record {
@@ -129,7 +129,7 @@ pub record Passed (ws : List ℕ) (n : Node) (e : ℕ) : Type 0 where
   pub last : (k : ℕ) → k + 1 ≡ e → bucketAt ws k ≡ bucketOf n
   pub none : (j : ℕ) → e ≤ j → j < countIn ws → sameKey (nodeAt ws j) n ≡ false
 
-module _ (ws : List ℕ) (n : Node) (linked : Linked ws) where
+module _ (ws : List ℕ) (n : Node) (linked : BucketsLinked ws) where
   pub passed-start : (b e : ℕ) → b ≡ bucketOf n → b < 128 → e ≡ endIn ws b → Passed ws n e
   passed-start b e is small end =
       let x : BehindLast ws (bucketOf n) (countIn ws) e = subst (λ c. BehindLast ws c (countIn ws) e) is (subst (BehindLast ws b (countIn ws)) (sym end) (linked .ends b small)) in

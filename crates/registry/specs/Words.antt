@@ -111,7 +111,7 @@ pub record BehindLast (ws : List ℕ) (b limit e : ℕ) : Type 0 where
   pub later : (j : ℕ) → e ≤ j → j < limit → bucketAt ws j ≢ b
 
 -- The end of each bucket is behind its last node, and the link of each node behind the last one before it in its bucket.
-pub record Linked (ws : List ℕ) : Type 0 where
+pub record BucketsLinked (ws : List ℕ) : Type 0 where
   pub ends : (b : ℕ) → b < 128 → BehindLast ws b (countIn ws) (endIn ws b)
   pub links : (k : ℕ) → k < countIn ws → BehindLast ws (bucketAt ws k) k (linkAt ws k)
 
@@ -123,7 +123,7 @@ pub record HoldsRegistry (ws : List ℕ) : Type 0 where
 -- The same, its nodes are linked, and the eight words `os` hold the set of its nodes with an optional entry.
 pub record Held (ws os : List ℕ) : Type 0 where
   pub sized : Sized ws
-  pub linked : Linked ws
+  pub linked : BucketsLinked ws
   pub sound : Sound (registryOf ws)
   pub noted : (k : NodeId) → contains (membersOf os) k ≡ hasOptional (registryOf ws) k
 

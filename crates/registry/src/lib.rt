@@ -11,7 +11,7 @@ ghost use lib.ListN.{length};
 ghost use Rattle.registry.specs.declared.Node.the-variants.{Root, Child};
 ghost use Rattle.rows.specs.Members.{membersOf};
 ghost use Rattle.registry.specs.Nodes.{sameKey, bucketOf, findNode, madeFor, Inside, optionalOver, notedWith};
-ghost use Rattle.registry.specs.Words.{valueIn, spanIn, ParentFits, unpack, nodeAt, countIn, nodesOf, registryOf, linkUnit, linkAt, endIn, Sized, Linked, Held, Arrives};
+ghost use Rattle.registry.specs.Words.{valueIn, spanIn, ParentFits, unpack, nodeAt, countIn, nodesOf, registryOf, linkUnit, linkAt, endIn, Sized, BucketsLinked, Held, Arrives};
 use entries::DependencyPathEntry;
 use entries::IdentifierId;
 use entries::NodeId;
@@ -209,8 +209,8 @@ pub fn clear(ws: &mut [u64; 1665], optional: &mut [u64; 8])
 
 // One node more, which is the last of its bucket.
 fn push(ws: &mut [u64; 1665], n: Node)
-    requires { ⌜ Sized (now ws) × Linked (now ws) × (countIn (now ws) < 512) × ParentFits n ⌝ }
-    ensures { λ _. ⌜ Sized (now (ws .exit)) × Linked (now (ws .exit)) × (nodesOf (now (ws .exit)) ≡ nodesOf (now (ws .entry)) ++ (n ∷ [])) ⌝ }
+    requires { ⌜ Sized (now ws) × BucketsLinked (now ws) × (countIn (now ws) < 512) × ParentFits n ⌝ }
+    ensures { λ _. ⌜ Sized (now (ws .exit)) × BucketsLinked (now (ws .exit)) × (nodesOf (now (ws .exit)) ≡ nodesOf (now (ws .entry)) ++ (n ∷ [])) ⌝ }
 {
     let k = ws[1536] as usize;
     let at = k * 3;
@@ -225,7 +225,7 @@ fn push(ws: &mut [u64; 1665], n: Node)
 
 // The number of the node with the key of n, or how many there are. A key occurs once, so that the search may go from the last node of the bucket to the first.
 fn find(ws: &[u64; 1665], n: Node) -> usize
-    requires { ⌜ Sized (now ws) × Linked (now ws) × Sound (registryOf (now ws)) ⌝ }
+    requires { ⌜ Sized (now ws) × BucketsLinked (now ws) × Sound (registryOf (now ws)) ⌝ }
     ensures { λ r. ⌜ r ≡ findNode (nodesOf (now (ws .entry))) n ⌝ }
 {
     let mut end = end_of(ws, n.bucket());
@@ -247,7 +247,7 @@ pub enum Entered {
 }
 
 // Whether a node has an optional entry: its own, or one of its parent's path.
-fn is_optional(n: Node, optional: NodeBits) -> bool
+fn has_optional(n: Node, optional: NodeBits) -> bool
     requires { ⌜ Inside n 512 ⌝ }
     ensures { λ r. ⌜ r ≡ optionalOver (membersOf (optional .words)) n ⌝ }
 {
@@ -269,7 +269,7 @@ fn note(optional: &mut [u64; 8], n: Node, k: NodeId)
     ensures { λ _. ⌜ membersOf (now (optional .exit)) ≡ notedWith (membersOf (now (optional .entry))) n k ⌝ }
 {
     let row = NodeBits { words: *optional };
-    if is_optional(n, row) {
+    if has_optional(n, row) {
         let more = row.insert(k);
         let words = more.words;
         *optional = words;

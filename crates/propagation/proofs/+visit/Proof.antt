@@ -16,7 +16,7 @@ use Rattle.propagation.proofs.Visiting.{Enters, Neighbouring, Looping, 
 use Rattle.propagation.proofs.visit.Reads as visit
 use Rattle.propagation.proofs.visit.Kinds as visit-kinds
 use Rattle.propagation.proofs.+visit.Lts-visit as lts
-use Rattle.graph.proofs.next_near.Reads as next-near-reads
+use Rattle.graph.proofs.next_neighbour.Reads as next-neighbour-reads
 use Rattle.propagation.proofs.leave.Reads as leave-reads
 use Rattle.propagation.proofs.+visit.{statement}
 use Rattle.propagation.proofs.+visit.Tie.{close}
@@ -32,7 +32,7 @@ below t = and 5 visit-kinds.ps (falls 5 visit-kinds.ps _<_ μ-visit t) visit.Pre
 
 -- what the callees ask and give
 abbrev claims : ℕ → lts.Claims
-claims t = (next-near-reads.Asked, next-near-reads.Learnt, leave-reads.Asked, leave-reads.Learnt, below t, visit.Post)
+claims t = (next-neighbour-reads.Asked, next-neighbour-reads.Learnt, leave-reads.Asked, leave-reads.Learnt, below t, visit.Post)
 
 abbrev Inv-loop : lts.InvT-loop
 Inv-loop graph backward b marks₀ sets₀ ws₀ optional₀ later changed so-far₀ from₀ marks sets ws optional so-far from =
@@ -70,7 +70,7 @@ looping t l = record { entry = enters t (entry t l); inv = l .loop .inv }
 -- the neighbour that is found
 next : (t : ℕ) (k : lts.After-k (claims t) (at t) visit.Post Inv-loop μ-loop) → let l = loop-at t k in let a = entry t l .args in
     Next (a .graph .now) (a .backward) (a .b) (l .loop .from) (k .k .given .0 .0) (k .k .given .0 .1 .0)
-next t k = let n = k .before .before in found-at _ _ _ _ (n .next-near .result) (n .next-near .ensures) _ _ (k .k .given .1)
+next t k = let n = k .before .before in found-at _ _ _ _ (n .next-neighbour .result) (n .next-neighbour .ensures) _ _ (k .k .given .1)
 
 -- it is further on than those before
 further : (t : ℕ) (k : lts.After-k (claims t) (at t) visit.Post Inv-loop μ-loop) → 128 - k .k .given .0 .1 .0 < 128 - loop-at t k .loop .from
@@ -85,8 +85,8 @@ element-write-marks t c = block-inside (enters t c)
 loop-holds : (t : ℕ) → lts.Need-loop-holds (claims t) (at t) visit.Post Inv-loop μ-loop
 loop-holds t c = neighbours-start (enters t c) (c .args .backward) (c .args .changed)
 
-next-near-requires : (t : ℕ) → lts.Need-next-near-requires (claims t) (at t) visit.Post Inv-loop μ-loop
-next-near-requires t c κs = let s = entry t (c .before) in (s .pre .1 .0 .fits, s .pre .1 .2)
+next-neighbour-requires : (t : ℕ) → lts.Need-next-neighbour-requires (claims t) (at t) visit.Post Inv-loop μ-loop
+next-neighbour-requires t c κs = let s = entry t (c .before) in (s .pre .1 .0 .fits, s .pre .1 .2)
 
 -- what `leave` asks
 left : (t : ℕ) (l : lts.At-loop (claims t) (at t) visit.Post Inv-loop μ-loop) → let a = entry t l .args in
@@ -101,7 +101,7 @@ returns : (t : ℕ) → lts.Need-returns (claims t) (at t) visit.Post Inv-loop �
 returns t c =
     let e = to-leave t (c .before) in
     let n = e .before .before in
-    end-left (looping t (n .before .before)) (found-nothing _ _ _ _ (n .next-near .result) (n .next-near .ensures) (e .enum-told .given .1)) (c .leave .result) _ _ _ _ (c .leave .ensures)
+    end-left (looping t (n .before .before)) (found-nothing _ _ _ _ (n .next-neighbour .result) (n .next-neighbour .ensures) (e .enum-told .given .1)) (c .leave .result) _ _ _ _ (c .leave .ensures)
 
 element-copy-out-if1 : (t : ℕ) → lts.Need-element-copy-out-if1 (claims t) (at t) visit.Post Inv-loop μ-loop
 element-copy-out-if1 t c = let k = c .before in neighbour-inside (looping t (loop-at t k)) (next t k)
@@ -154,7 +154,7 @@ pub +visit-spec : {M : Type 1} → statement M
     μ-loop
     (element-write-marks t)
     (loop-holds t)
-    (next-near-requires t)
+    (next-neighbour-requires t)
     (λ c. search needs)
     (λ c. search needs)
     (leave-requires t)

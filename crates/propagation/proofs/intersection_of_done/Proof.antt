@@ -23,14 +23,14 @@ loop-holds c =
 returns : tie.Need-returns Inv-loop μ-loop
 returns c =
     let n = c .before .before .before in
-    c .or-empty .ensures ∙ intersecting-end (n .before .loop .inv) (found-nothing _ _ _ _ (n .next-near .result) (n .next-near .ensures) (c .before .enum-told .given .1))
+    c .or-empty .ensures ∙ intersecting-end (n .before .loop .inv) (found-nothing _ _ _ _ (n .next-neighbour .result) (n .next-neighbour .ensures) (c .before .enum-told .given .1))
 
 with-neighbour-requires : tie.Need-with-neighbour-requires Inv-loop μ-loop
 with-neighbour-requires c κs =
     let k = c .before in
     let n = k .before .before in
     let s = n .before .before .before in
-    let at = found-at _ _ _ _ (n .next-near .result) (n .next-near .ensures) _ _ (k .k .given .1) in
+    let at = found-at _ _ _ _ (n .next-neighbour .result) (n .next-neighbour .ensures) _ _ (k .k .given .1) in
     let inside = at .inside in
     let few = s .pre .0 .size in
     omega arith
@@ -39,7 +39,7 @@ loop-less : tie.Need-loop-less Inv-loop μ-loop
 loop-less c =
     let k = c .before .before in
     let n = k .before .before in
-    let at = found-at _ _ _ _ (n .next-near .result) (n .next-near .ensures) _ _ (k .k .given .1) in
+    let at = found-at _ _ _ _ (n .next-neighbour .result) (n .next-neighbour .ensures) _ _ (k .k .given .1) in
     let onward = at .onward in
     let within = at .within in
     omega arith
@@ -48,7 +48,7 @@ loop-again : tie.Need-loop-again Inv-loop μ-loop
 loop-again c =
     let k = c .before .before in
     let n = k .before .before in
-    intersecting-more (n .before .loop .inv) (found-at _ _ _ _ (n .next-near .result) (n .next-near .ensures) _ _ (k .k .given .1)) (c .with-neighbour .result) (c .with-neighbour .ensures)
+    intersecting-more (n .before .loop .inv) (found-at _ _ _ _ (n .next-neighbour .result) (n .next-neighbour .ensures) _ _ (k .k .given .1)) (c .with-neighbour .result) (c .with-neighbour .ensures)
 
 pub intersection-of-done-spec : {M : Type 1} → statement M
 intersection-of-done-spec =

@@ -1,5 +1,5 @@
--- The loop's invariant, `Climbing`: where the path of the node reached so far leads back to it, so does that of the first node. A root's does, and a child's
--- does where its parent's does and its entry keeps its mark. The measure is the node's number: a parent stands before its child.
+-- The loop's invariant, `Climbing`: the path of the node reached so far leads back to it where that of the first node does, and the other way round. A root's
+-- does, and a child's does where its parent's does and its entry keeps its mark, and only there. The measure is the node's number: a parent stands before its child.
 use Prim.Native.Nat.{_<_}
 use native.Mathlib.Omega.{arith}
 use native.Mathlib.Nat.{le-trans}
@@ -8,7 +8,7 @@ use denote.Ref.{now}
 use borrow.Author.Needs.{needs}
 use Rattle.rows.specs.Members.{membersOf}
 use Rattle.model.specs.Tests.{beq-true}
-use Rattle.reduction.proofs.Steps.{Climbing, climbed, climb-lower, climb}
+use Rattle.reduction.proofs.Steps.{Climbing, climbed, climb-lower, climb, climb-stops}
 use Rattle.reduction.proofs.leads_back.Statement.{statement}
 use Rattle.reduction.proofs.leads_back.Tie as tie
 
@@ -19,7 +19,7 @@ abbrev μ-loop : tie.MeasureT-loop
 μ-loop ws set at₀ at = at .0
 
 loop-holds : tie.Need-loop-holds Inv-loop μ-loop
-loop-holds c = record { inside = c .pre .1; on = λ back. back }
+loop-holds c = record { inside = c .pre .1; on = λ back. back; down = λ back. back }
 
 load-requires : tie.Need-load-requires Inv-loop μ-loop
 load-requires c κs = le-trans (c .loop .inv .inside) (c .before .pre .0 .sized .room)
@@ -54,7 +54,11 @@ loop-again c =
     climb (l .loop .inv) (l .before .pre .0 .sound) (load .load .ensures) (m .before .before .n .given .1) _ (m .reduced-mark .ensures) (beq-true _ _ (c .if1 .taken))
 
 returns-2 : tie.Need-returns-2 Inv-loop μ-loop
-returns-2 c = tt
+returns-2 c =
+    let m = c .before in
+    let load = m .before .before .before .before in
+    let l = load .before in
+    climb-stops (l .loop .inv) (l .before .pre .0 .sound) (load .load .ensures) (m .before .before .n .given .1) _ (m .reduced-mark .ensures) (l .before .pre .1) (c .if1 .left)
 
 pub leads-back-spec : {M : Type 1} → statement M
 leads-back-spec = tie.close (tie.spec Inv-loop μ-loop loop-holds load-requires (λ c. search needs) (λ c. search needs) returns reduced-mark-requires loop-less loop-again returns-2)

@@ -1,14 +1,15 @@
 -- The loop's invariant, `Along`: the nodes that are left, reduced from here, give what the pass gives. A node whose path leads back to it changes nothing. The measure is what is left of 512.
 use Prim.Native.Nat.{_-_}
 use native.Mathlib.Omega.{arith}
-use mathlib.Core.Path.{sym, subst, _∙_}
+use mathlib.Core.Path.{sym, _∙_}
 use denote.Ref.{now}
 use borrow.Author.Needs.{needs}
 use Rattle.rows.specs.Members.{membersOf}
 use Rattle.rows.proofs.Ahead.{next-nothing, none-past}
 use Rattle.registry.specs.Words.{registryOf}
 use Rattle.model.specs.Reduction.{pass}
-use Rattle.reduction.specs.Reduces.{LeadsBackIf}
+use Rattle.model.specs.ReductionLaws.{node-back}
+use Rattle.registry.proofs.View.{registry-length}
 use Rattle.reduction.proofs.Passes.{Along, along-start, along-end, along-inside, along-ahead, along-still, along-full, along-more}
 use Rattle.reduction.proofs.pass.Statement.{statement}
 use Rattle.reduction.proofs.pass.Tie as tie
@@ -57,8 +58,11 @@ loop-again c =
     let k = told .before .before .before .before in
     let n = k .before .before in
     let l = n .before .before .loop in
-    let back = subst (λ b. LeadsBackIf b (registryOf (l .ws)) (membersOf (l .r .set .words)) (k .k .given .0 .0)) (told .if1 .taken) (told .before .leads-back .ensures) in
-    along-still (l .inv) _ (sym (n .next .ensures) ∙ k .k .given .1) back
+    let size = registry-length (l .ws) in
+    let next = sym (n .next .ensures) ∙ k .k .given .1 in
+    let inside = along-inside (l .inv) _ next in
+    let back = node-back (membersOf (l .r .set .words)) (registryOf (l .ws)) _ (l .inv .held .sound) (omega arith) (sym (told .before .leads-back .ensures) ∙ told .if1 .taken) in
+    along-still (l .inv) _ next back
 
 reduce-node-requires : tie.Need-reduce-node-requires Inv-loop μ-loop
 reduce-node-requires c κs =

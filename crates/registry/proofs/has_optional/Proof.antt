@@ -2,8 +2,8 @@
 use mathlib.Core.Path.{subst}
 use Rattle.registry.specs.Nodes.{Inside}
 use borrow.Author.Needs.{needs}
-use Rattle.registry.proofs.is_optional.Statement.{statement}
-use Rattle.registry.proofs.is_optional.Tie as tie
+use Rattle.registry.proofs.has_optional.Statement.{statement}
+use Rattle.registry.proofs.has_optional.Tie as tie
 
 enum-told : tie.Need-enum-told
 enum-told c = search needs
@@ -23,6 +23,6 @@ returns-2 c = search needs
 returns-3 : tie.Need-returns-3
 returns-3 c = rw (c .before .before .before .n .given .1, c .before .if1 .left) (c .contains .ensures)
 
-pub is-optional-spec : {M : Type 1} → statement M
-is-optional-spec =
+pub has-optional-spec : {M : Type 1} → statement M
+has-optional-spec =
     tie.close (tie.spec enum-told enum-known-n contains-requires returns returns-2 returns-3)
