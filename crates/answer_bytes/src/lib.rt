@@ -1,4 +1,5 @@
-// The answer's bytes: each candidate walks and is added to the dependency tree, and the returned paths are written behind the answer's head.
+// The answer's bytes: each candidate walks and is added to the dependency tree, and the returned paths are written behind the answer's
+// head.
 ghost use mathlib.Core.Path.{_≡_};
 ghost use Prim.Native.Nat.{_≤_, _<_};
 ghost use lib.ListN.{length};

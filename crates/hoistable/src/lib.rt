@@ -1,5 +1,5 @@
-// At which levels of a candidate the hoistable tree is NonNull. The tree is not built: a level is decided by the first path of the set, in the tree's
-// order, whose names agree with the candidate's that far, and the registry has the set's paths.
+// At which levels of a candidate the hoistable tree is NonNull. The tree is not built: a level is decided by the first path of the set, in
+// the tree's order, whose names agree with the candidate's that far, and the registry has the set's paths.
 ghost use mathlib.Core.Path.{_≡_};
 ghost use Prim.Native.Nat.{ℕ, _+_, _/_, _≤_, _<_};
 ghost use mathlib.Core.Bool.{Bool, not, cond};
@@ -26,7 +26,8 @@ use registry::load;
 use rows::Next;
 use rows::NodeBits;
 
-// What is known of the first levels: bit j of `optional` is 1 where the position at level j is Optional, and `end` is what the bit after them is worth.
+// What is known of the first levels: bit j of `optional` is 1 where the position at level j is Optional, and `end` is what the bit after
+// them is worth.
 struct Levels {
     pub end: u32,
     pub optional: u32,
@@ -206,8 +207,8 @@ fn follow(
     }
 }
 
-// What the set's paths decide of the candidate's levels. Those with an optional first entry come first in the tree's order, so what they decide is kept apart
-// until the end. A path whose root is another's decides nothing, and may go with either.
+// What the set's paths decide of the candidate's levels. Those with an optional first entry come first in the tree's order, so what they
+// decide is kept apart until the end. A path whose root is another's decides nothing, and may go with either.
 fn decided_levels(
     ws: &[u64; 1665],
     set: NodeBits,
@@ -238,8 +239,8 @@ fn decided_levels(
     ahead.over(rest)
 }
 
-// At which levels of a candidate the hoistable tree of the set is NonNull: bit j for level j. The candidate has the identifier and the `count` entries at
-// `start`.
+// At which levels of a candidate the hoistable tree of the set is NonNull: bit j for level j. The candidate has the identifier and the
+// `count` entries at `start`.
 pub fn nonnull_levels(
     ws: &[u64; 1665],
     set: NodeBits,

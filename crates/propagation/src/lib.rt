@@ -1,5 +1,5 @@
-// `propagate_non_null`: rounds of a forward and a backward walk over the blocks, until one changes nothing. Mark 0 is an unmarked block, 1 an Active
-// one, 2 a Done one.
+// `propagate_non_null`: rounds of a forward and a backward walk over the blocks, until one changes nothing. Mark 0 is an unmarked block, 1
+// an Active one, 2 a Done one.
 ghost use mathlib.Core.Path.{_≡_};
 ghost use mathlib.Core.Bool.{true, false};
 ghost use mathlib.Core.List.{[]};
@@ -109,7 +109,8 @@ fn intersection_of_done(
     }
 }
 
-// The block's set is joined with that intersection and reduced. In a walk later than the first it was reduced before, so where nothing new joins, it stays.
+// The block's set is joined with that intersection and reduced. In a walk later than the first it was reduced before, so where nothing new
+// joins, it stays.
 fn join(
     graph: &[u8; 10497],
     backward: bool,
@@ -174,8 +175,8 @@ fn leave(
     joined
 }
 
-// `recursively_propagate_non_null` of an unmarked block: it is Active while its unmarked neighbours are visited. The work after them is `leave`'s, called
-// at two places, so that its locals are in no frame of the recursion.
+// `recursively_propagate_non_null` of an unmarked block: it is Active while its unmarked neighbours are visited. The work after them is
+// `leave`'s, called at two places, so that its locals are in no frame of the recursion.
 fn visit(
     graph: &[u8; 10497],
     backward: bool,
@@ -271,8 +272,8 @@ fn walk(
     Progress::Changed(so_far)
 }
 
-// A forward and a backward walk, of which the backward one is never the first. They start from no set changed; whether one had changed before the round is
-// not read, so the contract may say `true`.
+// A forward and a backward walk, of which the backward one is never the first. They start from no set changed; whether one had changed
+// before the round is not read, so the contract may say `true`.
 fn round(
     graph: &[u8; 10497],
     marks: &mut [u8; 128],

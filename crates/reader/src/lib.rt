@@ -1,5 +1,6 @@
-// A job read through a struct that keeps its bytes together with a position in them. The functions over the struct are thin: `read` takes it apart and leaves the work to `job_at`,
-// which has the slice and the number as parameters. `read_job`, whose parameters are plain, is the one that others call.
+// A job read through a struct that keeps its bytes together with a position in them. The functions over the struct are thin: `read` takes
+// it apart and leaves the work to `job_at`, which has the slice and the number as parameters. `read_job`, whose parameters are plain, is
+// the one that others call.
 use job::ReadJob;
 ghost use mathlib.Core.Path.{_≡_};
 ghost use Rattle.reader.specs.Reads.{bytesFrom, ReadsJob};

@@ -33,7 +33,8 @@ fn reduced_mark(set: NodeBits, k: NodeId, e: DependencyPathEntry) -> bool
     if e.optional { !set.contains(k) } else { false }
 }
 
-// From q on by the entry e, under its mark there. Node k is the child of p by e: where q is p and the mark stays, there is nothing to look for.
+// From q on by the entry e, under its mark there. Node k is the child of p by e: where q is p and the mark stays, there is nothing to look
+// for.
 fn step(
     ws: &mut [u64; 1665],
     optional: &mut [u64; 8],
@@ -89,8 +90,8 @@ pub fn walk_again(
     }
 }
 
-// Whether the path of node k, walked again under the marks that the set leaves, leads back to k: each optional entry keeps its mark. This goes up the parents
-// and searches nothing.
+// Whether the path of node k, walked again under the marks that the set leaves, leads back to k: each optional entry keeps its mark. This
+// goes up the parents and searches nothing.
 fn leads_back(ws: &[u64; 1665], set: NodeBits, k: NodeId) -> bool
     requires { ⌜ HoldsRegistry (now ws) × (k .0 < countIn (now ws)) ⌝ }
     ensures { λ r. ⌜ r ≡ leadsBack (registryOf (now (ws .entry))) (membersOf (set .words)) k ⌝ }
@@ -146,8 +147,8 @@ fn reduce_node(
     }
 }
 
-// The set's nodes with an optional entry, ascending, as they are at the start. One whose path leads back to it is passed over, since walking it again would
-// change nothing and make nothing.
+// The set's nodes with an optional entry, ascending, as they are at the start. One whose path leads back to it is passed over, since
+// walking it again would change nothing and make nothing.
 fn pass(ws: &mut [u64; 1665], optional: &mut [u64; 8], set: NodeBits) -> ReducedSet
     requires { ⌜ Held (now ws) (now optional) × Members (registryOf (now ws)) (membersOf (set .words)) ⌝ }
     ensures { λ r. ⌜ Reduces (pass (registryOf (now (ws .entry))) (membersOf (set .words))) r (now (ws .exit)) (now (optional .exit)) ⌝ }
@@ -177,8 +178,8 @@ fn pass(ws: &mut [u64; 1665], optional: &mut [u64; 8], set: NodeBits) -> Reduced
     r
 }
 
-// Passes until one changes nothing. Where `known` says that the set `before` is reduced, a pass that leaves that set is the last: the next would
-// change nothing and make nothing.
+// Passes until one changes nothing. Where `known` says that the set `before` is reduced, a pass that leaves that set is the last: the next
+// would change nothing and make nothing.
 pub fn reduce_maybe_optional_chains(
     ws: &mut [u64; 1665],
     optional: &mut [u64; 8],

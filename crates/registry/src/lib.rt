@@ -1,6 +1,7 @@
-// The registry of property paths: nodes numbered from 0 as made, in words that the caller lends: three words a node, and the number of nodes behind them.
-// A node is looked for among those of its bucket, of which there are 128. 128 more words say where each bucket's last node is, and a node's first word
-// where the one before it is. Eight words of their own are the set of the nodes with an optional entry, so that a reduction finds them at once.
+// The registry of property paths: nodes numbered from 0 as made, in words that the caller lends: three words a node, and the number of
+// nodes behind them. A node is looked for among those of its bucket, of which there are 128. 128 more words say where each bucket's last
+// node is, and a node's first word where the one before it is. Eight words of their own are the set of the nodes with an optional entry, so
+// that a reduction finds them at once.
 ghost use mathlib.Core.Path.{_≡_};
 ghost use Prim.Native.Nat.{_<_, _≤_};
 ghost use Rattle.model.specs.Registry.{getOrCreateIdentifier, getOrCreatePropertyEntry};
@@ -82,8 +83,8 @@ fn bit(b: bool) -> u64
     if b { 1 } else { 0 }
 }
 
-// A node as three words, and back. The first word has the identifier (of a root) below the parent, and three marks above it, of which the second
-// is worth two of the first and the third four. Above them stands the link to the node before it in its bucket.
+// A node as three words, and back. The first word has the identifier (of a root) below the parent, and three marks above it, of which the
+// second is worth two of the first and the third four. Above them stands the link to the node before it in its bucket.
 const PARENT: u64 = 4294967296;
 
 const OPTIONAL: u64 = 281474976710656;
@@ -223,7 +224,8 @@ fn push(ws: &mut [u64; 1665], n: Node)
     ws[1536] = (k + 1) as u64;
 }
 
-// The number of the node with the key of n, or how many there are. A key occurs once, so that the search may go from the last node of the bucket to the first.
+// The number of the node with the key of n, or how many there are. A key occurs once, so that the search may go from the last node of the
+// bucket to the first.
 fn find(ws: &[u64; 1665], n: Node) -> usize
     requires { ⌜ Sized (now ws) × BucketsLinked (now ws) × Sound (registryOf (now ws)) ⌝ }
     ensures { λ r. ⌜ r ≡ findNode (nodesOf (now (ws .entry))) n ⌝ }

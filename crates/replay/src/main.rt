@@ -1,5 +1,5 @@
-// Replays the stored list of jobs (compare/stored), which comes on standard input, through both operations: what they write, or by which number they
-// refuse, is to be what the Rust's harness stored, and the rest of the buffer is to be as it was.
+// Replays the stored list of jobs (compare/stored), which comes on standard input, through both operations: what they write, or by which
+// number they refuse, is to be what the Rust's harness stored, and the rest of the buffer is to be as it was.
 ghost use mathlib.Core.Path.{_≡_};
 ghost use mathlib.Core.Bool.{true};
 ghost use Prim.Native.Nat.{_≤_};
@@ -162,7 +162,8 @@ fn counted(n: u64, holds: bool) -> u64 {
     }
 }
 
-// How many answers and sheets agreed, how many records had one that did not, and how many of the others were refused by each number, 0 for none.
+// How many answers and sheets agreed, how many records had one that did not, and how many of the others were refused by each number, 0 for
+// none.
 struct Tally {
     answers: u64,
     sheets: u64,

@@ -1,4 +1,5 @@
-// The programs `answer` and `sheet`, which differ in the operation only: a job on standard input, and on standard output what document 01 says.
+// The programs `answer` and `sheet`, which differ in the operation only: a job on standard input, and on standard output what document 01
+// says.
 ghost use mathlib.Core.Path.{_≡_};
 ghost use lib.ListN.{length};
 ghost use Rattle.model.specs.Answer.{leastBuffer};
@@ -23,7 +24,8 @@ pub fn respond(operation: Operation, s: &[u8], out: &mut [u8]) -> usize
     }
 }
 
-// The program of the operation. Of a job longer than 65,536 bytes the rest is not read: the program writes the same of its first bytes (`first-bytes`).
+// The program of the operation. Of a job longer than 65,536 bytes the rest is not read: the program writes the same of its first bytes
+// (`first-bytes`).
 pub fn run(operation: Operation) {
     let mut space = io::large_buffer();
     let got = io::read_full(0, &mut space);

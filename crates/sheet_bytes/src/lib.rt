@@ -1,4 +1,5 @@
-// The bytes of a sheet: its head, each node of the registry with its root's identifier and reactive mark, and each block's set as a row of bits.
+// The bytes of a sheet: its head, each node of the registry with its root's identifier and reactive mark, and each block's set as a row of
+// bits.
 ghost use Prim.Native.Nat.{_+_, _*_, _≤_, _<_};
 ghost use mathlib.Core.Path.{_≡_};
 ghost use lib.ListN.{length};

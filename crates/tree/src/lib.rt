@@ -1,5 +1,6 @@
-// The dependency tree: positions in words that the caller lends, in the order of making, each with its parent's number; and the returned paths, derived from it.
-// Position k's number is k + 1, and 0 stands above the roots. Keys and spans stay in the job's bytes: a position keeps their place.
+// The dependency tree: positions in words that the caller lends, in the order of making, each with its parent's number; and the returned
+// paths, derived from it. Position k's number is k + 1, and 0 stands above the roots. Keys and spans stay in the job's bytes: a position
+// keeps their place.
 ghost use mathlib.Core.Path.{_≡_};
 ghost use Prim.Native.Nat.{ℕ, _+_, _≤_, _<_};
 ghost use mathlib.Core.Bool.{cond, _||_};
