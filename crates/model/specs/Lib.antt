@@ -13,7 +13,8 @@ pub mod Read
 pub mod Job
 pub mod Stage
 pub mod Answer
--- the examples of document 01
+-- the examples of document 01, and others beside them
+pub mod PathExamples
 pub mod Examples
 -- laws
 pub mod Tests
