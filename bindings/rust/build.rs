@@ -12,6 +12,9 @@ const DEFAULT: &str = "../../target/staticlib/libstage.a";
 fn main() {
     println!("cargo::rerun-if-changed=build.rs");
     println!("cargo::rerun-if-env-changed={VARIABLE}");
+    if env::var_os("CARGO_FEATURE_LIBRARY").is_none() {
+        return;
+    }
     if env::var("CARGO_CFG_TARGET_ARCH").is_ok_and(|arch| arch != "x86_64") {
         fail("the stage's library is for x86-64");
     }
