@@ -5,7 +5,7 @@
  * and the sheet (all nodes of paths, and each block's set of them). docs/FORMAT.md
  * has the bytes of all three.
  *
- * Link with libstage.a, which `rt staticlib stage` writes to target/staticlib.
+ * Link with libstage.a, which `bin/library` proves and writes to target/staticlib.
  */
 #ifndef SCOPE_DEPS_H
 #define SCOPE_DEPS_H
