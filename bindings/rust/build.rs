@@ -1,5 +1,5 @@
-//! Links the stage's library: the one that `SCOPE_DEPS_LIBRARY` names, or the repository's. Where that is missing or
-//! belongs to other sources, it is proved and made outside the sources.
+//! Links the stage's library: the one that `SCOPE_DEPS_LIBRARY` names, or the repository's. Where
+//! that is missing or belongs to other sources, it is proved and made outside the sources.
 
 fn main() {
     println!("cargo::rerun-if-changed=build.rs");

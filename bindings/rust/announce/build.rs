@@ -1,7 +1,7 @@
 //! Warns where the stage's library has to be proved, which takes minutes.
 //!
-//! Cargo shows the warnings of a build script when it has ended. So this one only warns, and that of `scope-deps`,
-//! which runs after it, has the library made.
+//! Cargo shows the warnings of a build script when it has ended. So this one only warns, and that
+//! of `scope-deps`, which runs after it, has the library made.
 
 use std::env;
 use std::process::Command;

@@ -29,8 +29,8 @@
 //! sheets can be read and written as text (`docs/NOTATION.md`). [`explain`](mod@explain) says why each path is
 //! returned as it is, and [`draw`](mod@draw) makes a picture.
 //!
-//! The feature `library`, on by default, links the library. Without it there are no `answer`, `sheet` and `raw`, and
-//! all else is there.
+//! The feature `library`, on by default, links the library. Without it there are no `answer`,
+//! `sheet` and `raw`, and all else is there.
 
 #![deny(missing_docs)]
 #![deny(unsafe_code)]
