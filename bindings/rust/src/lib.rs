@@ -28,6 +28,9 @@
 //! The stage itself is the proved library behind the C interface; nothing of it is done again here. Jobs, answers and
 //! sheets can be read and written as text (`docs/NOTATION.md`). [`explain`](mod@explain) says why each path is
 //! returned as it is, and [`draw`](mod@draw) makes a picture.
+//!
+//! The feature `library`, on by default, links the library. Without it there are no `answer`,
+//! `sheet` and `raw`, and all else is there.
 
 #![deny(missing_docs)]
 #![deny(unsafe_code)]
@@ -40,12 +43,14 @@ pub mod explain;
 mod graph;
 mod ids;
 #[allow(unsafe_code)]
+#[cfg_attr(not(feature = "library"), allow(dead_code))]
 #[path = "../../../interface/scope_deps.rs"]
 mod interface;
 mod job;
 pub mod limits;
 pub mod notation;
 mod path;
+#[cfg(feature = "library")]
 pub mod raw;
 mod refusal;
 mod sheet;
@@ -72,6 +77,7 @@ pub use sheet::{Node, NodeSet, Sheet};
 /// }
 /// # Ok::<(), Box<dyn std::error::Error>>(())
 /// ```
+#[cfg(feature = "library")]
 pub fn answer(job: &Job) -> Result<Answer, Refusal> {
     let bytes = raw::answer(&job.to_bytes())?;
     Ok(Answer::from_bytes(&bytes).expect("the stage writes answers of its format"))
@@ -89,6 +95,7 @@ pub fn answer(job: &Job) -> Result<Answer, Refusal> {
 /// assert_eq!(known, ["1", "1.10"]);
 /// # Ok::<(), Box<dyn std::error::Error>>(())
 /// ```
+#[cfg(feature = "library")]
 pub fn sheet(job: &Job) -> Result<Sheet, Refusal> {
     let bytes = raw::sheet(&job.to_bytes())?;
     Ok(Sheet::from_bytes(&bytes).expect("the stage writes sheets of its format"))

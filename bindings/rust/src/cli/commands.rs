@@ -4,9 +4,7 @@ use super::failure::Failure;
 use super::help;
 use super::input::{Form, Input};
 use super::options::{Command, Request, Run};
-use scope_deps::draw::draw;
-use scope_deps::explain::explain;
-use scope_deps::{answer, raw, sheet, Job, Refusal};
+use super::stage;
 use std::fs;
 use std::io::{self, Write};
 
@@ -22,8 +20,11 @@ pub fn run(request: Request) -> Result<(), Failure> {
 
 fn result(run: &Run, input: &Input) -> Result<Vec<u8>, Failure> {
     let job = input.job(form(run, input)?)?;
-    let refused = |why| Failure::Refused { place: input.place.clone(), why };
-    made(run, &job).map_err(refused)
+    match run.command {
+        Command::Encode => Ok(job.to_bytes()),
+        Command::Decode => Ok(job.to_string().into_bytes()),
+        Command::Answer | Command::Sheet | Command::Explain | Command::Draw => stage::made(run, input, &job),
+    }
 }
 
 /// The form that was said, or else the one that it seems to be and that the command takes.
@@ -39,25 +40,6 @@ fn form(run: &Run, input: &Input) -> Result<Form, Failure> {
         }
         (None, _, form) => Ok(form),
     }
-}
-
-/// What the command makes of a job.
-fn made(run: &Run, job: &Job) -> Result<Vec<u8>, Refusal> {
-    Ok(match run.command {
-        Command::Encode => job.to_bytes(),
-        Command::Decode => job.to_string().into_bytes(),
-        Command::Answer if run.bytes => raw::answer(&job.to_bytes())?,
-        Command::Answer => answer(job)?.to_string().into_bytes(),
-        Command::Sheet if run.bytes => raw::sheet(&job.to_bytes())?,
-        Command::Sheet => sheet(job)?.to_string().into_bytes(),
-        Command::Explain => {
-            let explanation = explain(job, &sheet(job)?, &answer(job)?);
-            explanation.expect("sheet and answer are the job's").to_string().into_bytes()
-        }
-        Command::Draw => {
-            draw(job, &sheet(job)?, &answer(job)?).expect("sheet and answer are the job's").into_bytes()
-        }
-    })
 }
 
 fn write(bytes: &[u8], file: Option<&str>) -> Result<(), Failure> {

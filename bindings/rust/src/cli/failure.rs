@@ -18,6 +18,9 @@ pub enum Failure {
     Form { place: String, why: String },
     /// The stage turned the job from this place back.
     Refused { place: String, why: Refusal },
+    /// The command asks the stage, and this tool was built without it.
+    #[cfg(not(feature = "library"))]
+    NoLibrary,
 }
 
 impl Failure {
@@ -41,6 +44,10 @@ impl fmt::Display for Failure {
             }
             Self::Form { place, why } => write!(f, "{place}: {why}"),
             Self::Refused { place, why } => write!(f, "{place}: {why}"),
+            #[cfg(not(feature = "library"))]
+            Self::NoLibrary => {
+                write!(f, "this tool was built without the stage's library (feature `library`)")
+            }
         }
     }
 }

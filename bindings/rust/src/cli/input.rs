@@ -1,7 +1,8 @@
 //! A job from a file or from standard input, in any of its forms.
 
 use super::failure::Failure;
-use scope_deps::{limits, raw, Job, Refusal};
+use super::stage;
+use scope_deps::{limits, Job, Refusal};
 use std::fs::File;
 use std::io::{self, Read};
 
@@ -71,7 +72,7 @@ impl Input {
     /// The job, or the refusal that the stage itself gives these bytes.
     fn job_of_bytes(&self, bytes: &[u8]) -> Result<Job, Failure> {
         Job::from_bytes(bytes).map_err(|own| {
-            let why = raw::answer(bytes).err().unwrap_or(own);
+            let why = stage::refusal(bytes).unwrap_or(own);
             Failure::Refused { place: self.place.clone(), why }
         })
     }

@@ -5,3 +5,8 @@ pub mod failure;
 pub mod help;
 pub mod input;
 pub mod options;
+#[cfg(feature = "library")]
+pub mod stage;
+#[cfg(not(feature = "library"))]
+#[path = "no_stage.rs"]
+pub mod stage;
