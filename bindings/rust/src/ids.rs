@@ -23,6 +23,7 @@ impl Span {
     pub const NONE: Self = Self(0);
 
     /// Whether this stands for no place.
+    #[must_use]
     pub fn is_none(self) -> bool {
         self == Self::NONE
     }

@@ -92,7 +92,7 @@ fn files_are_read_and_written() {
 fn a_bad_text_is_shown_with_line_column_and_excerpt() {
     assert_eq!(
         message(&["encode"], "scope 7\nblock 7 after 9\n", 1),
-        "scope-deps: standard input:2:15: predecessor 9 is no block of the job\n\
+        "scope-deps: standard input:2:15: predecessor 9 of block 7 is no block of the job\n\
          2 | block 7 after 9\n  |               ^\n"
     );
     let job = scratch("bad.txt");

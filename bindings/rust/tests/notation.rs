@@ -142,22 +142,22 @@ fn a_text_that_is_no_job_is_refused_where_it_goes_wrong() {
 fn parts_that_make_no_job_are_refused_where_they_stand() {
     wrong("scope 7\nblock 8", 1, 7, "the scope block 7 is no block of the job");
     wrong("scope 7\nblock 7\nblock 7", 3, 7, "two blocks have the id 7");
-    wrong("scope 7\nblock 7 after 7, 7", 2, 18, "the block names predecessor 7 twice");
-    wrong("scope 7\nblock 7 after 7,\n  9", 3, 3, "predecessor 9 is no block of the job");
+    wrong("scope 7\nblock 7 after 7, 7", 2, 18, "block 7 names predecessor 7 twice");
+    wrong("scope 7\nblock 7 after 7,\n  9", 3, 3, "predecessor 9 of block 7 is no block of the job");
     let entries = ".1".repeat(17);
     wrong(&format!("scope 7 block 7 assumes 1{entries}"), 1, 58, "a path has at most 16 entries");
     let blocks: String = (0..129).map(|id| format!("block {id}\n")).collect();
-    wrong(&format!("scope 0\n{blocks}"), 130, 7, "a job has at most 128 blocks");
+    wrong(&format!("scope 0\n{blocks}"), 130, 7, "the job has 129 blocks, and at most 128 are allowed");
     wrong(
         &format!("scope 0 block 0{}", "\ncandidate 1".repeat(65)),
         66,
         11,
-        "a job has at most 64 candidates",
+        "the job has 65 candidates, and at most 64 are allowed",
     );
     wrong(
         &format!("scope 0 block 0{}", "\nassumes 1".repeat(256)),
         257,
         9,
-        "a block assumes at most 255 paths",
+        "block 0 has 256 assumed paths, and at most 255 are allowed",
     );
 }

@@ -46,9 +46,9 @@ fn made(run: &Run, job: &Job) -> Result<Vec<u8>, Refusal> {
     Ok(match run.command {
         Command::Encode => job.to_bytes(),
         Command::Decode => job.to_string().into_bytes(),
-        Command::Answer if run.bytes => raw::answer(&job.to_bytes())?,
+        Command::Answer if run.bytes => raw::answer(job.as_bytes())?,
         Command::Answer => answer(job)?.to_string().into_bytes(),
-        Command::Sheet if run.bytes => raw::sheet(&job.to_bytes())?,
+        Command::Sheet if run.bytes => raw::sheet(job.as_bytes())?,
         Command::Sheet => sheet(job)?.to_string().into_bytes(),
         Command::Explain => {
             let explanation = explain(job, &sheet(job)?, &answer(job)?);

@@ -4,10 +4,11 @@ use super::cursor::Cursor;
 use super::error::{NotationError, Position};
 use super::number::whole_u32;
 use super::path::path;
-use crate::build_error::{BuildError, IdPlace};
+use crate::build_error::{BuildError, Field, Wrong};
+use crate::builder::JobBuilder;
 use crate::ids::BlockId;
-use crate::job::{Block, Job, JobBuilder};
-use crate::limits;
+use crate::job::{Block, Job};
+use crate::refusal::Record;
 use std::str::FromStr;
 
 impl FromStr for Job {
@@ -42,20 +43,24 @@ struct BlockPositions {
 impl Positions {
     /// The part that keeps the text from being a job.
     fn of(&self, why: &BuildError) -> Option<Position> {
-        match *why {
-            BuildError::NoBlocks => None,
-            BuildError::TooManyBlocks => self.blocks.get(limits::BLOCKS)?.id,
-            BuildError::TooManyCandidates => self.candidates.get(limits::CANDIDATES).copied(),
-            BuildError::TooManyPredecessors { block } => {
-                self.blocks[block].predecessors.get(limits::PREDECESSORS).copied()
+        let beyond = match why.wrong() {
+            Wrong::TooMany { most, .. } => most,
+            _ => 0,
+        };
+        match (why.record(), why.field()) {
+            (_, Field::Blocks) => self.blocks.get(beyond)?.id,
+            (_, Field::Candidates) => self.candidates.get(beyond).copied(),
+            (Record::Block(block), Field::Predecessors) => {
+                self.blocks[block].predecessors.get(beyond).copied()
             }
-            BuildError::TooManyAssumed { block } => self.blocks[block].assumed.get(limits::ASSUMED).copied(),
-            BuildError::BadId(bad) => match bad.stands {
-                IdPlace::Scope => self.scope,
-                IdPlace::Block(block) => self.blocks[block].id,
-                IdPlace::Predecessor { block, place } => self.blocks[block].predecessors.get(place).copied(),
-            },
-            BuildError::TooLong { .. } => self.scope,
+            (Record::Block(block), Field::Predecessor(place)) => {
+                self.blocks[block].predecessors.get(place).copied()
+            }
+            (Record::Block(block), Field::Assumed) => self.blocks[block].assumed.get(beyond).copied(),
+            (Record::Block(block), _) => self.blocks[block].id,
+            (Record::Assumed { block, path }, _) => self.blocks[block].assumed.get(path).copied(),
+            (Record::Candidate(place), _) => self.candidates.get(place).copied(),
+            (Record::Header | Record::End, _) => self.scope,
         }
     }
 }
@@ -95,8 +100,7 @@ fn block(cursor: &mut Cursor, positions: &mut BlockPositions) -> Result<Block, N
         block = block.after(predecessors);
     }
     while cursor.keyword("assumes") {
-        let assumed = list(cursor, &mut positions.assumed, path)?;
-        block = assumed.into_iter().fold(block, Block::assuming);
+        block = block.assuming(list(cursor, &mut positions.assumed, path)?);
     }
     let here = cursor.position();
     if cursor.keyword("after") {
@@ -112,8 +116,7 @@ fn candidates(
     positions: &mut Positions,
 ) -> Result<JobBuilder, NotationError> {
     while cursor.keyword("candidate") {
-        let candidates = list(cursor, &mut positions.candidates, path)?;
-        builder = candidates.into_iter().fold(builder, JobBuilder::candidate);
+        builder = builder.candidates(list(cursor, &mut positions.candidates, path)?);
     }
     match cursor.peek() {
         None => Ok(builder),

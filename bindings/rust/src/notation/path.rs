@@ -4,6 +4,7 @@ use super::cursor::Cursor;
 use super::error::NotationError;
 use super::number::{bits, show_bits, whole, whole_u32};
 use crate::ids::{IdentifierId, Span};
+use crate::limits;
 use crate::path::{Entry, Path, Property};
 use std::fmt;
 use std::str::FromStr;
@@ -34,7 +35,10 @@ pub(super) fn path(cursor: &mut Cursor) -> Result<Path, NotationError> {
     loop {
         let here = cursor.position();
         let Some(entry) = entry(cursor)? else { return Ok(path) };
-        path = path.then(entry).map_err(|why| NotationError::new(here, why.to_string()))?;
+        if path.entries().len() == limits::ENTRIES {
+            return Err(NotationError::new(here, format!("a path has at most {} entries", limits::ENTRIES)));
+        }
+        path = path.then(entry);
     }
 }
 
