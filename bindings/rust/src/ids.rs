@@ -39,4 +39,4 @@ macro_rules! shown_as_its_number {
     )*};
 }
 
-shown_as_its_number! { IdentifierId BlockId NodeId Span }
+shown_as_its_number! { BlockId NodeId Span }

@@ -3,6 +3,7 @@
 use crate::builder::JobBuilder;
 use crate::bytes;
 use crate::ids::BlockId;
+use crate::names::Names;
 use crate::path::Path;
 use crate::refusal::Refusal;
 use std::fmt;
@@ -59,7 +60,8 @@ impl Block {
 /// A well-formed job. The stage refuses it at most by 9, [`Refusal::ManyNodes`].
 ///
 /// It is shown in the notation of `docs/NOTATION.md` and read from it. It keeps its bytes, which are written once, when it
-/// is built; two jobs are equal where their bytes are.
+/// is built; two jobs are equal where their bytes are. Names that a text gives are kept beside them, and play no part in
+/// equality.
 ///
 /// ```
 /// use scope_deps::{Block, BlockId, Job};
@@ -83,6 +85,7 @@ pub struct Job {
     candidates: Vec<Path>,
     /// They say all of the above.
     bytes: Vec<u8>,
+    names: Names,
 }
 
 impl Job {
@@ -94,7 +97,7 @@ impl Job {
     /// The job of parts that were checked.
     pub(crate) fn of_checked(scope: BlockId, blocks: Vec<Block>, candidates: Vec<Path>) -> Self {
         let bytes = bytes::write_job(scope, &blocks, &candidates);
-        Self { scope, blocks, candidates, bytes }
+        Self { scope, blocks, candidates, bytes, names: Names::new() }
     }
 
     /// The job in these bytes.
@@ -104,7 +107,7 @@ impl Job {
     /// The refusal from 2 to 8 that the stage gives these bytes, with its place.
     pub fn from_bytes(bytes: &[u8]) -> Result<Self, Refusal> {
         let JobBuilder { scope, blocks, candidates } = bytes::read_job(bytes)?;
-        Ok(Self { scope, blocks, candidates, bytes: bytes.to_vec() })
+        Ok(Self { scope, blocks, candidates, bytes: bytes.to_vec(), names: Names::new() })
     }
 
     /// The job's bytes, in the format of `docs/FORMAT.md`.
@@ -123,6 +126,18 @@ impl Job {
     #[must_use]
     pub fn into_bytes(self) -> Vec<u8> {
         self.bytes
+    }
+
+    /// The same job with these names in place of those that it has.
+    #[must_use]
+    pub fn with_names(self, names: Names) -> Self {
+        Self { names, ..self }
+    }
+
+    /// The names of the job's variables and properties, for people. The bytes do not have them.
+    #[must_use]
+    pub fn names(&self) -> &Names {
+        &self.names
     }
 
     /// The scope block's id.
@@ -167,8 +182,9 @@ impl Hash for Job {
 /// Without the bytes, which say the same again.
 impl fmt::Debug for Job {
     fn fmt(&self, f: &mut fmt::Formatter<'_>) -> fmt::Result {
-        let Self { scope, blocks, candidates, bytes: _ } = self;
+        let Self { scope, blocks, candidates, bytes: _, names } = self;
         let mut shown = f.debug_struct("Job");
-        shown.field("scope", scope).field("blocks", blocks).field("candidates", candidates).finish()
+        shown.field("scope", scope).field("blocks", blocks).field("candidates", candidates);
+        shown.field("names", names).finish()
     }
 }

@@ -62,13 +62,14 @@ fn jobs_of(document: &str) -> Vec<String> {
     let lines: Vec<&str> = document.lines().collect();
     let parts = lines.split(|line| !line.starts_with("    ") && !line.is_empty());
     let texts = parts.map(|part| part.join("\n"));
-    texts.filter(|text| text.trim_start().starts_with("scope ")).collect()
+    let starts_job = |text: &str| text.starts_with("scope ") || text.starts_with("name ");
+    texts.filter(|text| starts_job(text.trim_start())).collect()
 }
 
 #[test]
 fn the_jobs_in_the_document_on_the_notation_are_jobs() {
     let jobs = jobs_of(&read(repository("docs/NOTATION.md")));
-    assert!(!jobs.is_empty());
+    assert_eq!(jobs.len(), 2);
     for text in jobs {
         let job: Job = text.parse().unwrap_or_else(|why| panic!("{why}\n{text}"));
         assert!(answer(&job).is_ok());
