@@ -19,6 +19,7 @@ pub mod memory;
 pub mod oracle;
 pub mod output;
 pub mod prng;
+pub mod programs;
 pub mod progress;
 pub mod reader;
 #[cfg(reference)]
