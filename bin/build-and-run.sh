@@ -1,12 +1,12 @@
 # shellcheck shell=bash
-# Builds a program of a cargo package where it does not belong to its inputs. For `bin/scope-deps` and
-# `compare/oracle` to source.
+# Builds a program of a cargo package where it does not belong to its inputs. For `bin/scope-deps`
+# and `compare/oracle` to source.
 #
-# Beside the built program a record, PROGRAM.digest, has a line `NAME DIGEST` for each of its inputs and
-# one for the program itself. Where they agree cargo is not asked: a tree that is built needs no cargo,
-# and nothing is written to it.
+# Beside the built program a record, PROGRAM.digest, has a line `NAME DIGEST` for each of its inputs
+# and one for the program itself. Where they agree cargo is not asked: a tree that is built needs no
+# cargo, and nothing is written to it.
 
-# A digest of all files in these, which are named from the current directory; absent ones are left out.
+# A digest of all files in these, named from the current directory; absent ones are left out.
 digest_of() { # FILE..
   find -H "$@" -type f -print0 2>/dev/null | LC_ALL=C sort -z | xargs -0 -r sha256sum | sha256sum | cut -d' ' -f1
 }

@@ -6,11 +6,15 @@
 use std::env;
 use std::process::Command;
 
+const VARIABLE: &str = "SCOPE_DEPS_LIBRARY";
 const SCRIPT: &str = "../../../bin/library";
 
 fn main() {
     println!("cargo::rerun-if-changed=build.rs");
-    println!("cargo::rerun-if-env-changed=SCOPE_DEPS_LIBRARY");
+    println!("cargo::rerun-if-env-changed={VARIABLE}");
+    if env::var_os(VARIABLE).is_some_and(|file| !file.is_empty()) {
+        return;
+    }
     println!("cargo::rerun-if-changed=../../../crates");
     println!("cargo::rerun-if-changed=../../../crates.txt");
     let folder = env::var("OUT_DIR").expect("cargo sets OUT_DIR");
