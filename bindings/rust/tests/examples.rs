@@ -33,7 +33,8 @@ fn each_example_has_the_answer_beside_it() {
     assert_eq!(names, ["diamond", "loop", "no-last-session", "optional-chain"]);
     for name in names {
         let expected = read(repository(&format!("examples/{name}.answer")));
-        assert_eq!(answer(&job(&name)).unwrap().to_string(), expected, "{name}");
+        let job = job(&name);
+        assert_eq!(answer(&job).unwrap().with_names(job.names()).to_string(), expected, "{name}");
     }
 }
 
