@@ -4,24 +4,34 @@ use super::failure::Failure;
 use super::help;
 use super::input::{Form, Input};
 use super::options::{Command, Request, Run};
+use super::output;
 use super::stage;
-use std::fs;
-use std::io::{self, Write};
+use scope_deps::Names;
 
 pub fn run(request: Request) -> Result<(), Failure> {
     match request {
-        Request::Help(topic) => write(help::text(topic.as_deref())?.as_bytes(), None),
+        Request::Help(topic) => output::write(help::text(topic.as_deref())?.as_bytes(), None),
         Request::Run(run) => {
+            output::check_not_read(&run)?;
+            let names = names(&run)?;
             let input = Input::read(run.input.as_deref())?;
-            write(&result(&run, &input)?, run.output.as_deref())
+            output::write(&result(&run, &input, &names)?, run.output.as_deref())
         }
     }
 }
 
-fn result(run: &Run, input: &Input) -> Result<Vec<u8>, Failure> {
-    let job = input.job(form(run, input)?)?;
+/// The names in the file that was given for them.
+fn names(run: &Run) -> Result<Names, Failure> {
+    match &run.names {
+        None => Ok(Names::new()),
+        Some(file) => Input::read(Some(file))?.names(),
+    }
+}
+
+fn result(run: &Run, input: &Input, names: &Names) -> Result<Vec<u8>, Failure> {
+    let job = input.job(form(run, input)?, names)?;
     match run.command {
-        Command::Encode => Ok(job.to_bytes()),
+        Command::Encode => Ok(job.into_bytes()),
         Command::Decode => Ok(job.to_string().into_bytes()),
         Command::Answer | Command::Sheet | Command::Explain | Command::Draw => stage::made(run, input, &job),
     }
@@ -31,25 +41,15 @@ fn result(run: &Run, input: &Input) -> Result<Vec<u8>, Failure> {
 fn form(run: &Run, input: &Input) -> Result<Form, Failure> {
     let wrong = |why: &str| Failure::Form { place: input.place.clone(), why: why.to_string() };
     match (run.from, run.command, input.looks_like()) {
+        _ if input.bytes.is_empty() => Err(wrong("this is empty, and holds no job")),
         (Some(form), ..) => Ok(form),
         (None, Command::Encode, Form::Bytes) => {
             Err(wrong("this is no text, but may be a job in bytes, which `decode` takes"))
         }
+        (None, Command::Decode, Form::Text) if std::str::from_utf8(&input.bytes).is_err() => Ok(Form::Bytes),
         (None, Command::Decode, Form::Text) => {
             Err(wrong("this is text, and not a job in bytes; a hex dump is taken with `--from hex`"))
         }
         (None, _, form) => Ok(form),
     }
-}
-
-fn write(bytes: &[u8], file: Option<&str>) -> Result<(), Failure> {
-    let place = file.unwrap_or("standard output").to_string();
-    let written = match file {
-        Some(file) => fs::write(file, bytes),
-        None => {
-            let mut out = io::stdout().lock();
-            out.write_all(bytes).and_then(|()| out.flush())
-        }
-    };
-    written.map_err(|why| Failure::Output { place, why })
 }

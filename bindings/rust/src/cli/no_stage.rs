@@ -6,7 +6,7 @@ use super::options::Run;
 use scope_deps::{Job, Refusal};
 
 pub fn made(_: &Run, _: &Input, _: &Job) -> Result<Vec<u8>, Failure> {
-    Err(Failure::NoLibrary)
+    Err(Failure::BuiltWithout("library"))
 }
 
 /// No stage is there to say it, so the reader's own refusal stays.
