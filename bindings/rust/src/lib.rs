@@ -48,6 +48,7 @@ pub mod notation;
 mod path;
 pub mod raw;
 mod refusal;
+pub mod replay;
 mod sheet;
 
 pub use answer::Answer;
