@@ -59,6 +59,7 @@ mod path;
 #[cfg(feature = "library")]
 pub mod raw;
 mod refusal;
+pub mod replay;
 mod sheet;
 #[cfg(feature = "library")]
 mod stage;
