@@ -15,14 +15,14 @@ ghost use mathlib.Core.Path.{_≡_};
 ghost use Prim.Native.Nat.{_≤_};
 ghost use lib.Seq.{sets};
 ghost use Rattle.model.specs.Read.{readMany, mapped};
-ghost use Rattle.model.specs.Job.{HD, Block, readBlockId, readEntry, readPath, readBlock, readHeader, readRecords, readJob};
+ghost use Rattle.model.specs.Job.{HD, Block, readBlockId, readEntry, readPath, readBlock, readHeader, readRecords};
 ghost use Rattle.model.specs.Answer.{spanWidth};
 ghost use Rattle.fields.specs.Answer.{gotPlace};
 ghost use Rattle.job.specs.Passing.{passed, notes};
 ghost use Rattle.job.specs.Head.{readPathHead, readBlockHead};
 ghost use Rattle.job.specs.Answer.{gotEntry, gotPathHead, gotBlockHead, gotBlockId, gotHeader};
 ghost use Rattle.job.specs.Answer.{refusalEntry, refusalPathHead, refusalBlockHead, refusalBlockId, refusalHeader};
-ghost use Rattle.job.specs.Kept.{notePlace, noteNumber, blockPlaces, blockNumbers, keptOf};
+ghost use Rattle.job.specs.Kept.{notePlace, noteNumber, blockPlaces, blockNumbers, keptOf, afterHeader, BehindHeader, ReadsJob};
 
 mod ids;
 
@@ -147,6 +147,16 @@ impl ReadHeader {
         match self {
             ReadHeader::Value(_, _) => Refusal::MissingByte,
             ReadHeader::Refused(refusal) => refusal,
+        }
+    }
+
+    // The place after a header that was looked for at `at`: a refusal leaves the reader where it stands.
+    pub fn place_after(self, at: usize) -> usize
+        ensures { λ r. ⌜ r ≡ afterHeader self at ⌝ }
+    {
+        match self {
+            ReadHeader::Value(_, next) => next,
+            ReadHeader::Refused(_) => at,
         }
     }
 }
@@ -382,43 +392,54 @@ pub fn header_at(s: &[u8], at: usize) -> ReadHeader
     )
 }
 
-// The records in their order, as far as refusal 6, the ids and the places of the blocks being noted.
-fn records_of(s: &[u8], ids: &mut [u32; 128], places: &mut [usize; 128]) -> ReadJob
+// The records behind the header, as far as refusal 6, the ids and the places of the blocks being noted.
+fn records_at(
+    s: &[u8],
+    at: usize,
+    header: ReadHeader,
+    ids: &mut [u32; 128],
+    places: &mut [usize; 128],
+) -> ReadJob
+    requires { ⌜ BehindHeader (now s) at header ⌝ }
     ensures { λ r. ⌜ r ≡ keptOf (now (s .entry)) (readRecords HD spanWidth (now (s .entry))) ⌝ }
     ensures { λ r. ⌜ now (ids .exit) ≡ sets (now (ids .entry)) 0 (blockNumbers (now (s .entry))) ⌝ }
     ensures { λ r. ⌜ now (places .exit) ≡ sets (now (places .entry)) 0 (blockPlaces (now (s .entry))) ⌝ }
 {
-    let header_field = header_at(s, 0);
-    let ReadHeader::Value(header, blocks_at) = header_field else {
-        return ReadJob::Refused(header_field.refusal());
+    let ReadHeader::Value(head, _) = header else {
+        return ReadJob::Refused(header.refusal());
     };
-    let past_blocks = note_blocks(s, blocks_at, header.blocks, ids, places);
+    let past_blocks = note_blocks(s, at, head.blocks, ids, places);
     let Passed::To(candidates_at) = past_blocks else {
         return ReadJob::Refused(past_blocks.refusal());
     };
-    let past_candidates = past_paths(s, candidates_at, header.candidates, CA);
+    let past_candidates = past_paths(s, candidates_at, head.candidates, CA);
     let Passed::To(next) = past_candidates else {
         return ReadJob::Refused(past_candidates.refusal());
     };
     if next != s.len() {
         return ReadJob::Refused(Refusal::ExtraByte);
     }
-    let scope = header.scope;
+    let scope = head.scope;
     ReadJob::Value(JobHead {
-        blocks: header.blocks as usize,
-        candidates: header.candidates as usize,
+        blocks: head.blocks as usize,
+        candidates: head.candidates as usize,
         scope,
         candidates_at,
     })
 }
 
-// The job, or its refusal. The id of each block and the place of its record are noted.
-pub fn read_job(s: &[u8], ids: &mut [u32; 128], places: &mut [usize; 128]) -> ReadJob
-    ensures { λ r. ⌜ r ≡ keptOf (now (s .entry)) (readJob HD spanWidth (now (s .entry))) ⌝ }
-    ensures { λ r. ⌜ now (ids .exit) ≡ sets (now (ids .entry)) 0 (blockNumbers (now (s .entry))) ⌝ }
-    ensures { λ r. ⌜ now (places .exit) ≡ sets (now (places .entry)) 0 (blockPlaces (now (s .entry))) ⌝ }
+// The job from the place behind its header on, or its refusal. The id of each block and the place of its record are noted.
+pub fn rest_at(
+    s: &[u8],
+    at: usize,
+    header: ReadHeader,
+    ids: &mut [u32; 128],
+    places: &mut [usize; 128],
+) -> ReadJob
+    requires { ⌜ BehindHeader (now s) at header ⌝ }
+    ensures { λ r. ⌜ ReadsJob (now (s .entry)) r (now (ids .entry)) (now (ids .exit)) (now (places .entry)) (now (places .exit)) ⌝ }
 {
-    let read = records_of(s, ids, places);
+    let read = records_at(s, at, header, ids, places);
     let ReadJob::Value(head) = read else {
         return read;
     };
