@@ -6,8 +6,7 @@ ghost use lib.Dec.{leb};
 ghost use lib.ListN.{length};
 ghost use Rattle.model.specs.Read.{readNumber, readMark, readWithin, readFlag};
 ghost use Rattle.fields.specs.Number.{numberAt};
-ghost use Rattle.fields.specs.Answer.{gotU8, gotU16, gotU32, gotU64, gotFlag, gotPlace};
-ghost use Rattle.fields.specs.Answer.{refusalU8, refusalU16, refusalU32, refusalU64, refusalFlag, refusalPlace};
+ghost use Rattle.fields.specs.Answer.{gotU8, gotU16, gotU32, gotU64, gotFlag, gotPlace, refusalOf};
 
 // A field's value and the place after it, or the refusal.
 pub enum ReadU8 {
@@ -41,10 +40,10 @@ pub enum Passed {
     Refused(Refusal),
 }
 
-// Each answer's `refusal` is asked only where the answer is one.
+// Each answer's `refusal` is asked only where the answer is one. The language has no generics, so each enum has its own.
 impl ReadU8 {
     pub fn refusal(self) -> Refusal
-        ensures { λ r. ⌜ r ≡ refusalU8 self ⌝ }
+        ensures { λ r. ⌜ r ≡ refusalOf (gotU8 self) ⌝ }
     {
         match self {
             ReadU8::Value(_, _) => Refusal::MissingByte,
@@ -55,7 +54,7 @@ impl ReadU8 {
 
 impl ReadU16 {
     pub fn refusal(self) -> Refusal
-        ensures { λ r. ⌜ r ≡ refusalU16 self ⌝ }
+        ensures { λ r. ⌜ r ≡ refusalOf (gotU16 self) ⌝ }
     {
         match self {
             ReadU16::Value(_, _) => Refusal::MissingByte,
@@ -66,7 +65,7 @@ impl ReadU16 {
 
 impl ReadU32 {
     pub fn refusal(self) -> Refusal
-        ensures { λ r. ⌜ r ≡ refusalU32 self ⌝ }
+        ensures { λ r. ⌜ r ≡ refusalOf (gotU32 self) ⌝ }
     {
         match self {
             ReadU32::Value(_, _) => Refusal::MissingByte,
@@ -77,7 +76,7 @@ impl ReadU32 {
 
 impl ReadU64 {
     pub fn refusal(self) -> Refusal
-        ensures { λ r. ⌜ r ≡ refusalU64 self ⌝ }
+        ensures { λ r. ⌜ r ≡ refusalOf (gotU64 self) ⌝ }
     {
         match self {
             ReadU64::Value(_, _) => Refusal::MissingByte,
@@ -88,7 +87,7 @@ impl ReadU64 {
 
 impl ReadFlag {
     pub fn refusal(self) -> Refusal
-        ensures { λ r. ⌜ r ≡ refusalFlag self ⌝ }
+        ensures { λ r. ⌜ r ≡ refusalOf (gotFlag self) ⌝ }
     {
         match self {
             ReadFlag::Value(_, _) => Refusal::MissingByte,
@@ -99,7 +98,7 @@ impl ReadFlag {
 
 impl Passed {
     pub fn refusal(self) -> Refusal
-        ensures { λ r. ⌜ r ≡ refusalPlace self ⌝ }
+        ensures { λ r. ⌜ r ≡ refusalOf (gotPlace self) ⌝ }
     {
         match self {
             Passed::To(_) => Refusal::MissingByte,

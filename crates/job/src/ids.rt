@@ -13,15 +13,16 @@ ghost use Rattle.model.specs.Lists.{anyOf};
 ghost use Rattle.model.specs.Read.{readNumber};
 ghost use Rattle.model.specs.Job.{containsId, repeats};
 ghost use Rattle.job.specs.Passing.{notes, noteValue};
-ghost use Rattle.job.specs.Ids.{blockId, blockIds, anyUnknown, predecessorsAt, repeatsAt, anyUnknownAt, repeatedIn, unknownIn, checkedBy};
+ghost use Rattle.job.specs.Ids.{blockIds, anyUnknown, predecessorsAt, repeatsAt, anyUnknownAt, repeatedIn, unknownIn, checkedBy};
 
 // Whether an id stands among others, from a place on.
-fn contains_from(ids: &[u32], from: usize, id: u32) -> bool
-    ensures { λ r. ⌜ r ≡ containsId (blockIds (drop from (now (ids .entry)))) (blockId id) ⌝ }
+fn contains_from(ids: &[u32], from: usize, id: BlockId) -> bool
+    ensures { λ r. ⌜ r ≡ containsId (blockIds (drop from (now (ids .entry)))) id ⌝ }
 {
+    let number = id.0;
     let mut i = from;
     while i < ids.len() {
-        if id == ids[i] {
+        if number == ids[i] {
             return true;
         }
         i = i + 1;
@@ -35,7 +36,7 @@ fn repeat_in(ids: &[u32]) -> bool
 {
     let mut i = 0;
     while i < ids.len() {
-        if contains_from(ids, i + 1, ids[i]) {
+        if contains_from(ids, i + 1, BlockId(ids[i])) {
             return true;
         }
         i = i + 1;
@@ -49,7 +50,7 @@ fn unknown_in(ids: &[u32], known: &[u32]) -> bool
 {
     let mut i = 0;
     while i < ids.len() {
-        if contains_from(known, 0, ids[i]) {
+        if contains_from(known, 0, BlockId(ids[i])) {
             i = i + 1;
         } else {
             return true;
@@ -153,7 +154,7 @@ fn unknown(s: &[u8], ids: &[u32], places: &[usize], scope: BlockId) -> bool
     if any_unknown(s, places, ids) {
         return true;
     }
-    !contains_from(ids, 0, scope.0)
+    !contains_from(ids, 0, scope)
 }
 
 // The answer for a job whose records were read, by the ids and the places of its blocks.

@@ -17,11 +17,10 @@ ghost use lib.Seq.{sets};
 ghost use Rattle.model.specs.Read.{readMany, mapped};
 ghost use Rattle.model.specs.Job.{HD, Block, readBlockId, readEntry, readPath, readBlock, readHeader, readRecords};
 ghost use Rattle.model.specs.Answer.{spanWidth};
-ghost use Rattle.fields.specs.Answer.{gotPlace};
+ghost use Rattle.fields.specs.Answer.{gotPlace, refusalOf};
 ghost use Rattle.job.specs.Passing.{passed, notes};
 ghost use Rattle.job.specs.Head.{readPathHead, readBlockHead};
 ghost use Rattle.job.specs.Answer.{gotEntry, gotPathHead, gotBlockHead, gotBlockId, gotHeader};
-ghost use Rattle.job.specs.Answer.{refusalEntry, refusalPathHead, refusalBlockHead, refusalBlockId, refusalHeader};
 ghost use Rattle.job.specs.Kept.{notePlace, noteNumber, blockPlaces, blockNumbers, keptOf, afterHeader, BehindHeader, ReadsJob};
 
 mod ids;
@@ -66,11 +65,6 @@ pub enum ReadBlockHead {
     Refused(Refusal),
 }
 
-pub enum ReadBlockId {
-    Value(BlockId, usize),
-    Refused(Refusal),
-}
-
 pub struct Header {
     pub blocks: u16,
     pub candidates: u16,
@@ -95,10 +89,10 @@ pub enum ReadJob {
     Refused(Refusal),
 }
 
-// Each answer's `refusal` is asked only where the answer is one.
+// Each answer's `refusal` is asked only where the answer is one, as of those of `fields`.
 impl ReadEntry {
     pub fn refusal(self) -> Refusal
-        ensures { λ r. ⌜ r ≡ refusalEntry self ⌝ }
+        ensures { λ r. ⌜ r ≡ refusalOf (gotEntry self) ⌝ }
     {
         match self {
             ReadEntry::Value(_, _) => Refusal::MissingByte,
@@ -109,7 +103,7 @@ impl ReadEntry {
 
 impl ReadPathHead {
     pub fn refusal(self) -> Refusal
-        ensures { λ r. ⌜ r ≡ refusalPathHead self ⌝ }
+        ensures { λ r. ⌜ r ≡ refusalOf (gotPathHead self) ⌝ }
     {
         match self {
             ReadPathHead::Value(_, _) => Refusal::MissingByte,
@@ -120,7 +114,7 @@ impl ReadPathHead {
 
 impl ReadBlockHead {
     pub fn refusal(self) -> Refusal
-        ensures { λ r. ⌜ r ≡ refusalBlockHead self ⌝ }
+        ensures { λ r. ⌜ r ≡ refusalOf (gotBlockHead self) ⌝ }
     {
         match self {
             ReadBlockHead::Value(_, _) => Refusal::MissingByte,
@@ -129,20 +123,9 @@ impl ReadBlockHead {
     }
 }
 
-impl ReadBlockId {
-    pub fn refusal(self) -> Refusal
-        ensures { λ r. ⌜ r ≡ refusalBlockId self ⌝ }
-    {
-        match self {
-            ReadBlockId::Value(_, _) => Refusal::MissingByte,
-            ReadBlockId::Refused(refusal) => refusal,
-        }
-    }
-}
-
 impl ReadHeader {
     pub fn refusal(self) -> Refusal
-        ensures { λ r. ⌜ r ≡ refusalHeader self ⌝ }
+        ensures { λ r. ⌜ r ≡ refusalOf (gotHeader self) ⌝ }
     {
         match self {
             ReadHeader::Value(_, _) => Refusal::MissingByte,
@@ -314,24 +297,23 @@ pub fn block_head_at(s: &[u8], at: usize) -> ReadBlockHead
     )
 }
 
-// The id of a block, and the place after its paths.
-pub fn block_at(s: &[u8], at: usize) -> ReadBlockId
+// The head of a block, and the place after its paths.
+pub fn block_at(s: &[u8], at: usize) -> ReadBlockHead
     ensures { λ r. ⌜ gotBlockId r ≡ mapped (λ (b : Block). b .id) (readBlock spanWidth (now (s .entry)) at) ⌝ }
 {
     let head_field = block_head_at(s, at);
     let ReadBlockHead::Value(head, ids_at) = head_field else {
-        return ReadBlockId::Refused(head_field.refusal());
+        return head_field;
     };
     let ids = past_ids(s, ids_at, head.predecessors);
     let Passed::To(paths_at) = ids else {
-        return ReadBlockId::Refused(ids.refusal());
+        return ReadBlockHead::Refused(ids.refusal());
     };
     let paths = past_paths(s, paths_at, head.assumed as u16, PA);
     let Passed::To(next) = paths else {
-        return ReadBlockId::Refused(paths.refusal());
+        return ReadBlockHead::Refused(paths.refusal());
     };
-    let id = head.id;
-    ReadBlockId::Value(id, next)
+    ReadBlockHead::Value(head, next)
 }
 
 // Past `count` blocks, whose ids and places are noted.
@@ -351,9 +333,10 @@ fn note_blocks(
     let mut i: u16 = 0;
     while i < count {
         let block = block_at(s, at);
-        let ReadBlockId::Value(id, next) = block else {
+        let ReadBlockHead::Value(head, next) = block else {
             return Passed::Refused(block.refusal());
         };
+        let id = head.id;
         let k = i as usize;
         ids[k] = id.0;
         places[k] = at;

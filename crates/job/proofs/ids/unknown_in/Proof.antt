@@ -17,11 +17,11 @@ abbrev μ-loop : tie.MeasureT-loop
 loop-holds : tie.Need-loop-holds Inv-loop μ-loop
 loop-holds c = refl
 
-mul-contains-from : tie.Need-mul-contains-from Inv-loop μ-loop
-mul-contains-from c = search needs
+mul-t4 : tie.Need-mul-t4 Inv-loop μ-loop
+mul-t4 c = search needs
 
-shared-slice-read-contains-from : tie.Need-shared-slice-read-contains-from Inv-loop μ-loop
-shared-slice-read-contains-from c = search needs
+shared-slice-read-t8 : tie.Need-shared-slice-read-t8 Inv-loop μ-loop
+shared-slice-read-t8 c = search needs
 
 contains-from-requires : tie.Need-contains-from-requires Inv-loop μ-loop
 contains-from-requires c κs = search needs
@@ -58,8 +58,8 @@ unknown-in-spec =
     Inv-loop
     μ-loop
     loop-holds
-    mul-contains-from
-    shared-slice-read-contains-from
+    mul-t4
+    shared-slice-read-t8
     contains-from-requires
     add-i
     loop-less
