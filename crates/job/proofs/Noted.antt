@@ -27,7 +27,7 @@ ids-noted s =
     (λ n at next a rest e q. rw e (ap (λ (l : List BlockId). a .id ∷ l) q))
 
 -- the numbers of ids that are read one after the other
-numbers-noted : (s : List ℕ) (n at : ℕ) → Holds (λ all. blockIds (notes noteValue n (readNumber 4) s at) ≡ all) (readMany n readBlockId s at)
+pub numbers-noted : (s : List ℕ) (n at : ℕ) → Holds (λ all. blockIds (notes noteValue n (readNumber 4) s at) ≡ all) (readMany n readBlockId s at)
 numbers-noted s =
     many-holds readBlockId s (λ n at all. blockIds (notes noteValue n (readNumber 4) s at) ≡ all) (λ at. refl)
     (λ n at next a rest e q.

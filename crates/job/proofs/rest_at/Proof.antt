@@ -3,7 +3,7 @@ use borrow.Author.Needs.{needs}
 use native.Mathlib.Omega.{arith}
 use mathlib.Core.Path.{sym, _∙_}
 use Rattle.job.specs.Kept.{notePlace, noteNumber}
-use Rattle.job.proofs.Answers.{job-refused, blocks-few, blocks-stored-in, job-checked}
+use Rattle.job.proofs.Answers.{job-refused, blocks-few, places-read, blocks-stored-in, job-checked}
 use Rattle.job.proofs.rest_at.Statement.{statement}
 use Rattle.job.proofs.rest_at.Tie as tie
 
@@ -30,7 +30,8 @@ checked-by-requires c κs =
     let few = blocks-few _ value in
     let ids = c .before .before .checked-by-arg2 .given .0 in
     let places = c .checked-by-arg4 .given .0 in
-    (omega arith, omega arith)
+    let noted = blocks-stored-in _ value notePlace _ _ places (call .records-at .ensures .1 .1) .front in
+    (omega arith, omega arith, places-read _ value _ noted)
 
 returns-2 : tie.Need-returns-2
 returns-2 c =

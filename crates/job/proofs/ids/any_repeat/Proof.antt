@@ -25,7 +25,7 @@ shared-slice-read-repeat-at : tie.Need-shared-slice-read-repeat-at Inv-loop μ-l
 shared-slice-read-repeat-at c = search needs
 
 repeat-at-requires : tie.Need-repeat-at-requires Inv-loop μ-loop
-repeat-at-requires c κs = search needs
+repeat-at-requires c κs = c .before .before .before .before .before .pre _ (c .before .loop-test .taken)
 
 returns : tie.Need-returns Inv-loop μ-loop
 returns c =

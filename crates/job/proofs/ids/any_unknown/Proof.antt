@@ -25,7 +25,7 @@ shared-slice-read-unknown-at : tie.Need-shared-slice-read-unknown-at Inv-loop μ
 shared-slice-read-unknown-at c = search needs
 
 unknown-at-requires : tie.Need-unknown-at-requires Inv-loop μ-loop
-unknown-at-requires c κs = search needs
+unknown-at-requires c κs = c .before .before .before .before .before .before .pre _ (c .before .loop-test .taken)
 
 returns : tie.Need-returns Inv-loop μ-loop
 returns c =
