@@ -1,4 +1,5 @@
-// The fields of a job: numbers of one to eight bytes, flags and marks, each read as a value and the place after it, or a refusal.
+// The fields of a job: numbers of one to eight bytes, flags and marks, each read as a value and the
+// place after it, or a refusal.
 use entries::Refusal;
 ghost use mathlib.Core.Path.{_≡_};
 ghost use Prim.Native.Nat.{_+_, _≤_};
@@ -40,7 +41,8 @@ pub enum Passed {
     Refused(Refusal),
 }
 
-// Each answer's `refusal` is asked only where the answer is one. The language has no generics, so each enum has its own.
+// Each answer's `refusal` is asked only where the answer is one. The language has no generics, so
+// each enum has its own.
 impl ReadU8 {
     pub fn refusal(self) -> Refusal
         ensures { λ r. ⌜ r ≡ refusalOf (gotU8 self) ⌝ }
@@ -107,7 +109,8 @@ impl Passed {
     }
 }
 
-// Whether so many bytes stand from `at` on. The sum `at + bytes` may not fit, so the difference is compared.
+// Whether so many bytes stand from `at` on. The sum `at + bytes` may not fit, so the difference is
+// compared.
 pub fn reaches(s: &[u8], at: usize, bytes: usize) -> bool
     ensures { λ r. ⌜ r ≡ leb (at + bytes) (length (now (s .entry))) ⌝ }
 {
@@ -230,7 +233,8 @@ pub fn flag_at(s: &[u8], at: usize) -> ReadFlag
     ReadFlag::Value(found == 1, next)
 }
 
-// A mark is compared as the number that its two bytes make: a lone byte, even a wrong one, is a missing byte.
+// A mark is compared as the number that its two bytes make: a lone byte, even a wrong one, is a
+// missing byte.
 pub fn mark_at(s: &[u8], at: usize, mark: u16) -> Passed
     ensures { λ r. ⌜ gotPlace r ≡ readMark mark (now (s .entry)) at ⌝ }
 {

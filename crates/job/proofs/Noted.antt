@@ -1,4 +1,5 @@
--- What was noted of the blocks is what the definition asks of them: their ids, and their predecessors, read again at their places.
+-- What was noted of the blocks is what the definition asks of them: their ids, and their
+-- predecessors, read again at their places.
 use Prim.Native.Nat.{ℕ}
 use mathlib.Core.Path.{_≡_, refl, sym, ap}
 use mathlib.Core.Bool.{Bool, true, false, _||_, cond}
@@ -51,7 +52,8 @@ predecessors-are s at = rw block-by-head (by-head (readBlockHead s at))
     by-head : (x : Read BlockHead)
         → Holds
         (λ (b : Block). blockIds (orNone x (λ (head : BlockHead) idsAt. notes noteValue (head .predecessors) (readNumber 4) s idsAt)) ≡ b .predecessors)
-        (andThen x (λ (head : BlockHead) idsAt. both (blockOf head) (readMany (head .predecessors) readBlockId s idsAt) (readMany (head .assumed) (readPath 4 PA) s)))
+        (andThen x (λ (head : BlockHead) idsAt. both (blockOf head) (readMany (head .predecessors) readBlockId s idsAt)
+        (readMany (head .assumed) (readPath 4 PA) s)))
     by-head (got head idsAt) =
         let ids : List BlockId = blockIds (notes noteValue (head .predecessors) (readNumber 4) s idsAt) in
         holds-both (λ l. ids ≡ l) (λ (b : Block). ids ≡ b .predecessors) (blockOf head) (λ l paths e. e)

@@ -1,4 +1,5 @@
--- What was read once can be read again: a block's head and its predecessors, and ids one after the other.
+-- What was read once can be read again: a block's head and its predecessors, and ids one after the
+-- other.
 use Prim.Native.Nat.{ℕ, _<_, _+_, _-_}
 use mathlib.Core.Path.{_≡_, sym, ap, _∙_}
 use mathlib.Core.List.{List}

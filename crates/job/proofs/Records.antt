@@ -101,7 +101,8 @@ pub record Parts (s : List ℕ) (j : Job) : Type 0 where
 
 module _ (s : List ℕ) (j : Job) (h : Header) (b : ℕ) (bs : List Block) (c : ℕ) (cs : List ReactiveScopeDependency) (e : ℕ)
     (r₁ : readHeader HD s 0 ≡ got h b) (r₂ : readMany (h .blocks) (readBlock 4) s b ≡ got bs c)
-    (r₃ : readMany (h .candidates) (readPath 4 CA) s c ≡ got cs e) (same : record { scope = h .scope; blocks = bs; candidates = cs } ≡ j) (end : e ≡ length s) where
+    (r₃ : readMany (h .candidates) (readPath 4 CA) s c ≡ got cs e) (same : record { scope = h .scope; blocks = bs; candidates = cs } ≡ j)
+    (end : e ≡ length s) where
   place : candidatesAt s ≡ c
   place = candidates-place s r₁ r₂
 

@@ -1,4 +1,5 @@
--- Refusals 7 and 8 by what was noted of the blocks: their ids, and the places at which their predecessors are read again.
+-- Refusals 7 and 8 by what was noted of the blocks: their ids, and the places at which their
+-- predecessors are read again.
 use Prim.Native.Nat.{ℕ, _<_}
 use mathlib.Core.Bool.{Bool, _||_, not, cond}
 use mathlib.Core.List.{List, map}
@@ -44,11 +45,13 @@ repeatsAt s at = repeats (blockIds (predecessorsAt s at))
 abbrev pub anyUnknownAt : List ℕ → List ℕ → ℕ → Bool
 anyUnknownAt s known at = anyUnknown (blockIds known) (blockIds (predecessorsAt s at))
 
--- 7, of the blocks with these ids at these places: an id, or a predecessor within one block, stands twice.
+-- 7, of the blocks with these ids at these places: an id, or a predecessor within one block, stands
+-- twice.
 abbrev pub repeatedIn : List ℕ → List ℕ → List ℕ → Bool
 repeatedIn s ids places = repeats (blockIds ids) || anyOf (repeatsAt s) places
 
--- 8, of the blocks with these ids at these places: a predecessor or the scope block is none of the ids.
+-- 8, of the blocks with these ids at these places: a predecessor or the scope block is none of the
+-- ids.
 abbrev pub unknownIn : List ℕ → List ℕ → List ℕ → BlockId → Bool
 unknownIn s ids places scope = anyOf (anyUnknownAt s ids) places || not (containsId (blockIds ids) scope)
 

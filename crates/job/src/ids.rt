@@ -1,4 +1,5 @@
-// Refusals 7 and 8: the ids of the blocks among each other, and the predecessors of each block, read again at its place.
+// Refusals 7 and 8: the ids of the blocks among each other, and the predecessors of each block,
+// read again at its place.
 use crate::JobHead;
 use crate::ReadBlockHead;
 use crate::ReadJob;
@@ -14,7 +15,8 @@ ghost use Rattle.model.specs.Read.{readMany, readNumber};
 ghost use Rattle.model.specs.Job.{readBlockId, readBlock, containsId, repeats};
 ghost use Rattle.model.specs.Answer.{spanWidth};
 ghost use Rattle.job.specs.Passing.{IsRead, notes, noteValue};
-ghost use Rattle.job.specs.Ids.{blockIds, anyUnknown, BlocksRead, predecessorsAt, repeatsAt, anyUnknownAt, repeatedIn, unknownIn, checkedBy};
+ghost use Rattle.job.specs.Ids.{blockIds, BlocksRead, predecessorsAt, anyUnknown};
+ghost use Rattle.job.specs.Ids.{repeatsAt, anyUnknownAt, repeatedIn, unknownIn, checkedBy};
 
 // Whether an id stands among others, from a place on.
 fn contains_from(ids: &[u32], from: usize, id: BlockId) -> bool
@@ -166,8 +168,10 @@ fn unknown(s: &[u8], ids: &[u32], places: &[usize], scope: BlockId) -> bool
 
 // The answer for a job whose records were read, by the ids and the places of its blocks.
 pub fn checked_by(s: &[u8], ids: &[u32], places: &[usize], head: JobHead) -> ReadJob
-    requires { ⌜ (head .blocks ≤ length (now ids)) × (head .blocks ≤ length (now places)) × BlocksRead (now s) (take (head .blocks) (now places)) ⌝ }
-    ensures { λ r. ⌜ r ≡ checkedBy (now (s .entry)) (take (head .blocks) (now (ids .entry))) (take (head .blocks) (now (places .entry))) head ⌝ }
+    requires { ⌜ (head .blocks ≤ length (now ids)) × (head .blocks ≤ length (now places))
+        × BlocksRead (now s) (take (head .blocks) (now places)) ⌝ }
+    ensures { λ r. ⌜ r
+        ≡ checkedBy (now (s .entry)) (take (head .blocks) (now (ids .entry))) (take (head .blocks) (now (places .entry))) head ⌝ }
 {
     let n = head.blocks;
     let known = &ids[..n];

@@ -1,5 +1,5 @@
-// Reads a job: the records field by field and refusals 3 to 6 in one pass over the bytes; then 7 and 8, by the blocks' ids, and by their
-// predecessors, read again at the blocks' places.
+// Reads a job: the records field by field and refusals 3 to 6 in one pass over the bytes; then 7
+// and 8, by the blocks' ids, and by their predecessors, read again at the blocks' places.
 use entries::BlockId;
 use entries::DependencyPathEntry;
 use entries::IdentifierId;
@@ -133,7 +133,8 @@ impl ReadHeader {
         }
     }
 
-    // The place after a header that was looked for at `at`: a refusal leaves the reader where it stands.
+    // The place after a header that was looked for at `at`: a refusal leaves the reader where it
+    // stands.
     pub fn place_after(self, at: usize) -> usize
         ensures { λ r. ⌜ r ≡ afterHeader self at ⌝ }
     {
@@ -326,8 +327,10 @@ fn note_blocks(
 ) -> Passed
     requires { ⌜ count ≤ 128 ⌝ }
     ensures { λ r. ⌜ gotPlace r ≡ passed (readMany count (readBlock spanWidth) (now (s .entry)) start) ⌝ }
-    ensures { λ r. ⌜ now (ids .exit) ≡ sets (now (ids .entry)) 0 (notes noteNumber count (readBlock spanWidth) (now (s .entry)) start) ⌝ }
-    ensures { λ r. ⌜ now (places .exit) ≡ sets (now (places .entry)) 0 (notes notePlace count (readBlock spanWidth) (now (s .entry)) start) ⌝ }
+    ensures { λ r. ⌜ now (ids .exit)
+        ≡ sets (now (ids .entry)) 0 (notes noteNumber count (readBlock spanWidth) (now (s .entry)) start) ⌝ }
+    ensures { λ r. ⌜ now (places .exit)
+        ≡ sets (now (places .entry)) 0 (notes notePlace count (readBlock spanWidth) (now (s .entry)) start) ⌝ }
 {
     let mut at = start;
     let mut i: u16 = 0;
@@ -375,7 +378,8 @@ pub fn header_at(s: &[u8], at: usize) -> ReadHeader
     )
 }
 
-// The records behind the header, as far as refusal 6, the ids and the places of the blocks being noted.
+// The records behind the header, as far as refusal 6, the ids and the places of the blocks being
+// noted.
 fn records_at(
     s: &[u8],
     at: usize,
@@ -411,7 +415,8 @@ fn records_at(
     })
 }
 
-// The job from the place behind its header on, or its refusal. The id of each block and the place of its record are noted.
+// The job from the place behind its header on, or its refusal. The id of each block and the place
+// of its record are noted.
 pub fn rest_at(
     s: &[u8],
     at: usize,

@@ -1,6 +1,7 @@
-// A job read through a struct that keeps its bytes together with a position in them. The functions over the structs are thin: each takes
-// its struct apart and leaves the work to functions of `job`, which have the slice and the place as parameters. `read_job`, whose
-// parameters are plain, is the one that others call.
+// A job read through a struct that keeps its bytes together with a position in them. The functions
+// over the structs are thin: each takes its struct apart and leaves the work to functions of `job`,
+// which have the slice and the place as parameters. `read_job`, whose parameters are plain, is the
+// one that others call.
 use job::ReadHeader;
 use job::ReadJob;
 ghost use mathlib.Core.Path.{_≡_};
@@ -30,7 +31,8 @@ impl<'a> Reader<'a> {
 
     // The header at the position, and the reader behind it.
     pub fn header(self) -> AfterHeader<'a>
-        ensures { λ r. ⌜ (r .job ≡ self .entry .job) × ReadsHeader (now (self .entry .job)) (self .entry .at) (r .header) (r .at) ⌝ }
+        ensures { λ r. ⌜ (r .job ≡ self .entry .job)
+            × ReadsHeader (now (self .entry .job)) (self .entry .at) (r .header) (r .at) ⌝ }
     {
         let header = job::header_at(self.job, self.at);
         let at = header.place_after(self.at);
@@ -46,7 +48,8 @@ impl<'a> AfterHeader<'a> {
     // The job, of which the header has been read.
     pub fn rest(self, ids: &mut [u32; 128], places: &mut [usize; 128]) -> ReadJob
         requires { ⌜ BehindHeader (now (self .job)) (self .at) (self .header) ⌝ }
-        ensures { λ r. ⌜ ReadsJob (now (self .entry .job)) r (now (ids .entry)) (now (ids .exit)) (now (places .entry)) (now (places .exit)) ⌝ }
+        ensures { λ r. ⌜ ReadsJob (now (self .entry .job)) r
+            (now (ids .entry)) (now (ids .exit)) (now (places .entry)) (now (places .exit)) ⌝ }
     {
         job::rest_at(self.job, self.at, self.header, ids, places)
     }

@@ -1,4 +1,5 @@
--- `job::block_at` meets its contract: head, predecessors and paths one after the other; the id is known before the rest.
+-- `job::block_at` meets its contract: head, predecessors and paths one after the other; the id is
+-- known before the rest.
 use borrow.Author.Needs.{needs}
 use mathlib.Core.Path.{_≡_, refl}
 use mathlib.Core.List.{List}

@@ -1,4 +1,5 @@
--- `job::rest_at` meets its contract: the front of each array is what was noted, by `blocks-stored-in`, and its tests are the job's, by `job-checked`.
+-- `job::rest_at` meets its contract: the front of each array is what was noted, by
+-- `blocks-stored-in`, and its tests are the job's, by `job-checked`.
 use borrow.Author.Needs.{needs}
 use native.Mathlib.Omega.{arith}
 use mathlib.Core.Path.{sym, _∙_}

@@ -1,4 +1,5 @@
--- `job::ids::predecessors_at` meets its contract: the head, which was read before, says how many ids follow it, and they are at most 64.
+-- `job::ids::predecessors_at` meets its contract: the head, which was read before, says how many
+-- ids follow it, and they are at most 64.
 use borrow.Author.Needs.{needs}
 use Prim.Native.Nat.{_≤_}
 use mathlib.Core.Path.{sym}

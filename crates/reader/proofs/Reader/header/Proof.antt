@@ -1,8 +1,9 @@
--- `Reader::header` meets its contract: a walk of its MIR, by hand. The struct is taken apart, `job::header_at` is called on the slice and the
--- number, and `place_after` on what it read; the result is made of the slice, the place and the header. All that the proof knows of the two
+-- `Reader::header` meets its contract: a walk of its MIR, by hand. The struct is taken apart,
+-- `job::header_at` is called on the slice and the number, and `place_after` on what it read; the
+-- result is made of the slice, the place and the header. All that the proof knows of the two
 -- callees is that each meets its contract.
--- The struct is Copy: what it owns is had twice, one copy is kept whole for the exit, and of the other what the slice owns goes into the
--- result. What a number and a header own is made anew.
+-- The struct is Copy: what it owns is had twice, one copy is kept whole for the exit, and of the
+-- other what the slice owns goes into the result. What a number and a header own is made anew.
 -- Assumes nothing.
 use mathlib.Core.Path.{_≡_, refl, ap, subst}
 use Prim.Native.Nat.{ℕ, _<_, _^_}
@@ -21,10 +22,12 @@ use ghost.Atoms.{Atoms, sem}
 use contract.Lifetimes.{Lfts}
 use contract.Monad.{Fun, fact}
 use contract.Running.{givenOf, tables, tablesOf}
-use types.Kit.{Given, Item, ‵, raw, _⊛_, given, ⋆, some, later, _$_, _∵_, !, qed, by, move, drop, use0, use1, use2, rewrite, split, join, learn, pick, fsplit, fjoin}
+use types.Kit.{Given, Item, ‵, raw, _⊛_, given, ⋆, some, later, _$_, _∵_, !, qed, by, move, drop, use0, use1, use2, rewrite, split, join, learn, pick, fsplit}
+use types.Kit.{fjoin}
 use types.Kit.{suffices, frame, await, done}
 use types.Part.{whole, sub, look-in, agg}
-use types.Run.{look, init, forget, stop, fld, from, load, of-opd, and-then, no-more, assigns, land, returns, enter, alloc1, alloc0, params1, pass1, pass0, free1, free0}
+use types.Run.{look, init, forget, stop, fld, from, load, of-opd, and-then, no-more, assigns, land, returns, enter, alloc1, alloc0, params1, pass1, pass0}
+use types.Run.{free1, free0}
 use sound.WpLaws.{FmC, fmOf, WpFn-mono}
 use denote.RattleType.{RattleType, owns}
 use denote.Laws.{Is, shows}
@@ -99,7 +102,8 @@ module _ {M : Type 1} (𝓤 : URA M) (H : Heap 𝓤) (A : Atoms 𝓤) (mem : Mem
   abbrev After : Contract 𝓤
   After = tripleOf 𝓤 H A after.signature (after.spec 𝓤 H A mem run)
 
-module _ {M : Type 1} (𝓤 : URA M) (H : Heap 𝓤) (A : Atoms 𝓤) (W : Given 𝓤 H A) (mem : Memory → SProp 𝓤) (run : Routine → Fun 𝓤) (κ : Lft) (q : Share) (d : Reader)
+module _ {M : Type 1} (𝓤 : URA M) (H : Heap 𝓤) (A : Atoms 𝓤) (W : Given 𝓤 H A) (mem : Memory → SProp 𝓤) (run : Routine → Fun 𝓤) (κ : Lft) (q : Share)
+    (d : Reader)
     (fits : d .at < 2 ^ 64) where
   abbrev κs : Lfts 1
   κs = (κ, tt)
@@ -136,7 +140,8 @@ module _ {M : Type 1} (𝓤 : URA M) (H : Heap 𝓤) (A : Atoms 𝓤) (W : Given
   abbrev to-header : HeaderAt 𝓤 H A mem run .Ghost
   to-header = ((κs, (q, tt), tt, (d .job, (d .at, tt)), (v ∷ [], (vint w64 (d .at) ∷ [], tt))), tt)
 
-  asked : ent 𝓤 (onEntry 𝓤 H A header-at.signature κs (q, tt) (d .job, (d .at, tt)) (v ∷ [], (vint w64 (d .at) ∷ [], tt))) (HeaderAt 𝓤 H A mem run .pre to-header)
+  asked : ent 𝓤 (onEntry 𝓤 H A header-at.signature κs (q, tt) (d .job, (d .at, tt)) (v ∷ [], (vint w64 (d .at) ∷ [], tt)))
+      (HeaderAt 𝓤 H A mem run .pre to-header)
   asked =
       qed W (token ∷ ‵ (owns (ShrSlice (named 0) κ u8 ∷ usize ∷ []) (d .job, (d .at, tt)) (v ∷ [], (vint w64 (d .at) ∷ [], tt))) ∷ []) ∵
       join ! $ frame ! $ done !
@@ -177,9 +182,11 @@ module _ {M : Type 1} (𝓤 : URA M) (H : Heap 𝓤) (A : Atoms 𝓤) (W : Given
   exits : (r : ReadHeader) (n : ℕ) → Got r → Next r n → Is E.the-row r (w r ∷ []) → n < 2 ^ 64 → ent 𝓤 (⋆ 𝓤 H A (token ∷ ‵ Own ∷ [])) (Post (machʳ r n))
   exits r n e f is small =
       qed W (token ∷ ‵ Own ∷ []) ∵
-      suffices ! _ (ends-at 𝓤 H A header.ended stayed (header.clauses 𝓤 H A mem run) W ((κs, (q, tt), tt, (d, tt), at), tt) (machʳ r n) (made r n) (tt, tt) (tt, tt)) $
+      suffices ! _ (ends-at 𝓤 H A header.ended stayed (header.clauses 𝓤 H A mem run) W ((κs, (q, tt), tt, (d, tt), at), tt) (machʳ r n) (made r n) (tt, tt)
+      (tt, tt)) $
       says ! (refl, (e, f)) $ frame ! $
-      use1 W (‵ Own ⊛ ‵ Own) (LL.copy (D κs) (T′.the-copy (namedLft 1 0 tt κs)) 𝓤 H A W .twice d (mach ∷ [])) $ split ! $ nothing ! $ move ! (1 ∷ 0 ∷ []) $ fjoin ! $ frame ! $
+      use1 W (‵ Own ⊛ ‵ Own) (LL.copy (D κs) (T′.the-copy (namedLft 1 0 tt κs)) 𝓤 H A W .twice d (mach ∷ [])) $ split ! $ nothing ! $ move ! (1 ∷ 0 ∷ []) $
+      fjoin ! $ frame ! $
       use1 W (given (mach ∷ [] ≡ mach ∷ []) (‵ (all-own (D κs .parts) (L κs) vd))) (own-open 𝓤 H A W (D κs) (L κs) vd mach) $ learn ! (λ _.
       fsplit ! $ move ! (1 ∷ []) $ drop ! $
       -- [what the slice owns]: beside it, the facts of the place and of the header
@@ -196,13 +203,16 @@ module _ {M : Type 1} (𝓤 : URA M) (H : Heap 𝓤) (A : Atoms 𝓤) (W : Given
         alloc1 ! (λ l₀. alloc1 ! (λ l₁. alloc1 ! (λ l₂. alloc1 ! (λ l₃. alloc1 ! (λ l₄. alloc1 ! (λ l₅. alloc1 ! (λ l₆. alloc1 ! (λ l₇.
         alloc0 ! $ params1 ! $ pass1 ! (init ! 12 refl wt) $ pass0 ! $
         assigns ! (of-opd ! (load ! (from ! (fld ! refl (stop !))) (look-in ! 12 (sub ! 0 refl (whole !))))) (from ! (stop !)) (init ! 6 refl (tt, wt .1 .0)) $
-        assigns ! (of-opd ! (load ! (from ! (fld ! refl (stop !))) (look-in ! 12 (sub ! 1 refl (whole !))))) (from ! (stop !)) (init ! 4 refl (tt, wt .1 .1 .0)) $
+        assigns ! (of-opd ! (load ! (from ! (fld ! refl (stop !))) (look-in ! 12 (sub ! 1 refl (whole !))))) (from ! (stop !))
+        (init ! 4 refl (tt, wt .1 .1 .0)) $
         move ! (16 ∷ []) $ use1 W (raw (HeaderAt 𝓤 H A mem run .pre to-header) ⊛ ‵ Own) goes-header $ split ! $
         -- [what `header_at` asks; what the struct owns; _7; …; _1; …; room for _0; …]
         calls-at ! fm (HeaderAt 𝓤 H A mem run) known-header to-header
         (and-then ! (load ! (from ! (stop !)) (look ! 8 refl)) (and-then ! (load ! (from ! (stop !)) (look ! 6 refl)) (no-more !))) (λ u.
-        use1 W (later (some (λ (r : ReadHeader). (token ⊛ ‵ (E.the-row .own r (u ∷ []))) ⊛ raw (ensured 𝓤 H A header-at.ended (header-at.clauses 𝓤 H A mem run) κs (d .job, (d .at, tt)) tt r))))
-        (id⊢ 𝓤 _) $ await ! tt $ pick ! (λ r. split ! $ move ! (1 ∷ []) $ use1 W (raw (fact 𝓤 (Got r))) (header-said r) $ heard ! (Got r) (λ e. split ! $ move ! (1 ∷ []) $
+        use1 W (later (some (λ (r : ReadHeader). (token ⊛ ‵ (E.the-row .own r (u ∷ []))) ⊛ raw
+        (ensured 𝓤 H A header-at.ended (header-at.clauses 𝓤 H A mem run) κs (d .job, (d .at, tt)) tt r))))
+        (id⊢ 𝓤 _) $ await ! tt $ pick !
+        (λ r. split ! $ move ! (1 ∷ []) $ use1 W (raw (fact 𝓤 (Got r))) (header-said r) $ heard ! (Got r) (λ e. split ! $ move ! (1 ∷ []) $
         -- [what the header owns; the token; what the struct owns; _7; …; _1; …; room for _0; …]
         peeks ! E.the-row (Is E.the-row) (shows 𝓤 H A E.the-row) r (u ∷ []) (λ is.
         let spelt = EL.tells E.the-type E′.the-laws r (u ∷ []) is in
@@ -210,11 +220,13 @@ module _ {M : Type 1} (𝓤 : URA M) (H : Heap 𝓤) (A : Atoms 𝓤) (W : Given
         land ! (from ! (stop !)) (init ! 13 refl (EL.lawful E.the-type E′.the-laws 𝓤 H A W tt .typed r _ is .0)) $
         rewrite ! 13 (λ (z : Val). ‵ (fat fullShare E′.mir l₂ 0 z)) (ap only spelt) refl $ drop ! $
         -- [the token; what the struct owns; _7; …; _1; …; room for _0; …]
-        assigns ! (of-opd ! (load ! (from ! (fld ! refl (stop !))) (look-in ! 14 (sub ! 1 refl (whole !))))) (from ! (stop !)) (init ! 4 refl (tt, wt .1 .1 .0)) $
+        assigns ! (of-opd ! (load ! (from ! (fld ! refl (stop !))) (look-in ! 14 (sub ! 1 refl (whole !))))) (from ! (stop !))
+        (init ! 4 refl (tt, wt .1 .1 .0)) $
         use0 W (raw (After 𝓤 H A mem run .pre (to-after r))) (goes-after r is′) $
         calls-at ! fm (After 𝓤 H A mem run) known-after (to-after r)
         (and-then ! (load ! (from ! (stop !)) (look ! 13 refl)) (and-then ! (load ! (from ! (stop !)) (look ! 5 refl)) (no-more !))) (λ z.
-        use1 W (later (some (λ (n : ℕ). (‵ ftrue ⊛ ‵ (usize .own n (z ∷ []))) ⊛ raw (ensured 𝓤 H A after.ended (after.clauses 𝓤 H A mem run) tt (r, (d .at, tt)) tt n)))) (id⊢ 𝓤 _) $
+        use1 W (later (some (λ (n : ℕ). (‵ ftrue ⊛ ‵ (usize .own n (z ∷ []))) ⊛ raw
+        (ensured 𝓤 H A after.ended (after.clauses 𝓤 H A mem run) tt (r, (d .at, tt)) tt n)))) (id⊢ 𝓤 _) $
         await ! tt $ pick ! (λ n. split ! $ move ! (1 ∷ []) $ use1 W (raw (fact 𝓤 (Next r n))) (after-said r n) $ heard ! (Next r n) (λ f. split ! $ drop ! $
         -- [what the place owns; the token; what the struct owns; _7; …; _1; …; room for _0; …]
         peeks ! usize (Is usize) (shows 𝓤 H A usize) n (z ∷ []) (λ at-is.
@@ -225,20 +237,25 @@ module _ {M : Type 1} (𝓤 : URA M) (H : Heap 𝓤) (A : Atoms 𝓤) (W : Given
         (and-then ! (load ! (from ! (stop !)) (look ! 12 refl)) (no-more !))))) (from ! (stop !))
         (init ! 16 refl (LL.lawful (Dʳ κs) (Lʳ κs) 𝓤 H A W .typed (made r n) _
         (LL.owes (Dʳ κs) (Lʳ κs) (made r n) (LL.owed (D κs) (L κs) d _ p .0, ((refl, at-is .1), (is′, tt)))) .0)) $
-        returns ! (look ! 16 refl) $ forget ! 2 refl $ forget ! 4 refl $ forget ! 6 refl $ forget ! 8 refl $ forget ! 10 refl $ forget ! 12 refl $ forget ! 14 refl $ forget ! 16 refl $
+        returns ! (look ! 16 refl) $ forget ! 2 refl $ forget ! 4 refl $ forget ! 6 refl $ forget ! 8 refl $ forget ! 10 refl $ forget ! 12 refl $
+        forget ! 14 refl $ forget ! 16 refl $
         move ! (16 ∷ 17 ∷ 14 ∷ 15 ∷ 12 ∷ 13 ∷ 10 ∷ 11 ∷ 8 ∷ 9 ∷ 6 ∷ 7 ∷ 4 ∷ 5 ∷ 2 ∷ 3 ∷ []) $
         free1 ! $ free1 ! $ free1 ! $ free1 ! $ free1 ! $ free1 ! $ free1 ! $ free1 ! $ free0 ! $
         by ! (exits r n e f is′ (at-is .1))))))))))))))))))
 
 module _ {M : Type 1} (𝓤 : URA M) (H : Heap 𝓤) (A : Atoms 𝓤) (W : Given 𝓤 H A) (mem : Memory → SProp 𝓤) (run : Routine → Fun 𝓤) (𝓣 : Tables 𝓤 H)
-    (known-header : Triple 𝓤 (𝓣 .C #job·header-at) (HeaderAt 𝓤 H A mem run)) (known-after : Triple 𝓤 (𝓣 .C #job·ReadHeader·place-after) (After 𝓤 H A mem run)) where
+    (known-header : Triple 𝓤 (𝓣 .C #job·header-at) (HeaderAt 𝓤 H A mem run))
+    (known-after : Triple 𝓤 (𝓣 .C #job·ReadHeader·place-after) (After 𝓤 H A mem run)) where
   header-walks : Walks 𝓤 H A header.ended stayed (WpFn 𝓤 H (𝓣 .C) (𝓣 .Λ) code.function) (header.clauses 𝓤 H A mem run)
-  header-walks = walked 𝓤 H A header.ended stayed (header.clauses 𝓤 H A mem run) (WpFn 𝓤 H (𝓣 .C) (𝓣 .Λ) code.function) (λ κs. (LL.vals (D κs) (L κs), tt)) (λ κs. (LL.tells (D κs) (L κs), tt))
-      (λ κs qs bounds a g are. via 𝓤 _ (fst∗ 𝓤 _ (emp 𝓤)) (walk 𝓤 H A W mem run (κs .0) (qs .0) (a .0) (LL.owed (D κs) (L κs) (a .0) _ (are .0) .1 .0 .1) (𝓣 .C) (𝓣 .Λ)
+  header-walks = walked 𝓤 H A header.ended stayed (header.clauses 𝓤 H A mem run) (WpFn 𝓤 H (𝓣 .C) (𝓣 .Λ) code.function) (λ κs. (LL.vals (D κs) (L κs), tt))
+      (λ κs. (LL.tells (D κs) (L κs), tt))
+      (λ κs qs bounds a g are. via 𝓤 _ (fst∗ 𝓤 _ (emp 𝓤))
+      (walk 𝓤 H A W mem run (κs .0) (qs .0) (a .0) (LL.owed (D κs) (L κs) (a .0) _ (are .0) .1 .0 .1) (𝓣 .C) (𝓣 .Λ)
       (fmOf 𝓤 H (W .laws) 𝓣) known-header known-after (are .0)))
 
   header-meets : Meets 𝓤 H A header.signature (WpFn 𝓤 H (𝓣 .C) (𝓣 .Λ) code.function) (header.spec 𝓤 H A mem run)
-  header-meets = walk-meets 𝓤 H A header.ended stayed W (goes-none 𝓤 H A W 1 B yes (λ κs x f. refl), tt) (header.clauses 𝓤 H A mem run) (WpFn 𝓤 H (𝓣 .C) (𝓣 .Λ) code.function)
+  header-meets = walk-meets 𝓤 H A header.ended stayed W (goes-none 𝓤 H A W 1 B yes (λ κs x f. refl), tt) (header.clauses 𝓤 H A mem run)
+      (WpFn 𝓤 H (𝓣 .C) (𝓣 .Λ) code.function)
       (WpFn-mono 𝓤 H (W .laws) 𝓣 code.function) header-walks
 
 pub header-spec : {M : Type 1} → stated.statement M
@@ -248,4 +265,5 @@ header-spec 𝓤 H 𝓜 𝓖 𝓡 =
     (tables 𝓤 H 𝓜 𝓡 code.env .C) (tables 𝓤 H 𝓜 𝓡 code.env .Λ) #reader·Reader·header code.function (code.unfolded 𝓤 H 𝓜 𝓡)
     (header-meets 𝓤 H (𝓖 .A) (givenOf 𝓤 H 𝓜 𝓖) (𝓜 .mem) (𝓡 .run) (tablesOf 𝓤 H 𝓜 (tables 𝓤 H 𝓜 𝓡 code.env))
     (cited 𝓤 H (HeaderAt 𝓤 H (𝓖 .A) (𝓜 .mem) (𝓡 .run)) 𝓜 𝓡 code.env #job·header-at header-at-def.routine code.calls-job·header-at (header-at-thm.met 𝓤 H 𝓜 𝓖 𝓡))
-    (cited 𝓤 H (After 𝓤 H (𝓖 .A) (𝓜 .mem) (𝓡 .run)) 𝓜 𝓡 code.env #job·ReadHeader·place-after after-def.routine code.calls-job·ReadHeader·place-after (after-thm.met 𝓤 H 𝓜 𝓖 𝓡)))
+    (cited 𝓤 H (After 𝓤 H (𝓖 .A) (𝓜 .mem) (𝓡 .run)) 𝓜 𝓡 code.env #job·ReadHeader·place-after after-def.routine code.calls-job·ReadHeader·place-after
+    (after-thm.met 𝓤 H 𝓜 𝓖 𝓡)))
