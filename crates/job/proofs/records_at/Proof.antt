@@ -1,4 +1,5 @@
--- `job::records_of` meets its contract: header, blocks and candidates one after the other. The laws of `Records` say how far the definition goes.
+-- `job::records_at` meets its contract: the header that was read, then blocks and candidates one
+-- after the other. The laws of `Records` say how far the definition goes.
 use borrow.Author.Needs.{needs}
 use Prim.Native.Nat.{_≤_}
 use mathlib.Core.Path.{sym}
@@ -8,15 +9,12 @@ use Rattle.fields.proofs.Reading.{seen}
 use Rattle.job.specs.Kept.{blockNotes}
 use Rattle.job.specs.Answer.{gotHeader}
 use Rattle.job.proofs.Bounds.{held, blocks-most}
-use Rattle.job.proofs.Records.{records-fields, blocks-refused, candidates-refused, byte-extra, all-read}
-use Rattle.job.proofs.records_of.Statement.{statement}
-use Rattle.job.proofs.records_of.Tie as tie
+use Rattle.job.proofs.Records.{behind, records-fields, blocks-refused, candidates-refused, byte-extra, all-read}
+use Rattle.job.proofs.records_at.Statement.{statement}
+use Rattle.job.proofs.records_at.Tie as tie
 
-header-at-requires : tie.Need-header-at-requires
-header-at-requires c κs = search needs
-
-enum-known-header-field : tie.Need-enum-known-header-field
-enum-known-header-field c = search needs
+enum-known-header : tie.Need-enum-known-header
+enum-known-header c = search needs
 
 enum-told : tie.Need-enum-told
 enum-told c = search needs
@@ -28,13 +26,13 @@ returns : tie.Need-returns
 unfolding blockNotes
 returns c =
     let told = c .before .enum-told .given .1 in
-    let head = seen gotHeader (c .before .before .before .header-at .ensures) told in
+    let head = seen gotHeader (c .before .before .before .before .pre .0) told in
     (rw (records-fields, head, c .refusal .ensures, told), (rw head, rw head))
 
 note-blocks-requires : tie.Need-note-blocks-requires
 note-blocks-requires c κs =
     let header = c .before .before .before in
-    let head = seen gotHeader (header .before .before .header-at .ensures) (header .header-field .given .1) in
+    let head = behind _ _ (header .before .before .before .pre) (header .header .given .1) in
     held (λ (h : Header). h .blocks ≤ 128) head (blocks-most HD _ 0)
 
 enum-known-past-blocks : tie.Need-enum-known-past-blocks
@@ -51,7 +49,7 @@ unfolding blockNotes
 returns-2 c =
     let blocks-call = c .before .before .before in
     let header = blocks-call .before .before .before .before in
-    let head = seen gotHeader (header .before .before .header-at .ensures) (header .header-field .given .1) in
+    let head = behind _ _ (header .before .before .before .pre) (header .header .given .1) in
     let told = c .before .enum-told2 .given .1 in (
       rw (blocks-refused _ head (seen gotPlace (blocks-call .note-blocks .ensures .0) told), c .refusal2 .ensures, told),
       (rw head (blocks-call .note-blocks .ensures .1 .0), rw head (blocks-call .note-blocks .ensures .1 .1)),
@@ -76,7 +74,7 @@ returns-3 c =
     let blocks = call .before .before in
     let blocks-call = blocks .before .before in
     let header = blocks-call .before .before .before .before in
-    let head = seen gotHeader (header .before .before .header-at .ensures) (header .header-field .given .1) in
+    let head = behind _ _ (header .before .before .before .pre) (header .header .given .1) in
     let past = seen gotPlace (blocks-call .note-blocks .ensures .0) (blocks .past-blocks .given .1) in
     let told = c .before .enum-told3 .given .1 in (
       rw (candidates-refused _ head past (seen gotPlace (call .past-paths .ensures) told), c .refusal3 .ensures, told),
@@ -91,7 +89,7 @@ returns-4 c =
     let blocks = call .before .before in
     let blocks-call = blocks .before .before in
     let header = blocks-call .before .before .before .before in
-    let head = seen gotHeader (header .before .before .header-at .ensures) (header .header-field .given .1) in
+    let head = behind _ _ (header .before .before .before .pre) (header .header .given .1) in
     let past = seen gotPlace (blocks-call .note-blocks .ensures .0) (blocks .past-blocks .given .1) in
     let last = seen gotPlace (call .past-paths .ensures) (candidates .past-candidates .given .1) in (
       rw (byte-extra _ head past last (c .if1 .taken)),
@@ -113,19 +111,18 @@ returns-5 c =
     let blocks = call .before .before in
     let blocks-call = blocks .before .before in
     let header = blocks-call .before .before .before .before in
-    let head = seen gotHeader (header .before .before .header-at .ensures) (header .header-field .given .1) in
+    let head = behind _ _ (header .before .before .before .pre) (header .header .given .1) in
     let past = seen gotPlace (blocks-call .note-blocks .ensures .0) (blocks .past-blocks .given .1) in
     let last = seen gotPlace (call .past-paths .ensures) (candidates .past-candidates .given .1) in (
       sym (all-read _ head past last (test .if1 .left)),
       (rw head (blocks-call .note-blocks .ensures .1 .0), rw head (blocks-call .note-blocks .ensures .1 .1)),
     )
 
-pub records-of-spec : {M : Type 1} → statement M
-records-of-spec =
+pub records-at-spec : {M : Type 1} → statement M
+records-at-spec =
     tie.close
     (tie.spec
-    header-at-requires
-    enum-known-header-field
+    enum-known-header
     enum-told
     refusal-requires
     returns
