@@ -27,7 +27,8 @@ use Rattle.job.proofs.Passing.{not-both}
 use Rattle.job.proofs.RecordParts.{BlockParts, block-parts}
 use Rattle.job.proofs.BlocksAt.{blocks-read, block-there}
 use Rattle.assumed.specs.declared.EnteredSet.{EnteredSet}
-use Rattle.assumed.specs.Start.{IsRead, assumedAt, FillsBy, Fills, StartHeld}
+use Rattle.paths.specs.Enters.{IsRead}
+use Rattle.assumed.specs.Start.{assumedAt, FillsBy, Fills, StartHeld}
 use Rattle.assumed.proofs.Filling.{paths-extend}
 
 -- The parts of a block's record.
