@@ -21,6 +21,7 @@ pub mod notation;
 pub mod oracle;
 pub mod output;
 pub mod prng;
+pub mod programs;
 pub mod progress;
 pub mod reader;
 #[cfg(reference)]

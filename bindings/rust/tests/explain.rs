@@ -86,7 +86,8 @@ fn every_job_is_explained_step_by_step() {
 /// The job with this scope block, and a candidate for each path that the block holds, one entry longer.
 fn with_scope(job: &Job, sheet: &Sheet, scope: BlockId) -> Option<Job> {
     let blocks = job.blocks().iter().cloned().fold(Job::builder(scope), JobBuilder::block);
-    let longer = sheet.paths(scope).filter_map(|path| path.then(Entry::plain(Property::Name(77))).ok());
+    let longer = sheet.paths(scope).filter(|path| path.entries().len() < 16);
+    let longer = longer.map(|path| path.then(Entry::plain(Property::Name(77))));
     longer.take(limits::CANDIDATES).fold(blocks, JobBuilder::candidate).build().ok()
 }
 
