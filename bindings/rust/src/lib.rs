@@ -76,3 +76,8 @@ pub use refusal::{ManyNodes, Place, Record, Refusal};
 pub use sheet::{Node, Sheet};
 #[cfg(feature = "library")]
 pub use stage::{answer, sheet, Stage};
+
+/// Tests the examples of the package's README.
+#[cfg(all(doctest, feature = "library"))]
+#[doc = include_str!("../README.md")]
+struct Readme;

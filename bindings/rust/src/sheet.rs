@@ -111,7 +111,6 @@ impl Sheet {
     }
 
     /// The paths of a block's set, by node number.
-    #[must_use]
     pub fn paths(&self, block: BlockId) -> impl Iterator<Item = Path> + '_ {
         self.set(block).into_iter().flat_map(NodeSet::iter).map(|node| self.path(node))
     }
