@@ -1,5 +1,6 @@
-//! Links the stage's library: the one that `SCOPE_DEPS_LIBRARY` names, or the repository's. Where that is missing or
-//! belongs to other sources, it is proved and made outside the sources, and the terminal shows how far that is.
+//! Links the stage's library: the one that `SCOPE_DEPS_LIBRARY` names, or the repository's. Where
+//! that is missing or belongs to other sources, it is proved and made outside the sources, and the
+//! terminal shows how far that is.
 
 fn main() {
     println!("cargo::rerun-if-changed=build.rs");

@@ -1,4 +1,4 @@
-//! The programs `answer` and `sheet`, each run as a process of its own on one input after the other.
+//! The programs `answer` and `sheet`, run as processes of their own on one input after the other.
 
 use crate::generate::edges;
 use crate::job::limits;

@@ -59,6 +59,8 @@ mod path;
 #[cfg(feature = "library")]
 pub mod raw;
 mod refusal;
+#[cfg(feature = "explain")]
+pub mod replay;
 mod sheet;
 #[cfg(feature = "library")]
 mod stage;

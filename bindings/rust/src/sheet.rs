@@ -3,7 +3,7 @@
 use crate::bytes::{Fault, Fields, Malformed};
 use crate::ids::{BlockId, IdentifierId, NodeId, Span};
 use crate::limits;
-use crate::node_set::NodeSet;
+pub(crate) use crate::node_set::NodeSet;
 use crate::path::{Entry, Path};
 
 /// What propagation arrived at for a job.

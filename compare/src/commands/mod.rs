@@ -44,7 +44,7 @@ fn open(what: &str) -> Result<Oracle, Failure> {
     Oracle::open().map_err(|why| Failure::NoRust(format!("{what} did not run: {why}")))
 }
 
-/// A file of the repository: of the one that the script names, which may have been moved since this was built.
+/// A file of the repository, of the one that the script names: a built one may have been moved.
 fn repository(file: &str) -> PathBuf {
     let root = std::env::var_os("SCOPE_DEPS_ROOT").map(PathBuf::from);
     root.unwrap_or_else(|| PathBuf::from(env!("CARGO_MANIFEST_DIR")).join("..")).join(file)

@@ -201,7 +201,8 @@ impl Fake {
         }
     }
 
-    /// The calls of toolchain and cargo since the last time, but for `rt version`, each by its first words.
+    /// The calls of toolchain and cargo since the last time, each by its first two words. That of
+    /// `rt version` is not counted.
     pub fn calls(&self) -> Vec<String> {
         let calls = self.folder.join("calls");
         let text = fs::read_to_string(&calls).unwrap_or_default();

@@ -215,7 +215,9 @@ fn what_asks_nothing_of_the_stage_needs_no_library() {
         );
     }
     assert_eq!(fake.files(), files);
-    failing(fake.run("bin/scope-deps", &["answer"]), &["the stage's library is missing, and rt"]);
+    for words in [&["answer"][..], &["draw", "--", "--help"]] {
+        failing(fake.run("bin/scope-deps", words), &["the stage's library is missing, and rt"]);
+    }
 }
 
 #[test]
@@ -234,6 +236,10 @@ fn what_asks_the_stage_has_the_library_made_first() {
         let files = fake.files();
         assert_eq!(quiet(fake.run("bin/scope-deps", &[command])), format!("whole: {command}\n"));
         assert_eq!(quiet(fake.run("bin/scope-deps", &["encode"])), "whole: encode\n");
+        assert_eq!(
+            quiet(fake.run("bin/scope-deps", &[command, "--help"])),
+            format!("whole: {command} --help\n")
+        );
         assert_eq!(fake.files(), files);
     }
 }
