@@ -53,8 +53,8 @@ mod library {
         PathBuf::from(String::from_utf8_lossy(&output.stdout).trim())
     }
 
-    /// The terminal, or a pipe where there is none. Cargo shows what a build script says when the script has ended,
-    /// which is minutes too late for the progress of a proof.
+    /// The terminal, or a pipe where there is none. Cargo shows what a build script says when the
+    /// script has ended, which is minutes too late for the progress of a proof.
     fn terminal() -> Stdio {
         fs::OpenOptions::new().write(true).open("/dev/tty").map_or_else(|_| Stdio::piped(), Stdio::from)
     }
