@@ -25,9 +25,9 @@
 //! # Ok::<(), Box<dyn std::error::Error>>(())
 //! ```
 //!
-//! The stage itself is the proved library behind the C interface; nothing of it is done again here. Jobs, answers and
-//! sheets can be read and written as text (`docs/NOTATION.md`). [`explain`](mod@explain) says why each path is
-//! returned as it is, and [`draw`](mod@draw) makes a picture.
+//! The stage itself is the proved library behind the C interface; no answer and no sheet comes from anywhere else. Jobs,
+//! answers and sheets can be read and written as text (`docs/NOTATION.md`). [`explain`](mod@explain) says why each path is
+//! returned as it is, from a [`replay`] of the propagation, and [`draw`](mod@draw) makes a picture.
 
 #![deny(missing_docs)]
 #![deny(unsafe_code)]

@@ -153,6 +153,7 @@ fn a_wrong_command_line_is_told_from_a_wrong_job() {
         (&["bogus"], "`bogus` is no command"),
         (&["answer", "--bogus"], "`--bogus` is no option"),
         (&["encode", "--bytes"], "`--bytes` is no option"),
+        (&["answer", "--all"], "`--all` is no option"),
         (&["answer", "-o"], "a value is missing after `-o`"),
         (&["answer", "--from", "jpeg"], "`jpeg` is no form"),
         (&["answer", "one", "two"], "`two` follows another"),

@@ -5,8 +5,8 @@ use super::help;
 use super::input::{Form, Input};
 use super::options::{Command, Request, Run};
 use scope_deps::draw::draw;
-use scope_deps::explain::explain;
-use scope_deps::{answer, raw, sheet, Job, Refusal};
+use scope_deps::explain::{explain, Mismatch};
+use scope_deps::{answer, raw, sheet, Job};
 use std::fs;
 use std::io::{self, Write};
 
@@ -22,8 +22,7 @@ pub fn run(request: Request) -> Result<(), Failure> {
 
 fn result(run: &Run, input: &Input) -> Result<Vec<u8>, Failure> {
     let job = input.job(form(run, input)?)?;
-    let refused = |why| Failure::Refused { place: input.place.clone(), why };
-    made(run, &job).map_err(refused)
+    made(run, &job, &input.place)
 }
 
 /// The form that was said, or else the one that it seems to be and that the command takes.
@@ -42,20 +41,26 @@ fn form(run: &Run, input: &Input) -> Result<Form, Failure> {
 }
 
 /// What the command makes of a job.
-fn made(run: &Run, job: &Job) -> Result<Vec<u8>, Refusal> {
+fn made(run: &Run, job: &Job, place: &str) -> Result<Vec<u8>, Failure> {
+    let refused = |why| Failure::Refused { place: place.to_string(), why };
+    let differs = |why: Mismatch| Failure::Form { place: place.to_string(), why: why.to_string() };
+    let both = || Ok((sheet(job).map_err(refused)?, answer(job).map_err(refused)?));
     Ok(match run.command {
         Command::Encode => job.to_bytes(),
         Command::Decode => job.to_string().into_bytes(),
-        Command::Answer if run.bytes => raw::answer(&job.to_bytes())?,
-        Command::Answer => answer(job)?.to_string().into_bytes(),
-        Command::Sheet if run.bytes => raw::sheet(&job.to_bytes())?,
-        Command::Sheet => sheet(job)?.to_string().into_bytes(),
+        Command::Answer if run.bytes => raw::answer(&job.to_bytes()).map_err(refused)?,
+        Command::Answer => answer(job).map_err(refused)?.to_string().into_bytes(),
+        Command::Sheet if run.bytes => raw::sheet(&job.to_bytes()).map_err(refused)?,
+        Command::Sheet => sheet(job).map_err(refused)?.to_string().into_bytes(),
         Command::Explain => {
-            let explanation = explain(job, &sheet(job)?, &answer(job)?);
-            explanation.expect("sheet and answer are the job's").to_string().into_bytes()
+            let (sheet, answer) = both()?;
+            let explanation = explain(job, &sheet, &answer).map_err(differs)?;
+            let text = if run.all { explanation.in_full().to_string() } else { explanation.to_string() };
+            text.into_bytes()
         }
         Command::Draw => {
-            draw(job, &sheet(job)?, &answer(job)?).expect("sheet and answer are the job's").into_bytes()
+            let (sheet, answer) = both()?;
+            draw(job, &sheet, &answer).map_err(differs)?.into_bytes()
         }
     })
 }
