@@ -59,6 +59,7 @@ mod path;
 #[cfg(feature = "library")]
 pub mod raw;
 mod refusal;
+#[cfg(feature = "explain")]
 pub mod replay;
 mod sheet;
 #[cfg(feature = "library")]
@@ -77,3 +78,8 @@ pub use refusal::{ManyNodes, Place, Record, Refusal};
 pub use sheet::{Node, Sheet};
 #[cfg(feature = "library")]
 pub use stage::{answer, sheet, Stage};
+
+/// Tests the examples of the package's README.
+#[cfg(all(doctest, feature = "library"))]
+#[doc = include_str!("../README.md")]
+struct Readme;

@@ -100,6 +100,7 @@ impl Names {
     }
 
     /// All names: those of variables, then those of properties, each by number.
+    #[must_use]
     pub fn iter(&self) -> impl ExactSizeIterator<Item = (Named, &str)> {
         self.names.iter().map(|(named, name)| (*named, name.as_str()))
     }

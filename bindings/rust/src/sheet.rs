@@ -3,7 +3,7 @@
 use crate::bytes::{Fault, Fields, Malformed};
 use crate::ids::{BlockId, IdentifierId, NodeId, Span};
 use crate::limits;
-use crate::node_set::NodeSet;
+pub(crate) use crate::node_set::NodeSet;
 use crate::path::{Entry, Path};
 
 /// What propagation arrived at for a job.
@@ -111,7 +111,6 @@ impl Sheet {
     }
 
     /// The paths of a block's set, by node number.
-    #[must_use]
     pub fn paths(&self, block: BlockId) -> impl Iterator<Item = Path> + '_ {
         self.set(block).into_iter().flat_map(NodeSet::iter).map(|node| self.path(node))
     }

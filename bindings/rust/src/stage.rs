@@ -48,6 +48,10 @@ impl Stage {
     /// # Errors
     ///
     /// Where the registry has more than 512 nodes when propagation ends.
+    ///
+    /// # Panics
+    ///
+    /// Where the library that is linked is another than the stage's.
     pub fn answer(&mut self, job: &Job) -> Result<&Answer, ManyNodes> {
         let written = only_many_nodes(interface::answer(job.as_bytes(), &mut self.out))?;
         self.answer
@@ -61,6 +65,10 @@ impl Stage {
     /// # Errors
     ///
     /// Where the registry has more than 512 nodes when propagation ends.
+    ///
+    /// # Panics
+    ///
+    /// Where the library that is linked is another than the stage's.
     pub fn sheet(&mut self, job: &Job) -> Result<&Sheet, ManyNodes> {
         let written = only_many_nodes(interface::sheet(job.as_bytes(), &mut self.out))?;
         self.sheet.read(&self.out[..written]).expect("the stage writes sheets of its format");
@@ -118,6 +126,10 @@ fn only_many_nodes(returned: Result<usize, u8>) -> Result<usize, ManyNodes> {
 ///
 /// Where the registry has more than 512 nodes when propagation ends. A [`Job`] is refused for nothing else.
 ///
+/// # Panics
+///
+/// Where the library that is linked is another than the stage's.
+///
 /// ```
 /// use scope_deps::{answer, Job};
 ///
@@ -140,6 +152,10 @@ pub fn answer(job: &Job) -> Result<Answer, ManyNodes> {
 /// # Errors
 ///
 /// Where the answer is refused too: the registry has more than 512 nodes when propagation ends.
+///
+/// # Panics
+///
+/// Where the library that is linked is another than the stage's.
 ///
 /// ```
 /// use scope_deps::{sheet, BlockId, Job};
