@@ -96,7 +96,8 @@ impl Sheet {
         self.sets.iter().find(|(id, _)| *id == block).map(|(_, set)| set)
     }
 
-    /// A node's path, from its variable on: each entry with the span of the entry that made its node.
+    /// A node's path, from its variable on: each entry with the span of the entry that made its
+    /// node.
     ///
     /// # Panics
     ///
