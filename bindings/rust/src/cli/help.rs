@@ -22,6 +22,7 @@ and `draw` take the job as text or in bytes, and see for themselves which it is.
   --from FORM          take the job as `text`, `bytes` or `hex` (a dump of xxd or hexdump -C)
   --names FILE         names of variables and properties, for a job that does not give them
   --bytes              of `answer` and `sheet`: write bytes, and not text
+  --all                of `explain`: write all that is known, step by step
   -h, --help           this, or after a command help on it
   --                   end the options, so that FILE may start with `-`
 
@@ -31,11 +32,9 @@ of property 10 of it?
   $ echo 'scope 7 block 7 assumes 1 candidate 1?.10.11' | scope-deps explain
   candidate 1?.10.11
    returned 1.10
-      ?.10  becomes .10: 1 is known in block 7, by the path 1 [1]
-      .11   is cut: 1.10 is not known in block 7, since no path of its set reaches it
-
-  [1] the path 1 in block 7
-      block 7 assumes it
+      ?.10  becomes .10: 1 is known to be there in block 7; block 7 assumes it
+      .11   is cut: 1.10 is not known to be there in block 7
+            no block assumes 1.10
 
 The exit status is 0 on success, 1 where the job is refused or cannot be read or written, and 2 where
 the command line makes no sense. Messages go to standard error.
@@ -127,22 +126,27 @@ holds, that is those known in it to be neither null nor undefined.
 ";
 
 const EXPLAIN: &str = "\
-usage: scope-deps explain [-o FILE] [--from FORM] [--names FILE] [FILE]
+usage: scope-deps explain [--all] [-o FILE] [--from FORM] [--names FILE] [FILE]
 
 Says for each candidate why its returned path is what it is. An entry reads a property of its base. It
-is returned plain where the scope block knows that the base is neither null nor undefined; otherwise an
-optional entry stays optional, and at a plain one the path is cut. A number in brackets leads to the
-path by which the base is known, with the blocks that assume it and those by way of which it came.
+is returned plain where the base is known to be there, neither null nor undefined, in the scope block;
+otherwise an optional entry stays optional, and at a plain one the path is cut. A block has what it
+assumes, and what all blocks have that control comes from, or all that it goes on to. So a cut has one
+of these reasons: no block assumes the base, or it stopped on the way, at a block beside which another
+does not have it. On a loop, blocks that are not finished are left out.
 
-  $ echo 'scope 1 block 0 assumes 1 block 1 after 0 candidate 1.10.11' | scope-deps explain
+  $ echo 'scope 2 block 0 assumes 1 block 1 after 0 assumes 1.10 block 2 after 0, 1 candidate 1.10.11' | scope-deps explain
   candidate 1.10.11
    returned 1.10
-      .10  stays plain: 1 is known in block 1, by the path 1 [1]
-      .11  is cut: 1.10 is not known in block 1, since no path of its set reaches it
+      .10  stays plain: 1 is known to be there in block 2; it comes from block 0, which assumes it
+      .11  is cut: 1.10 is not known to be there in block 2
+           block 1 assumes 1.10, but control can also come to block 2 from block 0, which does not have it
 
-  [1] the path 1 in block 1
-      block 0 assumes it
-      block 1 has it from 0, its only predecessor
+  --all    every block that has such a base, every block at which it stopped, and in sections with
+           numbers every step by which a path came to a block
+
+All this is from a second run of the propagation, with a trace. Where that does not end with what the
+library says, nothing is explained, and the exit status is 1.
 ";
 
 const DRAW: &str = "\

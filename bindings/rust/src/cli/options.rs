@@ -46,6 +46,8 @@ pub struct Run {
     pub names: Option<String>,
     /// Whether an answer or a sheet is written in bytes.
     pub bytes: bool,
+    /// Whether an explanation is written in full.
+    pub all: bool,
 }
 
 /// The words of the command line.
@@ -83,7 +85,8 @@ fn asks_for_help(words: &[&str]) -> bool {
 
 impl Run {
     fn read(command: Command, words: &[&str]) -> Result<Self, Failure> {
-        let mut run = Self { command, input: None, output: None, from: None, names: None, bytes: false };
+        let mut run =
+            Self { command, input: None, output: None, from: None, names: None, bytes: false, all: false };
         let (mut files, mut options_end) = (Vec::new(), false);
         let mut words = words.iter().copied();
         while let Some(word) = words.next() {
@@ -113,6 +116,7 @@ impl Run {
             "--from" => self.from = Some(form(value()?)?),
             "--names" => self.names = Some(value()?.to_string()),
             "--bytes" if asks_to_show && given.is_none() => self.bytes = true,
+            "--all" if self.command == Command::Explain && given.is_none() => self.all = true,
             _ => return Err(misused(format!("`{word}` is no option of this command"))),
         }
         Ok(())

@@ -3,7 +3,7 @@
 use super::failure::Failure;
 use super::input::Input;
 use super::options::{Command, Run};
-use scope_deps::{answer, raw, sheet, Job, Refusal};
+use scope_deps::{answer, raw, sheet, Answer, Job, ManyNodes, Refusal, Sheet};
 
 /// What the command makes of the job that was read.
 pub fn made(run: &Run, input: &Input, job: &Job) -> Result<Vec<u8>, Failure> {
@@ -19,40 +19,42 @@ pub fn made(run: &Run, input: &Input, job: &Job) -> Result<Vec<u8>, Failure> {
             let sheet = sheet(job).map_err(|why| refused(why.into()))?;
             Ok(sheet.with_names(job.names()).to_string().into_bytes())
         }
-        Command::Explain => explained(job)?.map_err(refused),
-        Command::Draw => drawn(job)?.map_err(refused),
+        Command::Explain => asked(run, input, job, explained),
+        Command::Draw => asked(run, input, job, drawn),
         Command::Encode | Command::Decode => unreachable!("these ask nothing of the stage"),
     }
 }
 
-/// What the stage makes of a job for a command that may not be there.
-type Asked = Result<Result<Vec<u8>, Refusal>, Failure>;
+/// What is made of a job with its sheet and its answer.
+fn asked(
+    run: &Run,
+    input: &Input,
+    job: &Job,
+    make: impl Fn(&Run, &Job, &Sheet, &Answer) -> Result<String, Failure>,
+) -> Result<Vec<u8>, Failure> {
+    let refused = |why: ManyNodes| Failure::Refused { place: input.place.clone(), why: why.into() };
+    let (sheet, answer) = (sheet(job).map_err(refused)?, answer(job).map_err(refused)?);
+    make(run, job, &sheet, &answer).map(String::into_bytes)
+}
 
 #[cfg(feature = "explain")]
-fn explained(job: &Job) -> Asked {
-    let made = || -> Result<_, Refusal> {
-        let explanation = scope_deps::explain::explain(job, &sheet(job)?, &answer(job)?);
-        Ok(explanation.expect("sheet and answer are the job's").to_string().into_bytes())
-    };
-    Ok(made())
+fn explained(run: &Run, job: &Job, sheet: &Sheet, answer: &Answer) -> Result<String, Failure> {
+    let explanation = scope_deps::explain::explain(job, sheet, answer).map_err(Failure::Mismatch)?;
+    Ok(if run.all { explanation.in_full().to_string() } else { explanation.to_string() })
 }
 
 #[cfg(not(feature = "explain"))]
-fn explained(_: &Job) -> Asked {
+fn explained(_: &Run, _: &Job, _: &Sheet, _: &Answer) -> Result<String, Failure> {
     Err(Failure::BuiltWithout("explain"))
 }
 
 #[cfg(feature = "draw")]
-fn drawn(job: &Job) -> Asked {
-    let made = || -> Result<_, Refusal> {
-        let picture = scope_deps::draw::draw(job, &sheet(job)?, &answer(job)?);
-        Ok(picture.expect("sheet and answer are the job's").into_bytes())
-    };
-    Ok(made())
+fn drawn(_: &Run, job: &Job, sheet: &Sheet, answer: &Answer) -> Result<String, Failure> {
+    scope_deps::draw::draw(job, sheet, answer).map_err(Failure::Mismatch)
 }
 
 #[cfg(not(feature = "draw"))]
-fn drawn(_: &Job) -> Asked {
+fn drawn(_: &Run, _: &Job, _: &Sheet, _: &Answer) -> Result<String, Failure> {
     Err(Failure::BuiltWithout("draw"))
 }
 
