@@ -40,3 +40,20 @@ fn what_the_help_and_the_readme_show_is_what_happens() {
         }
     }
 }
+
+/// The commands and files of the lines `$ bin/scope-deps COMMAND examples/FILE` in a text.
+fn examples_of(shown: &str) -> Vec<(&str, &str)> {
+    let lines = shown.lines().filter_map(|line| line.trim().strip_prefix("$ bin/scope-deps "));
+    lines.filter_map(|line| line.split_once(' ').filter(|(_, file)| file.starts_with("examples/"))).collect()
+}
+
+#[test]
+fn what_the_readme_shows_of_the_examples_is_what_happens() {
+    let readme = fs::read_to_string(repository("README.md")).unwrap();
+    let examples = examples_of(&readme);
+    assert!(!examples.is_empty());
+    for (command, file) in examples {
+        let output = text(&[command, repository(file).to_str().unwrap()], "");
+        assert!(output.lines().all(|line| readme.contains(line)), "{command} {file}\n{output}");
+    }
+}
