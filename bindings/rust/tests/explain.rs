@@ -40,15 +40,19 @@ fn the_page_of_an_athlete_without_a_last_session() {
     assert_eq!(
         short(&job),
         "\
-candidate 1.10.11
- returned 1.10
-    .10  stays plain: 1 is known to be there in block 2; it comes from block 0, which assumes it
-    .11  is cut: 1.10 is not known to be there in block 2
-         block 1 assumes 1.10, but control can also come to block 2 from block 0, which does not have it
+candidate athlete.lastSession.beats
+ returned athlete.lastSession
+    .lastSession  stays plain: athlete is known to be there in block 2; it comes from block 0, which assumes it
+    .beats        is cut: athlete.lastSession is not known to be there in block 2
+                  block 1 assumes athlete.lastSession, but control can also come to block 2 from block 0, which does not have it
 "
     );
+}
+
+#[test]
+fn in_full_every_stop_and_every_step_is_told() {
     assert_eq!(
-        full(&job),
+        full("scope 2 block 0 assumes 1 block 1 after 0 assumes 1.10 block 2 after 0, 1 candidate 1.10.11"),
         "\
 candidate 1.10.11
  returned 1.10
@@ -97,8 +101,8 @@ fn a_loop_is_told_as_it_was_walked() {
 fn a_block_that_was_left_out_and_does_not_have_the_path_is_told_in_short() {
     let job = std::fs::read_to_string(repository("examples/loop.job")).unwrap();
     let told = "
-    .10  stays plain: 5 is known to be there in block 3; it comes from block 2, which assumes it
-         block 3 left out block 1, which does not have it: control comes from there too, but the two are on a loop\n";
+    .rate  stays plain: beat is known to be there in block 3; it comes from block 2, which assumes it
+           block 3 left out block 1, which does not have it: control comes from there too, but the two are on a loop\n";
     assert!(short(&job).ends_with(told), "{}", short(&job));
     // The same with all arrows turned.
     let turned = short(

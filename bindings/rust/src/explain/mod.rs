@@ -49,6 +49,7 @@ pub use unknown::{Elsewhere, Unknown};
 use crate::answer::Answer;
 use crate::ids::BlockId;
 use crate::job::Job;
+use crate::names::Names;
 use crate::path::{Entry, Path};
 use crate::replay::Replay;
 use crate::sheet::Sheet;
@@ -58,6 +59,8 @@ use std::fmt;
 /// Why each candidate's returned path is what it is.
 #[derive(Clone, Debug)]
 pub struct Explanation {
+    /// The job's names, with which paths are shown.
+    pub names: Names,
     /// The scope block.
     pub scope: BlockId,
     /// Whether the last round changed nothing; else the stage stopped after 100 rounds.
@@ -126,7 +129,8 @@ pub fn explain(job: &Job, sheet: &Sheet, answer: &Answer) -> Result<Explanation,
     let mut bases = Bases::new(job, &replay)?;
     let reason = |candidate| reason(job, &mut bases, candidate, returned_for(candidate, answer)?);
     let reasons = job.candidates().iter().map(reason).collect::<Result<_, _>>()?;
-    Ok(Explanation { scope: job.scope(), settled: replay.is_settled(), reasons, steps: bases.into_steps() })
+    let (names, scope) = (job.names().clone(), job.scope());
+    Ok(Explanation { names, scope, settled: replay.is_settled(), reasons, steps: bases.into_steps() })
 }
 
 /// The one returned path with the candidate's identifier and a prefix of its names.

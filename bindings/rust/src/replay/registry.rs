@@ -88,7 +88,6 @@ impl Registry {
         let (root, entries) = self.from_root(node);
         let root = &self.nodes[usize::from(root.0)];
         let variable = Path::new(root.identifier).with_reactive(root.reactive).with_span(root.span);
-        let longer = |path: Path, entry| path.then(entry).expect("no path of a job has more than 16 entries");
-        entries.into_iter().fold(variable, longer)
+        entries.into_iter().fold(variable, Path::then)
     }
 }

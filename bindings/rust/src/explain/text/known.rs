@@ -1,6 +1,6 @@
 //! By what a base is known, in words.
 
-use super::show::{for_count, show_block, show_path, show_some_blocks};
+use super::show::{for_count, show_block, show_some_blocks};
 use super::Text;
 use crate::explain::bases::on_the_way;
 use crate::explain::{How, Known, LeftOut};
@@ -16,9 +16,9 @@ pub(super) fn known(text: &Text, base: &Path, by: &Known) -> Vec<String> {
     let since = if by.path.same_entries(base) {
         String::new()
     } else {
-        format!(", since {} is", show_path(&by.path))
+        format!(", since {} is", text.path(&by.path))
     };
-    let known = format!("{} is known to be there in {scope}{since}", show_path(base));
+    let known = format!("{} is known to be there in {scope}{since}", text.path(base));
     let first = match &text.sections {
         Some(sections) => format!("{known} {}", sections.refer(&[by.step])),
         None => format!("{known}; {}", origin(text, by.step)),
@@ -32,7 +32,7 @@ fn origin(text: &Text, step: usize) -> String {
     let at = &text.explanation.steps[step];
     match &forms(text, step)[..] {
         [(form, blocks)] if blocks[..] == [at.block] => {
-            format!("{} assumes {}", show_block(at.block), it(form, &at.path))
+            format!("{} assumes {}", show_block(at.block), it(text, form, &at.path))
         }
         _ => format!("it comes from {}", sources(text, step)),
     }
@@ -44,24 +44,24 @@ pub(super) fn sources(text: &Text, step: usize) -> String {
     let path = &text.explanation.steps[step].path;
     let forms = forms(text, step);
     let mut said: Vec<String> =
-        forms.iter().take(FORMS).map(|(form, blocks)| source(form, blocks, path)).collect();
+        forms.iter().take(FORMS).map(|(form, blocks)| source(text, form, blocks, path)).collect();
     if forms.len() > FORMS {
         said.push("others".to_string());
     }
     said.join(", and from ")
 }
 
-fn source(form: &Path, blocks: &[BlockId], path: &Path) -> String {
+fn source(text: &Text, form: &Path, blocks: &[BlockId], path: &Path) -> String {
     let assume = for_count(blocks.len(), "assumes", "assume");
-    format!("{}, which {assume} {}", show_some_blocks(blocks), it(form, path))
+    format!("{}, which {assume} {}", show_some_blocks(blocks), it(text, form, path))
 }
 
 /// The form, where it is not that of the path spoken of.
-fn it(form: &Path, path: &Path) -> String {
+fn it(text: &Text, form: &Path, path: &Path) -> String {
     if form.same_entries(path) {
         "it".to_string()
     } else {
-        show_path(form)
+        text.path(form)
     }
 }
 

@@ -9,7 +9,6 @@ use super::{Base, End, Explanation, Reason};
 use crate::path::Entry;
 use known::known;
 use sections::Sections;
-use show::{show_entry, show_path};
 use std::fmt;
 use unknown::unknown;
 
@@ -54,7 +53,7 @@ impl fmt::Display for InFull<'_> {
     fn fmt(&self, f: &mut fmt::Formatter<'_>) -> fmt::Result {
         let text = Text { explanation: self.0, sections: Some(Sections::new(self.0)) };
         text.candidates(f)?;
-        text.sections.iter().try_for_each(|sections| sections.write(f))
+        text.sections.iter().try_for_each(|sections| sections.write(&text, f))
     }
 }
 
@@ -72,8 +71,8 @@ impl Text<'_> {
         }
         for (place, reason) in self.explanation.reasons.iter().enumerate() {
             let gap = if place > 0 { "\n" } else { "" };
-            writeln!(f, "{gap}candidate {}", show_path(&reason.candidate))?;
-            writeln!(f, " returned {}", show_path(&reason.returned))?;
+            writeln!(f, "{gap}candidate {}", self.path(&reason.candidate))?;
+            writeln!(f, " returned {}", self.path(&reason.returned))?;
             self.lines(reason).iter().try_for_each(|line| writeln!(f, "    {line}"))?;
         }
         Ok(())
@@ -82,7 +81,7 @@ impl Text<'_> {
     /// Lines for each entry that is returned, and for the first that is not: the first line has the
     /// entry in front.
     fn lines(&self, reason: &Reason) -> Vec<String> {
-        let entries = reason.candidate.entries().iter().map(show_entry);
+        let entries = reason.candidate.entries().iter().map(|entry| self.entry(entry));
         let mut said: Vec<Vec<String>> =
             (0..reason.bases.len()).map(|level| self.kept(reason, level)).collect();
         said.extend(self.end(reason));
@@ -101,7 +100,15 @@ impl Text<'_> {
             Base::Known(by) => known(self, &reason.returned.prefix(level), by),
             Base::Unknown(why) => unknown(self, why),
         };
-        after(&change(own, returned), lines)
+        after(&self.change(own, returned), lines)
+    }
+
+    fn change(&self, own: Entry, returned: Entry) -> String {
+        match (own.optional, returned.optional) {
+            (true, false) => format!("becomes {}", self.entry(&Entry { optional: false, ..own })),
+            (_, true) => "stays optional".to_string(),
+            (false, false) => "stays plain".to_string(),
+        }
     }
 
     /// Why the first entry that is not returned is not, if there is one.
@@ -112,7 +119,7 @@ impl Text<'_> {
             End::Covered { by } => {
                 let other = &self.explanation.reasons[*by];
                 let ends = if other.end == End::Whole { "ends" } else { "is cut" };
-                let (candidate, at) = (show_path(&other.candidate), show_path(&reason.returned));
+                let (candidate, at) = (self.path(&other.candidate), self.path(&reason.returned));
                 Some(vec![format!(
                     "is not returned: candidate {candidate} {ends} at {at}, and depending on that is enough"
                 )])
@@ -125,12 +132,4 @@ impl Text<'_> {
 fn after(what: &str, mut lines: Vec<String>) -> Vec<String> {
     lines[0].insert_str(0, &format!("{what}: "));
     lines
-}
-
-fn change(own: Entry, returned: Entry) -> String {
-    match (own.optional, returned.optional) {
-        (true, false) => format!("becomes {}", show_entry(&Entry { optional: false, ..own })),
-        (_, true) => "stays optional".to_string(),
-        (false, false) => "stays plain".to_string(),
-    }
 }

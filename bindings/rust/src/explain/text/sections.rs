@@ -1,6 +1,7 @@
 //! The steps by which paths came to blocks, in words: a section for each path, whatever its forms.
 
-use super::show::{listed, show_block, show_blocks, show_path};
+use super::show::{listed, show_block, show_blocks};
+use super::Text;
 use crate::explain::{Explanation, How, Step};
 use crate::ids::BlockId;
 use crate::replay::Side;
@@ -43,23 +44,25 @@ impl<'a> Sections<'a> {
         format!("[{}]", numbers.join(", "))
     }
 
-    pub(super) fn write(&self, f: &mut fmt::Formatter<'_>) -> fmt::Result {
+    pub(super) fn write(&self, text: &Text, f: &mut fmt::Formatter<'_>) -> fmt::Result {
         for (number, section) in self.sections.iter().enumerate() {
-            let path = section.last().map(|&step| show_path(&self.steps[step].path)).unwrap_or_default();
+            let path = section.last().map(|&step| text.path(&self.steps[step].path)).unwrap_or_default();
             writeln!(f, "\n[{}] how {path} came there", number + 1)?;
-            section.iter().try_for_each(|&step| writeln!(f, "    {}", self.sentence(&self.steps[step])))?;
+            section
+                .iter()
+                .try_for_each(|&step| writeln!(f, "    {}", self.sentence(text, &self.steps[step])))?;
         }
         Ok(())
     }
 
-    fn sentence(&self, step: &Step) -> String {
-        let (block, path) = (show_block(step.block), show_path(&step.path));
+    fn sentence(&self, text: &Text, step: &Step) -> String {
+        let (block, path) = (show_block(step.block), text.path(&step.path));
         match &step.how {
             How::Assumed => format!("{block} assumes {path}"),
             How::Made { from, bases, .. } => {
                 let bases: Vec<String> =
-                    bases.iter().map(|&base| show_path(&self.steps[base].path)).collect();
-                let from = show_path(&self.steps[*from].path);
+                    bases.iter().map(|&base| text.path(&self.steps[base].path)).collect();
+                let from = text.path(&self.steps[*from].path);
                 format!("{block} made {from} into {path}, since it had {}", listed(&bases))
             }
             How::TookOver { side, from, left_out, .. } => {

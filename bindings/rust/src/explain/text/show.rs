@@ -1,16 +1,19 @@
 //! How paths, entries and blocks are written. All text of explanations goes through here.
 
+use super::Text;
 use crate::ids::BlockId;
 use crate::path::{Entry, Path};
 
-/// A path, without spans.
-pub(super) fn show_path(path: &Path) -> String {
-    format!("{path:#}")
-}
+impl Text<'_> {
+    /// A path with the job's names, without spans.
+    pub(super) fn path(&self, path: &Path) -> String {
+        format!("{:#}", path.with_names(&self.explanation.names))
+    }
 
-/// An entry, without its span.
-pub(super) fn show_entry(entry: &Entry) -> String {
-    format!("{entry:#}")
+    /// An entry with the job's names, without its span.
+    pub(super) fn entry(&self, entry: &Entry) -> String {
+        format!("{:#}", entry.with_names(&self.explanation.names))
+    }
 }
 
 /// A block.

@@ -1,7 +1,7 @@
 //! Why a base is not known, in words.
 
 use super::known::sources;
-use super::show::{for_count, show_block, show_blocks, show_path};
+use super::show::{for_count, show_block, show_blocks};
 use super::Text;
 use crate::explain::{Elsewhere, Holder, How, Stop, Unknown, Way, Why};
 use crate::ids::BlockId;
@@ -9,16 +9,16 @@ use crate::path::Path;
 use crate::replay::Side;
 
 pub(super) fn unknown(text: &Text, why: &Unknown) -> Vec<String> {
-    let (base, scope) = (show_path(&why.base), show_block(text.explanation.scope));
+    let (base, scope) = (text.path(&why.base), show_block(text.explanation.scope));
     let mut lines = vec![format!("{base} is not known to be there in {scope}")];
     if let Some(open) = &why.open {
         let also = match &why.elsewhere {
             Elsewhere::Here(path) => {
-                format!("; it has {} too, but the path that comes first counts", show_path(path))
+                format!("; it has {} too, but the path that comes first counts", text.path(path))
             }
             _ => String::new(),
         };
-        lines.push(format!("{scope} has {}, {}{also}", show_path(open), leaves_open(&why.base)));
+        lines.push(format!("{scope} has {}, {}{also}", text.path(open), leaves_open(text, &why.base)));
     }
     lines.extend(elsewhere(text, why));
     if !text.explanation.settled {
@@ -27,8 +27,8 @@ pub(super) fn unknown(text: &Text, why: &Unknown) -> Vec<String> {
     lines
 }
 
-fn leaves_open(base: &Path) -> String {
-    format!("which leaves open whether {} is there", show_path(base))
+fn leaves_open(text: &Text, base: &Path) -> String {
+    format!("which leaves open whether {} is there", text.path(base))
 }
 
 fn elsewhere(text: &Text, why: &Unknown) -> Vec<String> {
@@ -40,7 +40,7 @@ fn elsewhere(text: &Text, why: &Unknown) -> Vec<String> {
         (Elsewhere::Apart { blocks, holder }, sections) => {
             let apart = format!("{} and {} are not connected", show_block(holder.block), show_block(scope));
             let refer = sections.as_ref().map(|sections| sections.refer(&[holder.step]));
-            let there = refer.map(|refer| there(base, blocks, &refer));
+            let there = refer.map(|refer| there(text, base, blocks, &refer));
             let last = format!("{}, but {apart}", has(text, base, holder));
             there.into_iter().chain([last]).collect()
         }
@@ -49,8 +49,8 @@ fn elsewhere(text: &Text, why: &Unknown) -> Vec<String> {
         }
         (Elsewhere::Stopped { blocks, stops }, Some(sections)) => {
             let steps: Vec<usize> = stops.iter().map(|stop| stop.holder.step).collect();
-            let first = there(base, blocks, &sections.refer(&steps));
-            std::iter::once(first).chain(stops.iter().map(stopped_in_full)).collect()
+            let first = there(text, base, blocks, &sections.refer(&steps));
+            std::iter::once(first).chain(stops.iter().map(|stop| stopped_in_full(text, stop))).collect()
         }
     }
 }
@@ -58,9 +58,9 @@ fn elsewhere(text: &Text, why: &Unknown) -> Vec<String> {
 /// That no block assumes the base, and which assume a path that leaves it open: the first of them,
 /// or all where all is shown.
 fn nowhere(text: &Text, why: &Unknown, open: &[(BlockId, Path)]) -> Vec<String> {
-    let nobody = format!("no block assumes {}", show_path(&why.base));
+    let nobody = format!("no block assumes {}", text.path(&why.base));
     let assumes = |(block, path): &(BlockId, Path)| {
-        format!("{} assumes {}, {}", show_block(*block), show_path(path), leaves_open(&why.base))
+        format!("{} assumes {}, {}", show_block(*block), text.path(path), leaves_open(text, &why.base))
     };
     match (&text.sections, &why.open, open) {
         (Some(_), ..) => std::iter::once(nobody).chain(open.iter().map(assumes)).collect(),
@@ -69,17 +69,17 @@ fn nowhere(text: &Text, why: &Unknown, open: &[(BlockId, Path)]) -> Vec<String> 
     }
 }
 
-fn there(base: &Path, blocks: &[BlockId], refer: &str) -> String {
-    format!("{} is there in {} {refer}", show_path(base), show_blocks(blocks))
+fn there(text: &Text, base: &Path, blocks: &[BlockId], refer: &str) -> String {
+    format!("{} is there in {} {refer}", text.path(base), show_blocks(blocks))
 }
 
 /// That a block has the base, and from where.
 fn has(text: &Text, base: &Path, holder: &Holder) -> String {
-    let (block, path) = (show_block(holder.block), show_path(&holder.path));
+    let (block, path) = (show_block(holder.block), text.path(&holder.path));
     let so = if holder.path.same_names(base) {
         String::new()
     } else {
-        format!(", and so has {}", show_path(base))
+        format!(", and so has {}", text.path(base))
     };
     match text.explanation.steps[holder.step].how {
         How::Assumed => format!("{block} assumes {path}{so}"),
@@ -94,12 +94,12 @@ fn stopped(text: &Text, base: &Path, stop: &Stop) -> String {
     if stop.at == text.explanation.scope {
         return format!(
             "{has}, but {}",
-            reason(stop, At { to: &format!("to {at}"), from: &format!("from {at}"), it: &at })
+            reason(text, stop, At { to: &format!("to {at}"), from: &format!("from {at}"), it: &at })
         );
     }
     let on_the_way = if stop.way == Way::Aside { String::new() } else { format!("on the way to {scope} ") };
     let there = At { to: "there", from: "from there", it: &at };
-    format!("{has}, but {on_the_way}it stops at {at}: {}", reason(stop, there))
+    format!("{has}, but {on_the_way}it stops at {at}: {}", reason(text, stop, there))
 }
 
 /// The block at which a base stopped, in a sentence that may have named it.
@@ -109,7 +109,7 @@ struct At<'a> {
     it: &'a str,
 }
 
-fn reason(stop: &Stop, at: At) -> String {
+fn reason(text: &Text, stop: &Stop, at: At) -> String {
     match (&stop.why, stop.side) {
         (Why::Lacking(blocks), Side::Predecessors) => {
             format!("control can also come {} from {}, which does not have it", at.to, show_block(blocks[0]))
@@ -117,12 +117,12 @@ fn reason(stop: &Stop, at: At) -> String {
         (Why::Lacking(blocks), Side::Successors) => {
             format!("control can also go on {} to {}, which does not have it", at.from, show_block(blocks[0]))
         }
-        _ => other_reason(stop, at),
+        _ => other_reason(text, stop, at),
     }
 }
 
 /// The reasons that are the same in short and in full.
-fn other_reason(stop: &Stop, at: At) -> String {
+fn other_reason(text: &Text, stop: &Stop, at: At) -> String {
     let (control, comes) = match stop.side {
         Side::Predecessors => ("control comes from", format!("control comes {} from", at.to)),
         Side::Successors => ("control goes on to", format!("control goes on {} to", at.from)),
@@ -131,7 +131,7 @@ fn other_reason(stop: &Stop, at: At) -> String {
     match &stop.why {
         Why::Different { one, other } => {
             let has = |(block, path): &(BlockId, Path)| {
-                format!("{}, which has it by {}", show_block(*block), show_path(path))
+                format!("{}, which has it by {}", show_block(*block), text.path(path))
             };
             let (one, other) = (has(one), has(other));
             format!("{comes} {one}, and {joint} {other}; only a path that is the same in all is passed on")
@@ -145,7 +145,7 @@ fn other_reason(stop: &Stop, at: At) -> String {
 }
 
 /// Where the base stopped and why, with all blocks that are beside.
-fn stopped_in_full(stop: &Stop) -> String {
+fn stopped_in_full(text: &Text, stop: &Stop) -> String {
     let at = show_block(stop.at);
     let (control, joint) = match stop.side {
         Side::Predecessors => ("control comes there from", "from"),
@@ -161,7 +161,7 @@ fn stopped_in_full(stop: &Stop) -> String {
                 show_blocks(lacking)
             )
         }
-        _ => other_reason(stop, At { to: "there", from: "from there", it: &at }),
+        _ => other_reason(text, stop, At { to: "there", from: "from there", it: &at }),
     };
     format!("it stops at {at}: {reason}")
 }
