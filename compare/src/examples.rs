@@ -1,7 +1,7 @@
 //! Jobs by name, each of which tells a definition from one that is nearly the same. They stand at
-//! the end of the stored list; tests/examples.rs says what the Rust gives for each. Most are
-//! theorems of the same name in crates/model/specs/Examples.antt; docs/DIFFERENCES.md tells of the
-//! keys.
+//! the end of the stored list; tests/examples.rs says what the Rust gives for each. Those of walks
+//! and orders are, but for two, theorems of the same names in crates/model/specs/Examples.antt;
+//! docs/DIFFERENCES.md tells of the keys.
 
 use crate::job::Job;
 use crate::notation::{block, job};

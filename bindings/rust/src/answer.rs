@@ -33,7 +33,8 @@ impl Answer {
         (Self { rounds: 0, settled: false, paths: Vec::with_capacity(limits::CANDIDATES) }, spare)
     }
 
-    /// Makes of this the answer in these bytes. Paths are taken from the spare ones, and given back to them.
+    /// Makes of this the answer in these bytes. Paths are taken from the spare ones, and given back
+    /// to them.
     pub(crate) fn read(&mut self, bytes: &[u8], spare: &mut Vec<Path>) -> Result<(), Malformed> {
         let mut fields = Fields::new(bytes);
         fields.mark(*b"AN", "the mark AN")?;

@@ -1,4 +1,5 @@
-//! What keeps parts from making a job: which record, which of its fields, and what is wrong with it.
+//! What keeps parts from making a job: which record, which of its fields, and what is wrong with
+//! it.
 
 use crate::ids::BlockId;
 use crate::limits;
@@ -15,7 +16,8 @@ use std::fmt;
 ///     .build()
 ///     .unwrap_err();
 /// assert_eq!((unknown.record(), unknown.block()), (Record::Block(0), Some(BlockId(7))));
-/// assert_eq!((unknown.field(), unknown.wrong()), (Field::Predecessor(1), Wrong::Unknown(BlockId(9))));
+/// assert_eq!(unknown.field(), Field::Predecessor(1));
+/// assert_eq!(unknown.wrong(), Wrong::Unknown(BlockId(9)));
 /// assert_eq!(unknown.to_string(), "predecessor 9 of block 7 is no block of the job");
 /// ```
 #[derive(Clone, Copy, Debug, PartialEq, Eq, Hash)]
@@ -70,7 +72,8 @@ pub enum Wrong {
 }
 
 impl BuildError {
-    /// The block or the path in which it was found, by its place; the header for what is the job's own.
+    /// The block or the path in which it was found, by its place; the header for what is the job's
+    /// own.
     #[must_use]
     pub fn record(&self) -> Record {
         self.record

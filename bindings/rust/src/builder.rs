@@ -54,8 +54,8 @@ impl JobBuilder {
     ///
     /// # Errors
     ///
-    /// The first reason why these parts make no job: one of the [`limits`](crate::limits) is passed, an id stands twice,
-    /// or an id names no block.
+    /// The first reason why these parts make no job: one of the [`limits`](crate::limits) is
+    /// passed, an id stands twice, or an id names no block.
     pub fn build(self) -> Result<Job, BuildError> {
         let Self { scope, blocks, candidates } = self;
         Parts { scope, blocks: &blocks, candidates: &candidates }.check()?;

@@ -59,9 +59,9 @@ impl Block {
 
 /// A well-formed job. The stage refuses it at most by 9, [`Refusal::ManyNodes`].
 ///
-/// It is shown in the notation of `docs/NOTATION.md` and read from it. It keeps its bytes, which are written once, when it
-/// is built; two jobs are equal where their bytes are. Names that a text gives are kept beside them, and play no part in
-/// equality.
+/// It is shown in the notation of `docs/NOTATION.md` and read from it. It keeps its bytes, which
+/// are written once, when it is built; two jobs are equal where their bytes are. Names that a text
+/// gives are kept beside them, and play no part in equality.
 ///
 /// ```
 /// use scope_deps::{Block, BlockId, Job};

@@ -1,9 +1,10 @@
 //! The scope-dependency stage, for Rust.
 //!
-//! One stage of a build decides on which property paths of which variables a memoised piece of a page depends. It takes a
-//! [`Job`]: blocks with their predecessors and with the paths assumed to be there when a block runs, a scope block, and
-//! candidates. It gives an [`Answer`], the returned paths. The [`Sheet`] shows what it arrived at on the way: each
-//! block's set of paths known to be neither null nor undefined.
+//! One stage of a build decides on which property paths of which variables a memoised piece of a
+//! page depends. It takes a [`Job`]: blocks with their predecessors and with the paths assumed to
+//! be there when a block runs, a scope block, and candidates. It gives an [`Answer`], the returned
+//! paths. The [`Sheet`] shows what it arrived at on the way: each block's set of paths known to be
+//! neither null nor undefined.
 //!
 //! ```
 //! use scope_deps::{answer, Block, BlockId, Entry, IdentifierId, Job, Path, Property};
@@ -25,12 +26,14 @@
 //! # Ok::<(), Box<dyn std::error::Error>>(())
 //! ```
 //!
-//! The stage itself is the proved library behind the C interface; no answer and no sheet comes from anywhere else. Jobs,
-//! answers and sheets can be read and written as text (`docs/NOTATION.md`). [`explain`](mod@explain) says why each path is
-//! returned as it is, from a [`replay`] of the propagation, and [`draw`](mod@draw) makes a picture.
+//! The stage itself is the proved library behind the C interface; no answer and no sheet comes from
+//! anywhere else. Jobs, answers and sheets can be read and written as text (`docs/NOTATION.md`).
+//! [`explain`](mod@explain) says why each path is returned as it is, from a [`replay`] of the
+//! propagation, and [`draw`](mod@draw) makes a picture.
 //!
-//! Three features are on by default. `library` links the library; without it there are no `answer`, `sheet`, `Stage` and
-//! `raw`, and jobs are built, read and written. `explain` (with `replay`) and `draw` are the modules of these names.
+//! Three features are on by default. `library` links the library; without it there are no `answer`,
+//! `sheet`, `Stage` and `raw`, and jobs are built, read and written. `explain` and `draw` are the
+//! modules of these names, and `replay` belongs to `explain`.
 
 #![deny(missing_docs)]
 #![deny(unsafe_code)]
@@ -78,3 +81,8 @@ pub use refusal::{ManyNodes, Place, Record, Refusal};
 pub use sheet::{Node, Sheet};
 #[cfg(feature = "library")]
 pub use stage::{answer, sheet, Stage};
+
+/// Tests the examples of the package's README.
+#[cfg(all(doctest, feature = "library"))]
+#[doc = include_str!("../README.md")]
+struct Readme;

@@ -6,14 +6,16 @@ use std::fmt;
 
 /// Names for people: of variables, and of the properties whose key is a name.
 ///
-/// A job knows both by the host's numbers, and its bytes have nothing else. A text may give names, and use them in its
-/// paths; see `docs/NOTATION.md`. A [`Job`](crate::Job) that was read from such a text keeps them.
+/// A job knows both by the host's numbers, and its bytes have nothing else. A text may give names,
+/// and use them in its paths; see `docs/NOTATION.md`. A [`Job`](crate::Job) that was read from such
+/// a text keeps them.
 ///
 /// ```
 /// use scope_deps::{answer, Job, Names};
 ///
 /// let names: Names = "name 1 athlete  name .10 lastSession".parse()?;
-/// let job: Job = names.read_job("scope 7 block 7 assumes athlete candidate athlete?.lastSession.11")?;
+/// let text = "scope 7 block 7 assumes athlete candidate athlete?.lastSession.11";
+/// let job: Job = names.read_job(text)?;
 /// assert_eq!(job, "scope 7 block 7 assumes 1 candidate 1?.10.11".parse()?);
 /// let answer = answer(&job)?;
 /// assert_eq!(answer.paths()[0].with_names(&names).to_string(), "athlete.lastSession");
@@ -59,8 +61,8 @@ impl Names {
     ///
     /// # Errors
     ///
-    /// Where the text is no name, where what is named has one already, and where the name is that of another variable or of
-    /// another property.
+    /// Where the text is no name, where what is named has one already, and where the name is that
+    /// of another variable or of another property.
     pub fn insert(&mut self, named: Named, name: &str) -> Result<(), NameError> {
         check(named, name)?;
         if let Some(first) = self.names.get(&named) {
@@ -100,6 +102,7 @@ impl Names {
     }
 
     /// All names: those of variables, then those of properties, each by number.
+    #[must_use]
     pub fn iter(&self) -> impl ExactSizeIterator<Item = (Named, &str)> {
         self.names.iter().map(|(named, name)| (*named, name.as_str()))
     }

@@ -3,7 +3,8 @@
 use crate::ids::{IdentifierId, Span};
 use crate::limits;
 
-/// A property's key. Two are the same where kind and value are, so name 5 and number 5 differ, and so do +0 and −0.
+/// A property's key. Two are the same where kind and value are, so name 5 and number 5 differ, and
+/// so do +0 and −0.
 #[derive(Clone, Copy, Debug, PartialEq, Eq, Hash)]
 pub enum Property {
     /// A name, by the host's number for it.
@@ -59,8 +60,8 @@ impl Entry {
 
 /// A variable and its entries, of which a job takes at most 16.
 ///
-/// It is shown in the notation of `docs/NOTATION.md` and read from it; the alternate form (`{:#}`) leaves out `reactive`
-/// and spans.
+/// It is shown in the notation of `docs/NOTATION.md` and read from it; the alternate form (`{:#}`)
+/// leaves out `reactive` and spans.
 ///
 /// ```
 /// use scope_deps::{Entry, IdentifierId, Path, Property, Span};
@@ -101,7 +102,8 @@ impl Path {
         Self { span, ..self }
     }
 
-    /// The path with one more entry at its end. A job takes at most 16, as [`build`](crate::JobBuilder::build) checks.
+    /// The path with one more entry at its end. A job takes at most 16, as
+    /// [`build`](crate::JobBuilder::build) checks.
     #[must_use]
     pub fn then(mut self, entry: Entry) -> Self {
         self.entries.push(entry);
@@ -164,7 +166,8 @@ impl Path {
         (self.identifier, self.reactive, self.span) = (identifier, reactive, span);
     }
 
-    /// Whether this path's variable and properties start the other's. Optional marks and spans play no part.
+    /// Whether this path's variable and properties start the other's. Optional marks and spans play
+    /// no part.
     #[must_use]
     pub fn names_start(&self, other: &Self) -> bool {
         let paired = self.entries.iter().zip(&other.entries);
@@ -173,13 +176,15 @@ impl Path {
             && paired.into_iter().all(|(mine, theirs)| mine.property == theirs.property)
     }
 
-    /// Whether both read the same properties of the same variable. Optional marks and spans play no part.
+    /// Whether both read the same properties of the same variable. Optional marks and spans play no
+    /// part.
     #[must_use]
     pub fn same_names(&self, other: &Self) -> bool {
         self.entries.len() == other.entries.len() && self.names_start(other)
     }
 
-    /// Whether both are the same variable with the same properties and optional marks. Spans play no part.
+    /// Whether both are the same variable with the same properties and optional marks. Spans play
+    /// no part.
     #[must_use]
     pub fn same_entries(&self, other: &Self) -> bool {
         let mut paired = self.entries.iter().zip(&other.entries);

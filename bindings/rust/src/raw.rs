@@ -35,14 +35,15 @@ pub fn sheet(job: &[u8]) -> Result<Vec<u8>, Refusal> {
     written(|out| sheet_into(job, out))
 }
 
-/// Writes the answer to the start of `out` and gives its length. Bytes beyond it stay as they were; at a refusal all do.
+/// Writes the answer to the start of `out` and gives its length. Bytes beyond it stay as they were;
+/// at a refusal all do.
 ///
 /// The stage itself takes no memory but stack.
 ///
 /// # Errors
 ///
-/// The refusal from 1 to 9 that the stage gives these bytes. A buffer of fewer than [`limits::OUT_BYTES`] bytes is refused
-/// by 1.
+/// The refusal from 1 to 9 that the stage gives these bytes. A buffer of fewer than
+/// [`limits::OUT_BYTES`] bytes is refused by 1.
 pub fn answer_into(job: &[u8], out: &mut [u8]) -> Result<usize, Refusal> {
     interface::answer(job, out).map_err(|number| refusal(number, job))
 }

@@ -4,15 +4,17 @@ use std::fmt;
 
 /// Why the stage turned a job back. The names are those of the stage's own code.
 ///
-/// The stage gives a number. For 3 to 8 this crate's reader finds the place, for display only; it is `None` where that
-/// reader would not refuse by the same number.
+/// The stage gives a number. For 3 to 8 this crate's reader finds the place, for display only; it
+/// is `None` where that reader would not refuse by the same number.
 ///
 /// ```
 /// use scope_deps::{Job, Record, Refusal};
 ///
 /// // A header of one block and no candidate, and then another mark than `BL`.
 /// match Job::from_bytes(b"HD\x01\0\0\0\x07\0\0\0CA") {
-///     Err(Refusal::WrongMark(Some(place))) => assert_eq!((place.byte, place.record), (10, Record::Block(0))),
+///     Err(Refusal::WrongMark(Some(place))) => {
+///         assert_eq!((place.byte, place.record), (10, Record::Block(0)));
+///     }
 ///     other => panic!("{other:?}"),
 /// }
 /// ```

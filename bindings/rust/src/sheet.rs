@@ -3,7 +3,7 @@
 use crate::bytes::{Fault, Fields, Malformed};
 use crate::ids::{BlockId, IdentifierId, NodeId, Span};
 use crate::limits;
-use crate::node_set::NodeSet;
+pub(crate) use crate::node_set::NodeSet;
 use crate::path::{Entry, Path};
 
 /// What propagation arrived at for a job.
@@ -96,7 +96,8 @@ impl Sheet {
         self.sets.iter().find(|(id, _)| *id == block).map(|(_, set)| set)
     }
 
-    /// A node's path, from its variable on: each entry with the span of the entry that made its node.
+    /// A node's path, from its variable on: each entry with the span of the entry that made its
+    /// node.
     ///
     /// # Panics
     ///
@@ -111,7 +112,6 @@ impl Sheet {
     }
 
     /// The paths of a block's set, by node number.
-    #[must_use]
     pub fn paths(&self, block: BlockId) -> impl Iterator<Item = Path> + '_ {
         self.set(block).into_iter().flat_map(NodeSet::iter).map(|node| self.path(node))
     }

@@ -12,19 +12,17 @@ use std::fmt;
 
 /// The stage, for one job after the other.
 ///
-/// Its buffers are allocated once, when it is made. A job has its bytes already, and the answer or the sheet is read into
-/// what the one before has left. So no call allocates.
+/// Its buffers are allocated once, when it is made. A job has its bytes already, and the answer or
+/// the sheet is read into what the one before has left. So no call allocates.
 ///
 /// ```
 /// use scope_deps::{Job, Stage};
 ///
-/// let jobs: [Job; 2] = ["scope 7 block 7 assumes 1 candidate 1.10".parse()?, "scope 7 block 7 candidate 1.10".parse()?];
 /// let mut stage = Stage::new();
-/// let mut plain = 0;
-/// for job in &jobs {
-///     plain += stage.answer(job)?.iter().filter(|path| !path.entries().is_empty()).count();
+/// for (assumed, returned) in [("1", "1.10"), ("2", "1")] {
+///     let job: Job = format!("scope 7 block 7 assumes {assumed} candidate 1.10").parse()?;
+///     assert_eq!(stage.answer(&job)?.paths()[0].to_string(), returned);
 /// }
-/// assert_eq!(plain, 1);
 /// # Ok::<(), Box<dyn std::error::Error>>(())
 /// ```
 pub struct Stage {
@@ -48,6 +46,10 @@ impl Stage {
     /// # Errors
     ///
     /// Where the registry has more than 512 nodes when propagation ends.
+    ///
+    /// # Panics
+    ///
+    /// Where the library that is linked is another than the stage's.
     pub fn answer(&mut self, job: &Job) -> Result<&Answer, ManyNodes> {
         let written = only_many_nodes(interface::answer(job.as_bytes(), &mut self.out))?;
         self.answer
@@ -61,6 +63,10 @@ impl Stage {
     /// # Errors
     ///
     /// Where the registry has more than 512 nodes when propagation ends.
+    ///
+    /// # Panics
+    ///
+    /// Where the library that is linked is another than the stage's.
     pub fn sheet(&mut self, job: &Job) -> Result<&Sheet, ManyNodes> {
         let written = only_many_nodes(interface::sheet(job.as_bytes(), &mut self.out))?;
         self.sheet.read(&self.out[..written]).expect("the stage writes sheets of its format");
@@ -71,8 +77,8 @@ impl Stage {
     ///
     /// # Errors
     ///
-    /// The refusal from 2 to 9 that the stage gives these bytes. To find its place this crate's reader reads the job, and
-    /// that allocates.
+    /// The refusal from 2 to 9 that the stage gives these bytes. To find its place this crate's
+    /// reader reads the job, and that allocates.
     pub fn answer_bytes(&mut self, job: &[u8]) -> Result<&[u8], Refusal> {
         let written = raw::answer_into(job, &mut self.out)?;
         Ok(&self.out[..written])
@@ -116,7 +122,12 @@ fn only_many_nodes(returned: Result<usize, u8>) -> Result<usize, ManyNodes> {
 ///
 /// # Errors
 ///
-/// Where the registry has more than 512 nodes when propagation ends. A [`Job`] is refused for nothing else.
+/// Where the registry has more than 512 nodes when propagation ends. A [`Job`] is refused for
+/// nothing else.
+///
+/// # Panics
+///
+/// Where the library that is linked is another than the stage's.
 ///
 /// ```
 /// use scope_deps::{answer, Job};
@@ -140,6 +151,10 @@ pub fn answer(job: &Job) -> Result<Answer, ManyNodes> {
 /// # Errors
 ///
 /// Where the answer is refused too: the registry has more than 512 nodes when propagation ends.
+///
+/// # Panics
+///
+/// Where the library that is linked is another than the stage's.
 ///
 /// ```
 /// use scope_deps::{sheet, BlockId, Job};

@@ -90,7 +90,8 @@ fn the_job_is_not_too_long() {
 #[test]
 fn a_job_of_exactly_the_most_bytes_is_built() {
     let rest = limits::JOB_BYTES - 10 - 8;
-    // Paths of 12 + 14 e bytes: 138 of 236 leave 182, and 182 = 2 * 12 + 14 * 11 + 4, of which 4 are a predecessor.
+    // Paths of 12 + 14 e bytes: 138 of 236 leave 182, and 182 = 2 * 12 + 14 * 11 + 4, of which 4
+    // are a predecessor.
     assert_eq!(rest - 138 * 236 - 2 * 12 - 14 * 11, 4);
     let block = Block::new(BlockId(0)).after([BlockId(0)]).assuming(paths(138, 16));
     let job = Job::builder(BlockId(0)).block(block.assuming([path(11)])).candidate(path(0)).build().unwrap();

@@ -169,7 +169,8 @@ fn dumps_are_read() {
 #[test]
 fn dumps_as_they_are_printed() {
     let bytes = "scope 7 block 7 assumes 0, 0, 0, 0, 0 candidate 1";
-    let xxd = "00000000: 4844 0100 0000 7c7c 2020 424c 7c7c 2020  HD....||  BL||  \n00000010: 0000                                     ..\n";
+    let xxd = "00000000: 4844 0100 0000 7c7c 2020 424c 7c7c 2020  HD....||  BL||  \n\
+               00000010: 0000                                     ..\n";
     let back = "scope 538999932\nblock 538999932\n";
     assert_eq!(text(&["decode", "--from", "hex"], xxd), back);
     assert_eq!(text(&["decode", "--from", "hex"], "48440100 00007c7c\n2020424c 7c7c2020/0000"), back);

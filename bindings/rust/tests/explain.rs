@@ -47,28 +47,24 @@ candidate athlete.lastSession.beats
                   block 1 assumes athlete.lastSession, but control can also come to block 2 from block 0, which does not have it
 "
     );
-}
-
-#[test]
-fn in_full_every_stop_and_every_step_is_told() {
     assert_eq!(
-        full("scope 2 block 0 assumes 1 block 1 after 0 assumes 1.10 block 2 after 0, 1 candidate 1.10.11"),
+        full(&job),
         "\
-candidate 1.10.11
- returned 1.10
-    .10  stays plain: 1 is known to be there in block 2 [1]
-    .11  is cut: 1.10 is not known to be there in block 2
-         1.10 is there in block 1 [2]
-         it stops at block 2: control comes there from block 1, which has it, but also from block 0, which does not
-         it stops at block 0: control goes on from there to block 1, which has it, but also to block 2, which does not
+candidate athlete.lastSession.beats
+ returned athlete.lastSession
+    .lastSession  stays plain: athlete is known to be there in block 2 [1]
+    .beats        is cut: athlete.lastSession is not known to be there in block 2
+                  athlete.lastSession is there in block 1 [2]
+                  it stops at block 2: control comes there from block 1, which has it, but also from block 0, which does not
+                  it stops at block 0: control goes on from there to block 1, which has it, but also to block 2, which does not
 
-[1] how 1 came there
-    block 0 assumes 1
-    block 1 took 1 over from block 0, the only block that control comes from
-    block 2 took 1 over from blocks 0 and 1, all the blocks that control comes from
+[1] how athlete came there
+    block 0 assumes athlete
+    block 1 took athlete over from block 0, the only block that control comes from
+    block 2 took athlete over from blocks 0 and 1, all the blocks that control comes from
 
-[2] how 1.10 came there
-    block 1 assumes 1.10
+[2] how athlete.lastSession came there
+    block 1 assumes athlete.lastSession
 "
     );
 }

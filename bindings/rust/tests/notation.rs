@@ -86,7 +86,8 @@ fn the_specifications_reductions_and_graphs() {
 
 #[test]
 fn a_text_is_free_in_its_lines_and_comments() {
-    let wide = "# a job\nscope 7\n\n\tblock 7 # the scope\n  after 7,\n 8\n assumes 1.2, 3\n assumes 4\nblock 8\ncandidate 5,6\r\ncandidate 7";
+    let wide = "# a job\nscope 7\n\n\tblock 7 # the scope\n  after 7,\n 8\n assumes 1.2, 3\n assumes 4\n\
+                block 8\ncandidate 5,6\r\ncandidate 7";
     let job: Job = wide.parse().unwrap();
     let text = "scope 7\nblock 7 after 7, 8\n  assumes 1.2\n  assumes 3\n  assumes 4\nblock 8\n\
                 candidate 5\ncandidate 6\ncandidate 7\n";

@@ -27,10 +27,6 @@ use Rattle.job.proofs.Passing.{not-both}
 use Rattle.job.proofs.RecordParts.{BlockParts, block-parts}
 use Rattle.job.proofs.BlocksAt.{blocks-read, block-there}
 use Rattle.assumed.specs.declared.EnteredSet.{EnteredSet}
-<<<<<<< HEAD
-=======
-use Rattle.paths.specs.Enters.{IsRead}
->>>>>>> p2
 use Rattle.assumed.specs.Start.{assumedAt, FillsBy, Fills, StartHeld}
 use Rattle.assumed.proofs.Filling.{paths-extend}
 

@@ -19,11 +19,7 @@ use Rattle.job.specs.Passing.{IsRead, orNone}
 use Rattle.job.proofs.Many.{many-first}
 use Rattle.paths.specs.declared.EnteredPath.{EnteredPath}
 use Rattle.paths.specs.declared.EnteredPath.the-variants as path
-<<<<<<< HEAD
 use Rattle.paths.specs.Enters.{Enters}
-=======
-use Rattle.paths.specs.Enters.{IsRead, Enters}
->>>>>>> p2
 use Rattle.assumed.specs.Start.{pathsAt}
 
 -- Entering paths only adds nodes.

@@ -3,16 +3,12 @@ ghost use mathlib.Core.List.{[]};
 ghost use Prim.Native.Nat.{_≤_};
 ghost use Rattle.rows.specs.Rows.{Lent};
 ghost use Rattle.registry.specs.Words.{registryOf, Held, HoldsNone};
-ghost use Rattle.paths.specs.Enters.{IsRead};
 ghost use Rattle.model.specs.Read.{readMany};
 ghost use Rattle.model.specs.Job.{PA, readPath, readBlock};
 ghost use Rattle.model.specs.Answer.{spanWidth};
 ghost use Rattle.model.specs.Stage.{enterPaths, enterBlocks};
 ghost use Rattle.job.specs.Kept.{blocksOf, PlacedJob};
-<<<<<<< HEAD
 ghost use Rattle.job.specs.Passing.{IsRead};
-=======
->>>>>>> p2
 ghost use Rattle.assumed.specs.Start.{pathsAt, assumedAt, Fills, Starts};
 use fields::Passed;
 use job::ReadBlockHead;

@@ -1,4 +1,5 @@
-//! Bytes from a dump: hexadecimal digits alone, as `xxd -p` prints them, or what `xxd` or `hexdump -C` prints.
+//! Bytes from a dump: hexadecimal digits alone, as `xxd -p` prints them, or what `xxd` or `hexdump
+//! -C` prints.
 
 /// A line of a dump.
 struct Line<'t> {

@@ -62,7 +62,8 @@ impl Input {
         self.parsed(str::parse)
     }
 
-    /// The form in which the job seems to be. A job's bytes start with `HD`, and hold zeros, which no text does.
+    /// The form in which the job seems to be. A job's bytes start with `HD`, and hold zeros, which
+    /// no text does.
     pub fn looks_like(&self) -> Form {
         let is_control = |byte: &u8| byte.is_ascii_control() && !byte.is_ascii_whitespace();
         let in_utf_16 = UTF_16.iter().any(|mark| self.bytes.starts_with(mark));

@@ -85,7 +85,8 @@ fn asks_for_help(words: &[&str]) -> bool {
 
 impl Run {
     fn read(command: Command, words: &[&str]) -> Result<Self, Failure> {
-        let mut run = Self { command, input: None, output: None, from: None, names: None, bytes: false, all: false };
+        let mut run =
+            Self { command, input: None, output: None, from: None, names: None, bytes: false, all: false };
         let (mut files, mut options_end) = (Vec::new(), false);
         let mut words = words.iter().copied();
         while let Some(word) = words.next() {

@@ -3,11 +3,7 @@
 use super::failure::Failure;
 use super::input::Input;
 use super::options::{Command, Run};
-#[cfg(feature = "explain")]
-use scope_deps::explain::{explain, Mismatch};
-use scope_deps::{answer, raw, sheet, Job, Refusal};
-#[cfg(feature = "explain")]
-use scope_deps::{Answer, Sheet};
+use scope_deps::{answer, raw, sheet, Answer, Job, ManyNodes, Refusal, Sheet};
 
 /// What the command makes of the job that was read.
 pub fn made(run: &Run, input: &Input, job: &Job) -> Result<Vec<u8>, Failure> {
@@ -23,47 +19,42 @@ pub fn made(run: &Run, input: &Input, job: &Job) -> Result<Vec<u8>, Failure> {
             let sheet = sheet(job).map_err(|why| refused(why.into()))?;
             Ok(sheet.with_names(job.names()).to_string().into_bytes())
         }
-        Command::Explain => explained(run, input, job),
-        Command::Draw => drawn(input, job),
+        Command::Explain => asked(run, input, job, explained),
+        Command::Draw => asked(run, input, job, drawn),
         Command::Encode | Command::Decode => unreachable!("these ask nothing of the stage"),
     }
 }
 
-/// What the stage says of a job, for a command that needs both.
-#[cfg(feature = "explain")]
-fn sheet_and_answer(input: &Input, job: &Job) -> Result<(Sheet, Answer), Failure> {
-    let both = sheet(job).and_then(|sheet| Ok((sheet, answer(job)?)));
-    both.map_err(|why| Failure::Refused { place: input.place.clone(), why: why.into() })
+/// What is made of a job with its sheet and its answer.
+fn asked(
+    run: &Run,
+    input: &Input,
+    job: &Job,
+    make: impl Fn(&Run, &Job, &Sheet, &Answer) -> Result<String, Failure>,
+) -> Result<Vec<u8>, Failure> {
+    let refused = |why: ManyNodes| Failure::Refused { place: input.place.clone(), why: why.into() };
+    let (sheet, answer) = (sheet(job).map_err(refused)?, answer(job).map_err(refused)?);
+    make(run, job, &sheet, &answer).map(String::into_bytes)
 }
 
-/// That the replay of the job and the library differ.
 #[cfg(feature = "explain")]
-fn differs(input: &Input, why: Mismatch) -> Failure {
-    Failure::Form { place: input.place.clone(), why: why.to_string() }
-}
-
-#[cfg(feature = "explain")]
-fn explained(run: &Run, input: &Input, job: &Job) -> Result<Vec<u8>, Failure> {
-    let (sheet, answer) = sheet_and_answer(input, job)?;
-    let explanation = explain(job, &sheet, &answer).map_err(|why| differs(input, why))?;
-    let text = if run.all { explanation.in_full().to_string() } else { explanation.to_string() };
-    Ok(text.into_bytes())
+fn explained(run: &Run, job: &Job, sheet: &Sheet, answer: &Answer) -> Result<String, Failure> {
+    let explanation = scope_deps::explain::explain(job, sheet, answer).map_err(Failure::Mismatch)?;
+    Ok(if run.all { explanation.in_full().to_string() } else { explanation.to_string() })
 }
 
 #[cfg(not(feature = "explain"))]
-fn explained(_: &Run, _: &Input, _: &Job) -> Result<Vec<u8>, Failure> {
+fn explained(_: &Run, _: &Job, _: &Sheet, _: &Answer) -> Result<String, Failure> {
     Err(Failure::BuiltWithout("explain"))
 }
 
 #[cfg(feature = "draw")]
-fn drawn(input: &Input, job: &Job) -> Result<Vec<u8>, Failure> {
-    let (sheet, answer) = sheet_and_answer(input, job)?;
-    let picture = scope_deps::draw::draw(job, &sheet, &answer).map_err(|why| differs(input, why))?;
-    Ok(picture.into_bytes())
+fn drawn(_: &Run, job: &Job, sheet: &Sheet, answer: &Answer) -> Result<String, Failure> {
+    scope_deps::draw::draw(job, sheet, answer).map_err(Failure::Mismatch)
 }
 
 #[cfg(not(feature = "draw"))]
-fn drawn(_: &Input, _: &Job) -> Result<Vec<u8>, Failure> {
+fn drawn(_: &Run, _: &Job, _: &Sheet, _: &Answer) -> Result<String, Failure> {
     Err(Failure::BuiltWithout("draw"))
 }
 

@@ -59,8 +59,6 @@ use std::fmt;
 /// Why each candidate's returned path is what it is.
 #[derive(Clone, Debug)]
 pub struct Explanation {
-    /// The job's names, with which paths are shown.
-    pub names: Names,
     /// The scope block.
     pub scope: BlockId,
     /// Whether the last round changed nothing; else the stage stopped after 100 rounds.
@@ -70,6 +68,8 @@ pub struct Explanation {
     /// How blocks came to have the paths that the reasons speak of. Reasons and steps have places
     /// in this list.
     pub steps: Vec<Step>,
+    /// The job's names, by which paths are shown.
+    pub names: Names,
 }
 
 /// Why one candidate's returned path is what it is.
@@ -129,8 +129,13 @@ pub fn explain(job: &Job, sheet: &Sheet, answer: &Answer) -> Result<Explanation,
     let mut bases = Bases::new(job, &replay)?;
     let reason = |candidate| reason(job, &mut bases, candidate, returned_for(candidate, answer)?);
     let reasons = job.candidates().iter().map(reason).collect::<Result<_, _>>()?;
-    let (names, scope) = (job.names().clone(), job.scope());
-    Ok(Explanation { names, scope, settled: replay.is_settled(), reasons, steps: bases.into_steps() })
+    Ok(Explanation {
+        scope: job.scope(),
+        settled: replay.is_settled(),
+        reasons,
+        steps: bases.into_steps(),
+        names: job.names().clone(),
+    })
 }
 
 /// The one returned path with the candidate's identifier and a prefix of its names.

@@ -9,7 +9,8 @@ pub(crate) struct Position {
     pub(crate) column: usize,
 }
 
-/// Why a text is no job or no path, with the line and the column, both counted from 1 and columns in characters.
+/// Why a text is no job or no path, with the line and the column, both counted from 1 and columns
+/// in characters.
 #[derive(Clone, Debug, PartialEq, Eq, Hash)]
 pub struct NotationError {
     position: Position,
@@ -39,8 +40,8 @@ impl NotationError {
         &self.message
     }
 
-    /// The line of `text` that the error is in, and a mark under the column. Of a long line there is what stands around
-    /// the column.
+    /// The line of `text` that the error is in, and a mark under the column. Of a long line there
+    /// is what stands around the column.
     ///
     /// ```
     /// let text = "scope 7\nblock 7 after x";

@@ -21,7 +21,8 @@ impl Names {
         whole_path(text, self)
     }
 
-    /// The job in a text, which may use these names. The job has them, and those that the text gives.
+    /// The job in a text, which may use these names. The job has them, and those that the text
+    /// gives.
     ///
     /// # Errors
     ///

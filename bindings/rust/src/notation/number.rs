@@ -57,7 +57,8 @@ fn bits_of(text: &str) -> Result<u64, String> {
 /// Numbers from here on are shown with an exponent, as in JavaScript.
 const LARGE: f64 = 1e21;
 
-/// Shows bits so that [`bits`] reads them back: as a number, or as bits where a number would say too little.
+/// Shows bits so that [`bits`] reads them back: as a number, or as bits where a number would say
+/// too little.
 pub(super) fn show_bits(bits: u64, f: &mut fmt::Formatter<'_>) -> fmt::Result {
     let value = f64::from_bits(bits);
     if bits == f64::NAN.to_bits() {

@@ -1,4 +1,5 @@
-//! Paths and what has paths, shown with names where there are any. All that is shown of a path is shown here.
+//! Paths and what has paths, shown with names where there are any. All that is shown of a path is
+//! shown here.
 
 use super::number::show_bits;
 use crate::answer::Answer;
@@ -8,7 +9,8 @@ use crate::path::{Entry, Path, Property};
 use crate::sheet::Sheet;
 use std::fmt;
 
-/// Something shown with names: `athlete.lastSession`, and not `1.10`. What has no name is shown by its number.
+/// Something shown with names: `athlete.lastSession`, and not `1.10`. What has no name is shown by
+/// its number.
 ///
 /// The alternate form (`{:#}`) of a path or an entry leaves out `reactive` and spans.
 #[derive(Clone, Copy, Debug)]

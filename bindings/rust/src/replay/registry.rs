@@ -88,6 +88,6 @@ impl Registry {
         let (root, entries) = self.from_root(node);
         let root = &self.nodes[usize::from(root.0)];
         let variable = Path::new(root.identifier).with_reactive(root.reactive).with_span(root.span);
-        entries.into_iter().fold(variable, Path::then)
+        variable.with_entries(entries)
     }
 }

@@ -65,8 +65,8 @@ fn check(job: &Job, kinds: &mut Kinds) -> Option<Explanation> {
 fn with_candidates(job: &Job, scope: usize) -> Option<Job> {
     let blocks = job.blocks().iter().cloned().fold(Job::builder(job.blocks()[scope].id()), JobBuilder::block);
     let assumed = job.blocks().iter().flat_map(|block| block.assumed());
-    let shorter = assumed.filter(|path| path.entries().len() < limits::ENTRIES);
-    let longer = shorter.enumerate().map(|(number, path)| {
+    let longer = assumed.filter(|path| path.entries().len() < limits::ENTRIES);
+    let longer = longer.enumerate().map(|(number, path)| {
         let property = Property::Name(77);
         let entry = if number % 2 == 0 { Entry::plain(property) } else { Entry::optional(property) };
         path.clone().then(entry)

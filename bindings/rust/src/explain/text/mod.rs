@@ -6,9 +6,10 @@ mod show;
 mod unknown;
 
 use super::{Base, End, Explanation, Reason};
-use crate::path::Entry;
+use crate::path::{Entry, Path};
 use known::known;
 use sections::Sections;
+use show::{show_entry, show_path};
 use std::fmt;
 use unknown::unknown;
 
@@ -53,7 +54,7 @@ impl fmt::Display for InFull<'_> {
     fn fmt(&self, f: &mut fmt::Formatter<'_>) -> fmt::Result {
         let text = Text { explanation: self.0, sections: Some(Sections::new(self.0)) };
         text.candidates(f)?;
-        text.sections.iter().try_for_each(|sections| sections.write(&text, f))
+        text.sections.iter().try_for_each(|sections| sections.write(f))
     }
 }
 
@@ -65,6 +66,15 @@ struct Text<'a> {
 }
 
 impl Text<'_> {
+    /// A path, by its names.
+    fn path(&self, path: &Path) -> String {
+        show_path(path, &self.explanation.names)
+    }
+
+    fn entry(&self, entry: &Entry) -> String {
+        show_entry(entry, &self.explanation.names)
+    }
+
     fn candidates(&self, f: &mut fmt::Formatter<'_>) -> fmt::Result {
         if self.explanation.reasons.is_empty() {
             writeln!(f, "the job has no candidate, so no path is returned")?;
@@ -88,7 +98,7 @@ impl Text<'_> {
         if said.is_empty() {
             return vec!["the variable itself is returned".to_string()];
         }
-        let width = entries.clone().take(said.len()).map(|entry| entry.len()).max().unwrap_or(0);
+        let width = entries.clone().take(said.len()).map(|entry| entry.chars().count()).max().unwrap_or(0);
         let in_front = |entry: String| std::iter::once(entry).chain(std::iter::repeat(String::new()));
         let lines = entries.zip(said).flat_map(|(entry, said)| in_front(entry).zip(said).collect::<Vec<_>>());
         lines.map(|(entry, line)| format!("{entry:width$}  {line}")).collect()

@@ -1,14 +1,15 @@
 //! The steps by which paths came to blocks, in words: a section for each path, whatever its forms.
 
-use super::show::{listed, show_block, show_blocks};
-use super::Text;
+use super::show::{listed, show_block, show_blocks, show_path};
 use crate::explain::{Explanation, How, Step};
 use crate::ids::BlockId;
+use crate::names::Names;
 use crate::replay::Side;
 use std::fmt;
 
 pub(super) struct Sections<'a> {
     steps: &'a [Step],
+    names: &'a Names,
     /// The steps of each section, in the order in which they happened.
     sections: Vec<Vec<usize>>,
     /// The section of each step.
@@ -32,7 +33,7 @@ impl<'a> Sections<'a> {
         for section in &mut sections {
             section.sort_by_key(|&step| (steps[step].how.moment(), steps[step].block));
         }
-        Self { steps, sections, section_of }
+        Self { steps, names: &explanation.names, sections, section_of }
     }
 
     /// The numbers of the sections that have these steps.
@@ -44,25 +45,27 @@ impl<'a> Sections<'a> {
         format!("[{}]", numbers.join(", "))
     }
 
-    pub(super) fn write(&self, text: &Text, f: &mut fmt::Formatter<'_>) -> fmt::Result {
+    pub(super) fn write(&self, f: &mut fmt::Formatter<'_>) -> fmt::Result {
         for (number, section) in self.sections.iter().enumerate() {
-            let path = section.last().map(|&step| text.path(&self.steps[step].path)).unwrap_or_default();
+            let path = section.last().map(|&step| self.path(step)).unwrap_or_default();
             writeln!(f, "\n[{}] how {path} came there", number + 1)?;
-            section
-                .iter()
-                .try_for_each(|&step| writeln!(f, "    {}", self.sentence(text, &self.steps[step])))?;
+            section.iter().try_for_each(|&step| writeln!(f, "    {}", self.sentence(&self.steps[step])))?;
         }
         Ok(())
     }
 
-    fn sentence(&self, text: &Text, step: &Step) -> String {
-        let (block, path) = (show_block(step.block), text.path(&step.path));
+    /// The path of a step.
+    fn path(&self, step: usize) -> String {
+        show_path(&self.steps[step].path, self.names)
+    }
+
+    fn sentence(&self, step: &Step) -> String {
+        let (block, path) = (show_block(step.block), show_path(&step.path, self.names));
         match &step.how {
             How::Assumed => format!("{block} assumes {path}"),
             How::Made { from, bases, .. } => {
-                let bases: Vec<String> =
-                    bases.iter().map(|&base| text.path(&self.steps[base].path)).collect();
-                let from = text.path(&self.steps[*from].path);
+                let bases: Vec<String> = bases.iter().map(|&base| self.path(base)).collect();
+                let from = self.path(*from);
                 format!("{block} made {from} into {path}, since it had {}", listed(&bases))
             }
             How::TookOver { side, from, left_out, .. } => {

@@ -1,19 +1,17 @@
 //! How paths, entries and blocks are written. All text of explanations goes through here.
 
-use super::Text;
 use crate::ids::BlockId;
+use crate::names::Names;
 use crate::path::{Entry, Path};
 
-impl Text<'_> {
-    /// A path with the job's names, without spans.
-    pub(super) fn path(&self, path: &Path) -> String {
-        format!("{:#}", path.with_names(&self.explanation.names))
-    }
+/// A path, without spans.
+pub(super) fn show_path(path: &Path, names: &Names) -> String {
+    format!("{:#}", path.with_names(names))
+}
 
-    /// An entry with the job's names, without its span.
-    pub(super) fn entry(&self, entry: &Entry) -> String {
-        format!("{:#}", entry.with_names(&self.explanation.names))
-    }
+/// An entry, without its span.
+pub(super) fn show_entry(entry: &Entry, names: &Names) -> String {
+    format!("{:#}", entry.with_names(names))
 }
 
 /// A block.
