@@ -4,6 +4,7 @@ ghost use Prim.Native.Nat.{_≤_, _<_};
 ghost use lib.ListN.{length};
 ghost use Rattle.model.specs.Answer.{leastBuffer, answerOf, sheetOf, bufferAfter, numberReturned};
 ghost use Rattle.rows.specs.Rows.{Lent};
+ghost use Rattle.registry.specs.Words.{HoldsNone};
 ghost use Rattle.stage.specs.declared.Operation.the-variants.{Answer};
 ghost use Rattle.edges.specs.Fills.{NotedJob};
 ghost use Rattle.model.specs.Propagation.{doneNeighbours};
@@ -36,7 +37,7 @@ fn propagate(
     optional: &mut [u64; 8],
     sets: &mut [u64; 1024],
 ) -> Propagated
-    requires { ⌜ NotedJob (now s) (now ids) (now places) blocks × (length (now ws) ≡ 1665) × Lent (now sets) ⌝ }
+    requires { ⌜ NotedJob (now s) (now ids) (now places) blocks × HoldsNone (now ws) (now optional) × Lent (now sets) ⌝ }
     ensures { λ r. ⌜ PropagatesJob doneNeighbours (now (s .entry)) blocks r (now (sets .exit)) (now (ws .exit)) (now (optional .exit)) ⌝ }
 {
     let entered = assumed::enter_blocks(s, places, blocks, ws, optional, sets);

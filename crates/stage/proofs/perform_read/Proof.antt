@@ -8,6 +8,7 @@ use borrow.Author.Needs.{needs}
 use Rattle.model.specs.Propagation.{doneNeighbours}
 use Rattle.model.specs.Stage.{propagated}
 use Rattle.laws.specs.Fits.{rounds-fit}
+use Rattle.registry.proofs.Noted.{zeros-hold-none}
 use Rattle.propagation.proofs.Answers.{propagated-ran, propagated-full, propagated-rounds}
 use Rattle.stage.proofs.Propagating.{job-propagated}
 use Rattle.stage.proofs.Performing.{refuses, stands-written, full-refused, room-written}
@@ -17,7 +18,7 @@ use Rattle.stage.proofs.perform_read.Tie as tie
 propagate-requires : tie.Need-propagate-requires
 propagate-requires c κs =
     let a = c .before .before .before .before .before in
-    (a .pre .0 .noted, length-replicate {A = ℕ} 1665 0, record { long = length-replicate {A = ℕ} 1024 0 })
+    (a .pre .0 .noted, zeros-hold-none, record { long = length-replicate {A = ℕ} 1024 0 })
 
 returns : tie.Need-returns
 returns c =
