@@ -4,7 +4,7 @@ use super::failure::Failure;
 use super::help;
 use super::input::{Form, Input};
 use super::options::{Command, Request, Run};
-use scope_deps::draw::draw;
+use scope_deps::draw::{draw, draw_focused};
 use scope_deps::explain::explain;
 use scope_deps::{answer, raw, sheet, Job, Refusal};
 use std::fs;
@@ -55,6 +55,7 @@ fn made(run: &Run, job: &Job) -> Result<Vec<u8>, Refusal> {
             explanation.expect("sheet and answer are the job's").to_string().into_bytes()
         }
         Command::Draw => {
+            let draw = if run.focus { draw_focused } else { draw };
             draw(job, &sheet(job)?, &answer(job)?).expect("sheet and answer are the job's").into_bytes()
         }
     })

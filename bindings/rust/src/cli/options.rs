@@ -44,6 +44,8 @@ pub struct Run {
     pub from: Option<Form>,
     /// Whether an answer or a sheet is written in bytes.
     pub bytes: bool,
+    /// Whether a picture has only the blocks that matter to the candidates.
+    pub focus: bool,
 }
 
 /// The words of the command line.
@@ -78,7 +80,7 @@ impl Request {
 
 impl Run {
     fn read(command: Command, words: &[&str]) -> Result<Self, Failure> {
-        let mut run = Self { command, input: None, output: None, from: None, bytes: false };
+        let mut run = Self { command, input: None, output: None, from: None, bytes: false, focus: false };
         let mut named = None;
         let mut words = words.iter();
         while let Some(&word) = words.next() {
@@ -86,6 +88,7 @@ impl Run {
                 "-o" | "--output" => run.output = Some(value(word, words.next())?.to_string()),
                 "--from" => run.from = Some(form(value(word, words.next())?)?),
                 "--bytes" if matches!(command, Command::Answer | Command::Sheet) => run.bytes = true,
+                "--focus" if command == Command::Draw => run.focus = true,
                 option if option.starts_with('-') && option != "-" => {
                     return Err(misused(format!("`{option}` is no option of this command")));
                 }

@@ -1,38 +1,83 @@
 //! The arrows between blocks.
 
-use super::boxes::{BlockBox, OWN_ARROW};
+use super::boxes::OWN_ARROW;
 use super::layers::{Arrow, Layers};
-use super::place::Placed;
-use super::svg::Svg;
-use std::fmt::Write;
+use super::line::Line;
+use super::place::{Extent, Placed};
+use super::style;
+use super::svg::{Look, Stroke, Svg};
+use super::view::View;
 
 /// The most space between the ends of two arrows at one block.
 const BETWEEN_ENDS: f64 = 22.0;
 
-pub(super) fn draw(layers: &Layers, placed: &Placed, boxes: &[BlockBox], svg: &mut Svg) {
-    let ends = Ends::new(layers, placed, boxes);
-    for (place, arrow) in layers.arrows.iter().enumerate() {
-        let path = path(arrow, placed, boxes, ends.starts[place], ends.finishes[place]);
-        svg.arrow(&path, arrow.closes_loop, arrow.straight, &title(arrow, boxes));
-    }
-    for &block in &layers.own_predecessors {
-        let at = placed.at(block);
-        let left = at.x - boxes[block].width / 2.0;
-        let (out, y) = (OWN_ARROW - 4.0, at.y);
-        svg.arrow(
-            &format!("M{left:.1} {:.1}c-{out} -8 -{out} 28 0 18", y + 8.0),
-            true,
-            false,
-            "its own predecessor",
-        );
-    }
+/// What is drawn, and where.
+pub(super) struct Drawn<'a> {
+    pub(super) view: &'a View,
+    pub(super) layers: &'a Layers,
+    pub(super) placed: &'a Placed,
+    /// By number in the view: the room, and what the arrows' titles say.
+    pub(super) extents: &'a [Extent],
+    pub(super) names: &'a [String],
 }
 
-/// From which block to which the arrow goes.
-fn title(arrow: &Arrow, boxes: &[BlockBox]) -> String {
-    let (upper, lower) = (&boxes[arrow.points[0]].head, &boxes[arrow.points[arrow.points.len() - 1]].head);
-    let (from, to) = if arrow.closes_loop { (lower, upper) } else { (upper, lower) };
-    format!("from {from} to {to}")
+impl Drawn<'_> {
+    pub(super) fn draw_arrows(&self, svg: &mut Svg) {
+        let ends = Ends::new(self);
+        for (place, arrow) in self.layers.arrows.iter().enumerate() {
+            let line = self.line(arrow, ends.starts[place], ends.finishes[place]);
+            svg.arrow(&self.stroke(arrow, line));
+        }
+        for &block in &self.layers.own_predecessors {
+            svg.arrow(&self.own(block));
+        }
+    }
+
+    fn stroke(&self, arrow: &Arrow, line: String) -> Stroke {
+        let (upper, lower) = (arrow.points[0], arrow.points[arrow.points.len() - 1]);
+        let (from, to) = if arrow.closes_loop { (lower, upper) } else { (upper, lower) };
+        let look = match arrow.closes_loop {
+            _ if self.view.is_gap(from) || self.view.is_gap(to) => Look::LeftOut,
+            true => Look::Loop,
+            false => Look::Control,
+        };
+        let full = format!("from {} to {}", self.names[from], self.names[to]);
+        let classes = [from, to].map(|end| self.class(end)).concat();
+        Stroke { look, reversed: arrow.closes_loop, faint: arrow.straight, classes, line, full }
+    }
+
+    /// The class of the arrows at a block, with a blank before it. A gap has none.
+    fn class(&self, number: usize) -> String {
+        self.view.blocks.get(number).map_or(String::new(), |&block| format!(" {}", style::at_block(block)))
+    }
+
+    /// The arrow of a block that is its own predecessor, left of it.
+    fn own(&self, block: usize) -> Stroke {
+        let at = self.placed.at(block);
+        let (left, out) = (at.x - self.extents[block].half, OWN_ARROW - 4.0);
+        let mut line = Line::new(left, at.y + 8.0);
+        line.curve([-out, -8.0], [-out, 28.0], [0.0, 18.0]);
+        let full = format!("{} is its own predecessor", self.names[block]);
+        let classes = self.class(block);
+        Stroke { look: Look::Loop, reversed: true, faint: false, classes, line: line.text(), full }
+    }
+
+    /// From the upper block's bottom through the bends to the lower block's top, upright within each layer.
+    fn line(&self, arrow: &Arrow, start: f64, finish: f64) -> String {
+        let upper = arrow.points[0];
+        let at = self.placed.at(upper);
+        let mut line = Line::new(start, at.y + self.extents[upper].foot);
+        line.down_to(at.layer_end);
+        let last = arrow.points.len() - 1;
+        for (place, &point) in arrow.points.iter().enumerate().skip(1) {
+            let at = self.placed.at(point);
+            line.bend_to(if place == last { finish } else { at.x }, at.y);
+            if place < last {
+                line.down_to(at.layer_end);
+            }
+        }
+        line.text()
+    }
 }
 
 /// Where arrows touch their blocks: for each arrow the place at its upper end and at its lower end.
@@ -42,16 +87,16 @@ struct Ends {
 }
 
 impl Ends {
-    fn new(layers: &Layers, placed: &Placed, boxes: &[BlockBox]) -> Self {
-        let arrows = &layers.arrows;
+    fn new(drawn: &Drawn) -> Self {
+        let arrows = &drawn.layers.arrows;
         let mut ends = Self { starts: vec![0.0; arrows.len()], finishes: vec![0.0; arrows.len()] };
-        for (block, of_block) in boxes.iter().enumerate() {
-            let middle = placed.at(block).x;
+        for (block, extent) in drawn.extents.iter().enumerate() {
+            let middle = drawn.placed.at(block).x;
             let below = toward(arrows, |arrow| (arrow.points[0], arrow.points[1]), block);
-            spread(below, placed, middle, of_block.width, &mut ends.starts);
+            spread(below, drawn.placed, middle, extent.half, &mut ends.starts);
             let last = |arrow: &Arrow| arrow.points.len() - 1;
             let above = |arrow: &Arrow| (arrow.points[last(arrow)], arrow.points[last(arrow) - 1]);
-            spread(toward(arrows, above, block), placed, middle, of_block.width, &mut ends.finishes);
+            spread(toward(arrows, above, block), drawn.placed, middle, extent.half, &mut ends.finishes);
         }
         ends
     }
@@ -68,39 +113,14 @@ fn toward(arrows: &[Arrow], end: impl Fn(&Arrow) -> (usize, usize), block: usize
 
 /// Spreads arrows along a side of a block, in the order of the points to which they go. Those to the same point have the
 /// same end.
-fn spread(arrows: Vec<Toward>, placed: &Placed, middle: f64, width: f64, ends: &mut [f64]) {
+fn spread(arrows: Vec<Toward>, placed: &Placed, middle: f64, half: f64, ends: &mut [f64]) {
     let mut points: Vec<(usize, bool)> = arrows.iter().map(|&(_, point)| point).collect();
     points.sort_by(|one, other| placed.at(one.0).x.total_cmp(&placed.at(other.0).x).then(one.cmp(other)));
     points.dedup();
-    let between = BETWEEN_ENDS.min((width - 16.0) / points.len() as f64);
+    let between = BETWEEN_ENDS.min((2.0 * half - 16.0) / points.len() as f64);
     let first = middle - between * (points.len() as f64 - 1.0) / 2.0;
     for (arrow, point) in arrows {
         let place = points.iter().position(|&other| other == point).unwrap_or(0);
         ends[arrow] = first + between * place as f64;
     }
-}
-
-/// From the upper block's bottom through the bends to the lower block's top, upright within each layer.
-fn path(arrow: &Arrow, placed: &Placed, boxes: &[BlockBox], start: f64, finish: f64) -> String {
-    let upper = arrow.points[0];
-    let at = placed.at(upper);
-    let (mut x, mut y) = (start, at.layer_end);
-    let bottom = at.y + boxes[upper].height;
-    let mut path = format!("M{x:.1} {bottom:.1}");
-    // A browser takes an arrowhead's direction from the first stretch, which must have a length.
-    if y - bottom > 0.1 {
-        write!(path, "V{y:.1}").expect("a string");
-    }
-    let last = arrow.points.len() - 1;
-    for (place, &point) in arrow.points.iter().enumerate().skip(1) {
-        let at = placed.at(point);
-        let next = if place == last { finish } else { at.x };
-        let middle = (y + at.y) / 2.0;
-        write!(path, "C{x:.1} {middle:.1} {next:.1} {middle:.1} {next:.1} {:.1}", at.y).expect("a string");
-        (x, y) = (next, at.layer_end);
-        if place < last {
-            write!(path, "V{y:.1}").expect("a string");
-        }
-    }
-    path
 }

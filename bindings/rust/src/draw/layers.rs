@@ -1,10 +1,14 @@
-//! The blocks in layers, so that every arrow but those that close a loop goes down.
+//! Blocks and gaps in layers, so that every arrow but those that close a loop goes down.
 
 use crate::graph::Graph;
 use std::collections::{BTreeSet, HashMap};
 
 /// The most bends of all arrows together. Where there would be more, the longest arrows go straight.
 const MOST_BENDS: usize = 6_000;
+
+/// The space between two blocks of a layer, and between two bends.
+const BETWEEN_BLOCKS: f64 = 30.0;
+const BETWEEN_BENDS: f64 = 12.0;
 
 /// An arrow of control. It goes down from its upper end, or closes a loop and goes up.
 pub(super) struct Arrow {
@@ -45,6 +49,24 @@ impl Layers {
 
     pub(super) fn is_bend(&self, point: usize) -> bool {
         point >= self.blocks
+    }
+
+    /// The space between two neighbours in a layer.
+    pub(super) fn between(&self, one: usize, other: usize) -> f64 {
+        if self.is_bend(one) && self.is_bend(other) {
+            BETWEEN_BENDS
+        } else {
+            BETWEEN_BLOCKS
+        }
+    }
+
+    /// The layer of each point, and its place there.
+    pub(super) fn places(&self) -> Vec<(usize, usize)> {
+        let mut places = vec![(0, 0); self.points()];
+        for (layer, points) in self.layers.iter().enumerate() {
+            points.iter().enumerate().for_each(|(place, &point)| places[point] = (layer, place));
+        }
+        places
     }
 
     /// How many points there are.

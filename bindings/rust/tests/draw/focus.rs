@@ -1,0 +1,120 @@
+//! The picture of the blocks that matter.
+
+use crate::common::jobs;
+use crate::read::{focused, whole, Picture};
+use crate::{check_boxes, check_tags, titles};
+use scope_deps::explain::{explain, How};
+use scope_deps::{answer, sheet, BlockId, Job};
+use std::collections::BTreeSet;
+
+/// The ids of the blocks that are drawn.
+fn drawn(picture: &Picture, job: &Job) -> BTreeSet<BlockId> {
+    picture.groups().iter().map(|group| job.blocks()[group.block].id()).collect()
+}
+
+/// How many blocks the gaps stand for, gap by gap.
+fn left_out(picture: &Picture) -> Vec<usize> {
+    let marks = picture
+        .lines()
+        .filter(|line| line.starts_with("<text") && line.ends_with(" left out</tspan></text>"));
+    let count = |line: &str| {
+        line.rsplit_once('>')
+            .unwrap()
+            .0
+            .rsplit_once("</tspan")
+            .unwrap()
+            .0
+            .rsplit_once('>')
+            .unwrap()
+            .1
+            .split(' ')
+            .next()
+            .unwrap()
+            .parse()
+            .unwrap()
+    };
+    marks.map(count).collect()
+}
+
+/// The blocks by way of which known paths came to the scope block.
+fn bringing(job: &Job) -> BTreeSet<BlockId> {
+    let explanation = explain(job, &sheet(job).unwrap(), &answer(job).unwrap()).unwrap();
+    let steps = explanation.origins.iter().flat_map(|origin| &origin.steps);
+    let blocks = steps.flat_map(|step| match &step.how {
+        How::Joined { from, passed_over, .. } => [&[step.block], &from[..], &passed_over[..]].concat(),
+        _ => vec![step.block],
+    });
+    blocks.collect()
+}
+
+#[test]
+fn focus_draws_the_scope_block_and_those_that_bring_a_path_and_counts_the_others() {
+    let mut fewer = 0;
+    for job in jobs(15, 800) {
+        let Some(picture) = focused(&job) else { continue };
+        check_tags(&picture.0);
+        check_boxes(&picture.0, &picture.rectangles());
+        let drawn = drawn(&picture, &job);
+        assert!(drawn.contains(&job.scope()));
+        assert!(bringing(&job).is_subset(&drawn), "{job}");
+        assert_eq!(left_out(&picture).iter().sum::<usize>() + drawn.len(), job.blocks().len(), "{job}");
+        let arrows = picture.arrows();
+        let (gaps, between): (Vec<_>, Vec<_>) = arrows.iter().partition(|arrow| arrow.class == "left-out");
+        assert!(gaps.iter().all(|arrow| arrow.title.contains(" left out") && arrow.ends.len() == 1));
+        let mut between: Vec<&str> = between.iter().map(|arrow| arrow.title).collect();
+        between.sort();
+        assert_eq!(between, titles(&job, |id| drawn.contains(&id)), "{job}");
+        fewer += usize::from(drawn.len() < job.blocks().len());
+    }
+    assert!(fewer > 100);
+}
+
+#[test]
+fn where_all_blocks_matter_focus_changes_nothing() {
+    let job: Job = "scope 1 block 0 assumes 5 block 1 after 0 candidate 5.10".parse().unwrap();
+    assert_eq!(focused(&job).unwrap().0, whole(&job).unwrap().0);
+}
+
+fn ids(ids: &[u32]) -> BTreeSet<BlockId> {
+    ids.iter().map(|&id| BlockId(id)).collect()
+}
+
+#[test]
+fn blocks_that_bring_a_path_or_stop_one_are_drawn_and_no_others() {
+    // Blocks 0 and 1 lead to the fork and are followed by 7 and 8. Block 4 brings 5 by both its predecessors, and stops
+    // 6, which comes from block 2 only.
+    let job: Job = "scope 5
+        block 0
+        block 1 after 0
+        block 2 after 1 assumes 5, 6
+        block 3 after 1 assumes 5
+        block 4 after 2, 3
+        block 5 after 4
+        block 7 after 5
+        block 8 after 7
+        candidate 5.10
+        candidate 6.10.11"
+        .parse()
+        .unwrap();
+    let picture = focused(&job).unwrap();
+    assert_eq!(drawn(&picture, &job), ids(&[2, 3, 4, 5]));
+    assert_eq!(left_out(&picture), [2, 2]);
+    let arrows = picture.arrows();
+    let gaps: BTreeSet<&str> =
+        arrows.iter().filter(|arrow| arrow.class == "left-out").map(|arrow| arrow.title).collect();
+    let expected = [
+        "from 2 blocks left out to block 2",
+        "from 2 blocks left out to block 3",
+        "from scope block 5 to 2 blocks left out",
+    ];
+    assert_eq!(gaps, BTreeSet::from(expected));
+    assert!(picture.0.contains("4 of 8 blocks, scope block 5"));
+}
+
+#[test]
+fn a_block_whose_only_predecessor_is_left_out_lists_its_paths() {
+    let job: Job = "scope 1 block 0 assumes 7 block 1 after 0 candidate 6".parse().unwrap();
+    let picture = focused(&job).unwrap();
+    assert_eq!(drawn(&picture, &job), ids(&[1]));
+    assert!(picture.0.contains("1 of 2 blocks") && !picture.0.contains("the same as"));
+}
