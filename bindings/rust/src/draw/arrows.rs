@@ -112,15 +112,17 @@ fn toward(arrows: &[Arrow], end: impl Fn(&Arrow) -> (usize, usize), block: usize
 }
 
 /// Spreads arrows along a side of a block, in the order of the points to which they go. Those to the same point have the
-/// same end.
+/// same end. Where a point is straight above or below, its arrows end in the middle.
 fn spread(arrows: Vec<Toward>, placed: &Placed, middle: f64, half: f64, ends: &mut [f64]) {
     let mut points: Vec<(usize, bool)> = arrows.iter().map(|&(_, point)| point).collect();
     points.sort_by(|one, other| placed.at(one.0).x.total_cmp(&placed.at(other.0).x).then(one.cmp(other)));
     points.dedup();
-    let between = BETWEEN_ENDS.min((2.0 * half - 16.0) / points.len() as f64);
-    let first = middle - between * (points.len() as f64 - 1.0) / 2.0;
+    let last = points.len().saturating_sub(1) as f64;
+    let straight = points.iter().position(|&(point, _)| (placed.at(point).x - middle).abs() < 0.5);
+    let centre = straight.map_or(last / 2.0, |place| place as f64);
+    let between = BETWEEN_ENDS.min((half - 8.0) / centre.max(last - centre).max(1.0));
     for (arrow, point) in arrows {
         let place = points.iter().position(|&other| other == point).unwrap_or(0);
-        ends[arrow] = first + between * place as f64;
+        ends[arrow] = middle + between * (place as f64 - centre);
     }
 }

@@ -25,6 +25,7 @@ mod line;
 mod order;
 mod panel;
 mod place;
+mod relax;
 mod shown;
 mod style;
 mod svg;

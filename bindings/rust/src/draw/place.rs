@@ -2,6 +2,7 @@
 
 use super::align;
 use super::layers::Layers;
+use super::relax;
 
 /// The room that a point takes: its box, and what stands beside it.
 #[derive(Clone, Copy)]
@@ -53,14 +54,31 @@ impl Placed {
 
 const BEND: Extent = Extent { half: 4.0, foot: 0.0, before: 0.0, after: 0.0, height: 0.0 };
 
+/// How much wider a picture may be for straight columns.
+const WIDER: f64 = 1.4;
+
 /// Places the points: in their layers, in the order that they have there, and apart.
 pub(super) fn place(layers: &Layers, extents: &[Extent]) -> Placed {
     let extent = |point: usize| extents.get(point).copied().unwrap_or(BEND);
-    let mut x = align::align(layers, &extent);
-    let (left, right) = align::sides(&x, &extent);
+    let (mut x, left, width) = across(layers, &extent);
     x.iter_mut().for_each(|x| *x -= left);
     let (at, height) = downward(layers, &x, &extent);
-    Placed { at, width: right - left, height }
+    Placed { at, width, height }
+}
+
+/// The middle of each point, where the leftmost starts, and how wide all are together. They stand in straight columns,
+/// or where those would take much more room, near their neighbours.
+fn across(layers: &Layers, extent: &dyn Fn(usize) -> Extent) -> (Vec<f64>, f64, f64) {
+    let measured = |x: Vec<f64>| {
+        let (left, right) = align::sides(&x, extent);
+        (x, left, right - left)
+    };
+    let (aligned, relaxed) = (measured(align::align(layers, extent)), measured(relax::relax(layers, extent)));
+    if aligned.2 <= WIDER * relaxed.2 {
+        aligned
+    } else {
+        relaxed
+    }
 }
 
 /// Puts the layers under one another, with more room between where more arrows pass.

@@ -58,9 +58,11 @@ pub(super) fn style(blocks: impl Iterator<Item = usize>) -> String {
 /// A block that is pointed at dims all arrows, and then lights its own: those are of its class. The arrows stand after
 /// the blocks, so that a rule for what follows the block finds them.
 fn pointed(blocks: impl Iterator<Item = usize>) -> String {
-    let mut rules = format!(".block{POINTED}~path{{opacity:.1}}.block{POINTED}>rect{{stroke-width:2.6}}");
+    let mut rules = format!(
+        ".block{POINTED}~path{{opacity:.08;stroke-width:.8}}.block{POINTED}>rect{{stroke-width:2.6}}"
+    );
     for block in blocks {
-        let lit = "opacity:1;stroke-width:2.4";
+        let lit = "opacity:1;stroke-width:2";
         write!(rules, ".{}{POINTED}~.{}{{{lit}}}", of_block(block), at_block(block))
             .expect("a string takes all text");
     }

@@ -12,7 +12,7 @@ fn each_block_has_a_rule_that_lights_its_arrows() {
         let Some(picture) = whole(&job) else { continue };
         let style = picture.style();
         for block in 0..job.blocks().len() {
-            let rule = format!(".b{block}{POINTED}~.a{block}{{opacity:1;stroke-width:2.4}}");
+            let rule = format!(".b{block}{POINTED}~.a{block}{{opacity:1;stroke-width:2}}");
             assert_eq!(style.matches(&rule).count(), 1, "{rule}");
         }
         let groups: Vec<usize> = picture.groups().iter().map(|group| group.block).collect();
@@ -41,8 +41,10 @@ fn an_arrow_is_lit_by_the_blocks_at_its_ends() {
 #[test]
 fn the_rule_that_dims_comes_first_and_reaches_all_arrows_and_no_legend() {
     let picture = of_text("scope 2 block 0 block 1 after 0 block 2 after 0, 1, 2");
-    let dims =
-        picture.style().find(&format!(".block{POINTED}~path{{opacity:.1}}")).expect("a rule that dims");
+    let dims = picture
+        .style()
+        .find(&format!(".block{POINTED}~path{{opacity:.08;stroke-width:.8}}"))
+        .expect("a rule that dims");
     assert!(dims < picture.style().find(".b0:is").unwrap(), "of equal rules the last counts");
     let place = |start: &str| picture.lines().position(|line| line.starts_with(start)).unwrap();
     let last_group =
