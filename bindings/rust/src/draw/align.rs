@@ -1,13 +1,15 @@
-//! Where points stand from left to right, as Brandes and Köpf do it ("Fast and Simple Horizontal Coordinate Assignment",
-//! 2001): points are put into straight upright lines with one of their neighbours, four times, each time from another
-//! corner, and the middle of the four places is taken.
+//! Where points stand from left to right, as Brandes and Köpf do it ("Fast and Simple Horizontal
+//! Coordinate Assignment", 2001): points are put into straight upright lines with one of their
+//! neighbours, four times, each time from another corner, and the middle of the four places is
+//! taken.
 
 use super::columns::Columns;
 use super::layers::Layers;
 use super::place::Extent;
 use std::collections::BTreeSet;
 
-/// The corner from which points are put into lines: whether that is at the bottom, and whether at the right.
+/// The corner from which points are put into lines: whether that is at the bottom, and whether at
+/// the right.
 type Corner = (bool, bool);
 
 const CORNERS: [Corner; 4] = [(false, false), (false, true), (true, false), (true, true)];
@@ -38,7 +40,8 @@ pub(super) fn sides(x: &[f64], extent: &dyn Fn(usize) -> Extent) -> (f64, f64) {
     (left.fold(f64::INFINITY, f64::min), right.fold(f64::NEG_INFINITY, f64::max))
 }
 
-/// The links that a link between two bends crosses. They are not made straight, so that the other can be.
+/// The links that a link between two bends crosses. They are not made straight, so that the other
+/// can be.
 fn crossed(layers: &Layers) -> BTreeSet<(usize, usize)> {
     let places = layers.places();
     let links = layers.links();
@@ -85,7 +88,7 @@ fn from_corner(
             before[to].push(from);
         }
     }
-    let columns = Columns::new(&turned, before);
+    let columns = Columns::new(&turned, &before);
     let apart = |one: usize, other: usize| match right {
         false => extent(one).right() + layers.between(one, other) + extent(other).left(),
         true => extent(one).left() + layers.between(one, other) + extent(other).right(),

@@ -18,7 +18,7 @@ pub(super) struct Drawn<'a> {
     pub(super) placed: &'a Placed,
     /// By number in the view: the room, and what the arrows' titles say.
     pub(super) extents: &'a [Extent],
-    pub(super) names: &'a [String],
+    pub(super) names: Vec<&'a str>,
 }
 
 impl Drawn<'_> {
@@ -62,7 +62,8 @@ impl Drawn<'_> {
         Stroke { look: Look::Loop, reversed: true, faint: false, classes, line: line.text(), full }
     }
 
-    /// From the upper block's bottom through the bends to the lower block's top, upright within each layer.
+    /// From the upper block's bottom through the bends to the lower block's top, upright within
+    /// each layer.
     fn line(&self, arrow: &Arrow, start: f64, finish: f64) -> String {
         let upper = arrow.points[0];
         let at = self.placed.at(upper);
@@ -111,8 +112,9 @@ fn toward(arrows: &[Arrow], end: impl Fn(&Arrow) -> (usize, usize), block: usize
     each.map(|(place, arrow)| (place, (end(arrow).1, arrow.closes_loop))).collect()
 }
 
-/// Spreads arrows along a side of a block, in the order of the points to which they go. Those to the same point have the
-/// same end. Where a point is straight above or below, its arrows end in the middle.
+/// Spreads arrows along a side of a block, in the order of the points to which they go. Those to
+/// the same point have the same end. Where a point is straight above or below, its arrows end in
+/// the middle.
 fn spread(arrows: Vec<Toward>, placed: &Placed, middle: f64, half: f64, ends: &mut [f64]) {
     let mut points: Vec<(usize, bool)> = arrows.iter().map(|&(_, point)| point).collect();
     points.sort_by(|one, other| placed.at(one.0).x.total_cmp(&placed.at(other.0).x).then(one.cmp(other)));

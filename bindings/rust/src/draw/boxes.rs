@@ -36,7 +36,8 @@ struct Row {
 }
 
 impl BlockBox {
-    /// The box of a block among so many that are drawn; `is_drawn` says whether a block is one of them.
+    /// The box of a block among so many that are drawn; `is_drawn` says whether a block is one of
+    /// them.
     pub(super) fn new(
         job: &Job,
         block: &Block,
@@ -97,7 +98,8 @@ impl Row {
     }
 }
 
-/// The paths with commas between them, in lines; what comes after the last line is counted at its end.
+/// The paths with commas between them, in lines; what comes after the last line is counted at its
+/// end.
 fn rows(label: &'static str, class: &'static str, paths: &[Path], most: usize) -> Vec<Row> {
     let lines = shown::lines(paths, most);
     let labels = std::iter::once(label).chain(std::iter::repeat(""));

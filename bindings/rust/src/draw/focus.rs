@@ -8,8 +8,8 @@ use crate::path::Path;
 use crate::sheet::Sheet;
 use std::collections::BTreeSet;
 
-/// The scope block, the blocks by way of which a known path came there, and those that stop a path by which one more
-/// base would be known.
+/// The scope block, the blocks by way of which a known path came there, and those that stop a path
+/// by which one more base would be known.
 pub(super) fn blocks_that_matter(job: &Job, sheet: &Sheet, explanation: &Explanation) -> BTreeSet<BlockId> {
     let mut matter = bringing(explanation);
     matter.insert(job.scope());
@@ -52,8 +52,9 @@ fn knows(sheet: &Sheet, block: BlockId, base: &Path) -> bool {
     sheet.paths(block).any(|path| base.names_start(&path) && plain(&path))
 }
 
-/// The blocks that stop a base on its way to the scope block from one side. Each has a neighbour on that side that knows
-/// the base, and one that does not; both matter too, and so do the blocks from there to the scope block.
+/// The blocks that stop a base on its way to the scope block from one side. Each has a neighbour on
+/// that side that knows the base, and one that does not; both matter too, and so do the blocks from
+/// there to the scope block.
 fn stopping(scope: usize, knows: &[bool], near: &[Vec<usize>]) -> BTreeSet<usize> {
     let mut came_from = vec![None; near.len()];
     came_from[scope] = Some(scope);

@@ -1,4 +1,5 @@
-//! The text of an arrow's line, as short as it goes: steps from where the last one ended, in tenths.
+//! The text of an arrow's line, as short as it goes: steps from where the last one ended, in
+//! tenths.
 
 use super::svg::short;
 use std::fmt::Write;
@@ -7,8 +8,9 @@ pub(super) struct Line {
     text: String,
     x: f64,
     y: f64,
-    /// How far the line goes straight down from there. It is written only when something else follows, so that no
-    /// stretch is without length: a browser takes an arrowhead's direction from the first and the last stretch.
+    /// How far the line goes straight down from there. It is written only when something else
+    /// follows, so that no stretch is without length: a browser takes an arrowhead's direction from
+    /// the first and the last stretch.
     down: f64,
 }
 

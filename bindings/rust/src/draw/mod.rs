@@ -1,8 +1,12 @@
 //! A picture of a job with its sheet and its answer.
 //!
-//! The blocks stand in layers, from the first down. Arrows are control, dashed where they close a loop. Each block has the
-//! paths that it assumes and those that it holds in the end. Beside the scope block stands each candidate, with what is
-//! returned of it and where it is cut.
+//! The blocks stand in layers, from the first down. Arrows are control, dashed where they close a
+//! loop. Each block has the paths that it assumes and those that it holds in the end. Beside the
+//! scope block stands each candidate, with what is returned of it and where it is cut.
+//!
+//! A block under the pointer lights its arrows and dims the others, and on a dark screen the picture
+//! is dark: both by the style sheet in the file, without a script. [`draw_focused`] leaves out the
+//! blocks that do not matter to the candidates.
 //!
 //! ```
 //! use scope_deps::{answer, draw::draw, sheet, Job};
@@ -40,7 +44,7 @@ use boxes::BlockBox;
 use gaps::Gap;
 use layers::Layers;
 use panel::Panel;
-use place::{Extent, Placed};
+use place::{At, Extent, Placed};
 use svg::Svg;
 use view::View;
 
@@ -57,8 +61,8 @@ pub fn draw(job: &Job, sheet: &Sheet, answer: &Answer) -> Result<String, Mismatc
     Ok(Picture { job, sheet, view: View::whole(job) }.drawn(&explanation))
 }
 
-/// The same with only the blocks that matter to the candidates: those that bring a known path to the scope block, or
-/// stop one. Where others are left out, it says how many.
+/// The same with only the blocks that matter to the candidates: those that bring a known path to
+/// the scope block, or stop one. Where others are left out, it says how many.
 pub fn draw_focused(job: &Job, sheet: &Sheet, answer: &Answer) -> Result<String, Mismatch> {
     let explanation = explain(job, sheet, answer)?;
     let view = View::only(job, &focus::blocks_that_matter(job, sheet, &explanation));
@@ -74,35 +78,33 @@ struct Picture<'a> {
 
 impl Picture<'_> {
     fn drawn(&self, explanation: &Explanation) -> String {
-        let panel = Panel::new(explanation);
-        let (boxes, gaps) =
-            (self.boxes(), self.view.gaps.iter().map(|&count| Gap::new(count)).collect::<Vec<_>>());
+        let (boxes, panel) = (self.boxes(), Panel::new(explanation));
+        let gaps: Vec<Gap> = self.view.gaps.iter().map(|&count| Gap::new(count)).collect();
         let extents = self.extents(&boxes, &gaps, &panel);
-        let names: Vec<String> =
-            boxes.iter().map(BlockBox::name).chain(gaps.iter().map(Gap::name)).map(str::to_string).collect();
+        let names = boxes.iter().map(BlockBox::name).chain(gaps.iter().map(Gap::name)).collect();
         let mut layers = Layers::new(&self.view.graph);
         order::order(&mut layers);
         let placed = place::place(&layers, &extents);
         let mut svg = Svg::new();
         for (number, of_block) in boxes.iter().enumerate() {
-            let (at, half) = (placed.at(number), extents[number].half);
-            svg.open(&format!(
-                " class=\"block {}\" tabindex=\"0\"",
-                style::of_block(self.view.blocks[number])
-            ));
-            of_block.draw(at.x - half, at.y, &mut svg);
-            if self.is_scope(number) {
-                panel.draw(at.x + half, at.y, &mut svg);
-            }
-            svg.close();
+            let beside = self.is_scope(number).then_some(&panel);
+            self.draw_block(of_block, beside, number, placed.at(number), &mut svg);
         }
-        for (gap, number) in gaps.iter().zip(boxes.len()..) {
-            gap.draw(placed.at(number), &mut svg);
-        }
-        let view = &self.view;
-        Drawn { view, layers: &layers, placed: &placed, extents: &extents, names: &names }
-            .draw_arrows(&mut svg);
-        self.finished(svg, &placed)
+        let at = (boxes.len()..).map(|number| placed.at(number));
+        gaps.iter().zip(at).for_each(|(gap, at)| gap.draw(at, &mut svg));
+        let (view, layers, placed, extents) = (&self.view, &layers, &placed, &extents[..]);
+        Drawn { view, layers, placed, extents, names }.draw_arrows(&mut svg);
+        self.finished(svg, placed)
+    }
+
+    /// Draws a block, with the panel beside it where it is the scope block, in a group of its own.
+    fn draw_block(&self, of_block: &BlockBox, beside: Option<&Panel>, number: usize, at: At, svg: &mut Svg) {
+        let half = of_block.extent().half;
+        let class = style::of_block(self.view.blocks[number]);
+        svg.open(&format!(" class=\"block {class}\" tabindex=\"0\""));
+        of_block.draw(at.x - half, at.y, svg);
+        beside.into_iter().for_each(|panel| panel.draw(at.x + half, at.y, svg));
+        svg.close();
     }
 
     fn is_scope(&self, number: usize) -> bool {

@@ -23,7 +23,8 @@ impl Near {
     }
 }
 
-/// Puts each point near the middle of its neighbours, down and up again, and keeps the best order met.
+/// Puts each point near the middle of its neighbours, down and up again, and keeps the best order
+/// met.
 pub(super) fn order(layers: &mut Layers) {
     let near = Near::new(layers);
     let mut best = (crossings(layers, &near), layers.layers.clone());

@@ -66,8 +66,8 @@ pub(super) fn place(layers: &Layers, extents: &[Extent]) -> Placed {
     Placed { at, width, height }
 }
 
-/// The middle of each point, where the leftmost starts, and how wide all are together. They stand in straight columns,
-/// or where those would take much more room, near their neighbours.
+/// The middle of each point, where the leftmost starts, and how wide all are together. They stand
+/// in straight columns, or where those would take much more room, near their neighbours.
 fn across(layers: &Layers, extent: &dyn Fn(usize) -> Extent) -> (Vec<f64>, f64, f64) {
     let measured = |x: Vec<f64>| {
         let (left, right) = align::sides(&x, extent);

@@ -1,5 +1,5 @@
-//! Where points stand from left to right, each near the middle of its neighbours. Lines bend more than in straight
-//! columns, but take less room where many arrows pass.
+//! Where points stand from left to right, each near the middle of its neighbours. Lines bend more
+//! than in straight columns, but take less room where many arrows pass.
 
 use super::layers::Layers;
 use super::place::Extent;

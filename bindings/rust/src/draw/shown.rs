@@ -2,13 +2,15 @@
 
 use crate::path::Path;
 
-/// The most characters of a line of paths. Only a variable or an entry that is longer by itself makes a longer line.
+/// The most characters of a line of paths. Only a variable or an entry that is longer by itself
+/// makes a longer line.
 pub(super) const LONGEST: usize = 34;
-/// What a line starts with that goes on with a path. Blanks at the start of a text are not shown, but these are.
+/// What a line starts with that goes on with a path. Blanks at the start of a text are not shown,
+/// but these are.
 const GOES_ON: &str = "\u{a0}\u{a0}";
 
-/// The parts of a path between which a line may be broken: the variable, and each entry. Every path that is shown in a
-/// picture comes from here.
+/// The parts of a path between which a line may be broken: the variable, and each entry. Every path
+/// that is shown in a picture comes from here.
 pub(super) fn parts(path: &Path) -> Vec<String> {
     let variable = path.identifier().to_string();
     let entries = path.entries().iter().map(|entry| format!("{entry:#}"));
@@ -54,7 +56,8 @@ pub(super) struct Lines {
     pub(super) shown: usize,
 }
 
-/// As many paths as have room in `most` lines, and at least one. A path is shown whole or not at all.
+/// As many paths as have room in `most` lines, and at least one. A path is shown whole or not at
+/// all.
 pub(super) fn lines(paths: &[Path], most: usize) -> Lines {
     let mut made = Lines { lines: Vec::new(), shown: 0 };
     for (place, path) in paths.iter().enumerate() {
@@ -70,8 +73,8 @@ pub(super) fn lines(paths: &[Path], most: usize) -> Lines {
 }
 
 impl Lines {
-    /// The last line's place, and that line with a path after it, where there is room for all of the path. After a path
-    /// that was broken, the next starts a line.
+    /// The last line's place, and that line with a path after it, where there is room for all of
+    /// the path. After a path that was broken, the next starts a line.
     fn joined(&self, own: &[String]) -> Option<(usize, String)> {
         let ([line], Some(last)) = (own, self.lines.last()) else { return None };
         let joined = format!("{last} {line}");

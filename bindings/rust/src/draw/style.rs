@@ -1,6 +1,5 @@
-//! The style sheet of a picture: its colours, for a light and for a dark screen, and what happens under the pointer.
-
-use std::fmt::Write;
+//! The style sheet of a picture: its colours, for a light and for a dark screen, and what happens
+//! under the pointer.
 
 /// What looks the same in light and in dark.
 const SHAPES: &str = "\
@@ -14,8 +13,11 @@ path{fill:none;stroke-width:1.3}\
 .left-out{stroke-dasharray:4 4}\
 .block{outline:none}";
 
-/// What has a colour: its selector, the property, the colour on a light screen and that on a dark one.
-pub(super) const COLOURS: [(&str, &str, &str, &str); 18] = [
+/// What has a colour: its selector, the property, the colour on a light screen and that on a dark
+/// one.
+type Colour = (&'static str, &'static str, &'static str, &'static str);
+
+const COLOURS: [Colour; 18] = [
     (".page", "fill", "#ffffff", "#12171e"),
     ("text", "fill", "#1f2933", "#e4e9f0"),
     (".label", "fill", "#5a6572", "#a3afbd"),
@@ -42,31 +44,23 @@ const POINTED: &str = ":is(:hover,:focus)";
 
 /// The whole style sheet, with a rule for each of these blocks, by place in the job.
 pub(super) fn style(blocks: impl Iterator<Item = usize>) -> String {
-    let mut style = SHAPES.to_string();
-    for (of, property, light, _) in COLOURS {
-        write!(style, "{of}{{{property}:{light}}}").expect("a string takes all text");
-    }
-    style.push_str("@media (prefers-color-scheme:dark){");
-    for (of, property, _, dark) in COLOURS {
-        write!(style, "{of}{{{property}:{dark}}}").expect("a string takes all text");
-    }
-    style.push('}');
-    style.push_str(&pointed(blocks));
-    style
+    let rules = |colour: fn(&Colour) -> &'static str| -> String {
+        COLOURS.iter().map(|of| format!("{}{{{}:{}}}", of.0, of.1, colour(of))).collect()
+    };
+    let (light, dark) = (rules(|of| of.2), rules(|of| of.3));
+    format!("{SHAPES}{light}@media (prefers-color-scheme:dark){{{dark}}}{}", pointed(blocks))
 }
 
-/// A block that is pointed at dims all arrows, and then lights its own: those are of its class. The arrows stand after
-/// the blocks, so that a rule for what follows the block finds them.
+/// A block that is pointed at dims all arrows, and then lights its own: those are of its class. The
+/// arrows stand after the blocks, so that a rule for what follows the block finds them.
 fn pointed(blocks: impl Iterator<Item = usize>) -> String {
-    let mut rules = format!(
-        ".block{POINTED}~path{{opacity:.08;stroke-width:.8}}.block{POINTED}>rect{{stroke-width:2.6}}"
+    let dims = format!(
+        ".block{POINTED}>rect{{stroke-width:2.6}}.block{POINTED}~path{{opacity:.12;stroke-width:.8}}"
     );
-    for block in blocks {
-        let lit = "opacity:1;stroke-width:2";
-        write!(rules, ".{}{POINTED}~.{}{{{lit}}}", of_block(block), at_block(block))
-            .expect("a string takes all text");
-    }
-    rules
+    let lights = blocks.map(|block| {
+        format!(".{}{POINTED}~.{}{{opacity:1;stroke-width:2}}", of_block(block), at_block(block))
+    });
+    lights.fold(dims, |rules, rule| rules + &rule)
 }
 
 /// The class of a block alone.

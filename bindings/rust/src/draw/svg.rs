@@ -67,7 +67,8 @@ impl Svg {
         self.texts(x, y, &[(class, text)], "");
     }
 
-    /// A text of parts of different classes, with a full text under the pointer where that is not empty.
+    /// A text of parts of different classes, with a full text under the pointer where that is not
+    /// empty.
     pub(super) fn texts(&mut self, x: f64, y: f64, parts: &[(&str, &str)], full: &str) {
         let spans: String = parts.iter().map(|(class, part)| tspan(class, part)).collect();
         let (x, y) = (short(x), short(y));

@@ -5,8 +5,8 @@ use crate::ids::BlockId;
 use crate::job::Job;
 use std::collections::BTreeSet;
 
-/// The blocks that are drawn, and gaps. A gap stands for left-out blocks between which control goes. The blocks come
-/// first in the numbers by which both are known.
+/// The blocks that are drawn, and gaps. A gap stands for left-out blocks between which control
+/// goes. The blocks come first in the numbers by which both are known.
 pub(super) struct View {
     /// The blocks, by place in the job.
     pub(super) blocks: Vec<usize>,
@@ -45,8 +45,8 @@ impl View {
     }
 }
 
-/// Gives the number to the block and to all without one to which control leads from there by way of such blocks, along
-/// arrows and against them. Returns how many these are.
+/// Gives the number to the block and to all without one to which control leads from there by way of
+/// such blocks, along arrows and against them. Returns how many these are.
 fn fill(graph: &Graph, block: usize, gap: usize, number: &mut [Option<usize>]) -> usize {
     let mut count = 0;
     let mut open = vec![block];
@@ -60,7 +60,8 @@ fn fill(graph: &Graph, block: usize, gap: usize, number: &mut [Option<usize>]) -
     count
 }
 
-/// The graph in which blocks of the same number are one. What leads from a gap to itself is left out.
+/// The graph in which blocks of the same number are one. What leads from a gap to itself is left
+/// out.
 fn joined(graph: &Graph, number: &[usize], blocks: usize, gaps: usize) -> Graph {
     let none = vec![Vec::new(); blocks + gaps];
     let mut joined = Graph { predecessors: none.clone(), successors: none };

@@ -6,6 +6,8 @@ use crate::{check_boxes, check_tags, titles};
 use scope_deps::explain::{explain, How};
 use scope_deps::{answer, sheet, BlockId, Job};
 use std::collections::BTreeSet;
+use std::io::Write;
+use std::process::{Command, Output, Stdio};
 
 /// The ids of the blocks that are drawn.
 fn drawn(picture: &Picture, job: &Job) -> BTreeSet<BlockId> {
@@ -81,8 +83,8 @@ fn ids(ids: &[u32]) -> BTreeSet<BlockId> {
 
 #[test]
 fn blocks_that_bring_a_path_or_stop_one_are_drawn_and_no_others() {
-    // Blocks 0 and 1 lead to the fork and are followed by 7 and 8. Block 4 brings 5 by both its predecessors, and stops
-    // 6, which comes from block 2 only.
+    // Blocks 0 and 1 lead to the fork and are followed by 7 and 8. Block 4 brings 5 by both its
+    // predecessors, and stops 6, which comes from block 2 only.
     let job: Job = "scope 5
         block 0
         block 1 after 0
@@ -117,4 +119,24 @@ fn a_block_whose_only_predecessor_is_left_out_lists_its_paths() {
     let picture = focused(&job).unwrap();
     assert_eq!(drawn(&picture, &job), ids(&[1]));
     assert!(picture.0.contains("1 of 2 blocks") && !picture.0.contains("the same as"));
+}
+
+/// The tool with these words and this job on its input.
+fn run(words: &[&str], job: &Job) -> Output {
+    let mut tool = Command::new(env!("CARGO_BIN_EXE_scope-deps"));
+    let tool = tool.args(words).stdin(Stdio::piped()).stdout(Stdio::piped()).stderr(Stdio::piped());
+    let mut child = tool.spawn().unwrap();
+    // A tool that stops before it reads closes its input; that is no fault here.
+    let _ = child.stdin.take().unwrap().write_all(job.to_string().as_bytes());
+    child.wait_with_output().unwrap()
+}
+
+#[test]
+fn the_tool_draws_with_focus_and_no_other_command_takes_it() {
+    let job: Job = "scope 1 block 0 assumes 7 block 1 after 0 candidate 6".parse().unwrap();
+    assert_eq!(run(&["draw", "--focus"], &job).stdout, focused(&job).unwrap().0.into_bytes());
+    assert_eq!(run(&["draw"], &job).stdout, whole(&job).unwrap().0.into_bytes());
+    let output = run(&["explain", "--focus"], &job);
+    assert_eq!(output.status.code(), Some(2));
+    assert!(String::from_utf8_lossy(&output.stderr).contains("`--focus` is no option of this command"));
 }

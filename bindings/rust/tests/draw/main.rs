@@ -51,7 +51,8 @@ fn name(job: &Job, block: BlockId) -> String {
     format!("{kind} {block}")
 }
 
-/// The titles that the arrows of a job have, sorted; of those between two blocks that are both drawn.
+/// The titles that the arrows of a job have, sorted; of those between two blocks that are both
+/// drawn.
 fn titles(job: &Job, is_drawn: impl Fn(BlockId) -> bool) -> Vec<String> {
     let mut titles = Vec::new();
     for block in job.blocks().iter().filter(|block| is_drawn(block.id())) {

@@ -19,7 +19,8 @@ pub fn of_text(job: &str) -> Picture {
 
 pub struct Picture(pub String);
 
-/// An arrow: its first class, the blocks at whose pointing it is lit, by place in the job, its line and its title.
+/// An arrow: its first class, the blocks at whose pointing it is lit, by place in the job, its line
+/// and its title.
 pub struct Arrow<'p> {
     pub class: &'p str,
     pub ends: Vec<usize>,
