@@ -4,8 +4,9 @@ use super::boxes::OWN_ARROW;
 use super::layers::{Arrow, Layers};
 use super::line::Line;
 use super::place::{Extent, Placed};
+use super::shared::{Shared, Stretch};
 use super::style;
-use super::svg::{Look, Stroke, Svg};
+use super::svg::{Head, Look, Stroke, Svg};
 use super::view::View;
 
 /// The most space between the ends of two arrows at one block.
@@ -23,27 +24,61 @@ pub(super) struct Drawn<'a> {
 
 impl Drawn<'_> {
     pub(super) fn draw_arrows(&self, svg: &mut Svg) {
-        let ends = Ends::new(self);
+        let (ends, shared) = (Ends::new(self), Shared::new(&self.layers.arrows));
+        shared.stretches.iter().for_each(|stretch| svg.arrow(&self.stretch(stretch, &ends)));
         for (place, arrow) in self.layers.arrows.iter().enumerate() {
-            let line = self.line(arrow, ends.starts[place], ends.finishes[place]);
-            svg.arrow(&self.stroke(arrow, line));
+            svg.arrow(&self.stroke(arrow, shared.own_from[place], ends.starts[place], ends.finishes[place]));
         }
-        for &block in &self.layers.own_predecessors {
-            svg.arrow(&self.own(block));
+        self.layers.own_predecessors.iter().for_each(|&block| svg.arrow(&self.own(block)));
+    }
+
+    /// An arrow, from this one of its points on.
+    fn stroke(&self, arrow: &Arrow, own_from: usize, start: f64, finish: f64) -> Stroke {
+        let (from, to) = from_and_to(arrow);
+        let start = if own_from == 0 { start } else { self.placed.at(arrow.points[own_from]).x };
+        let head = match arrow.closes_loop {
+            false => Head::Last,
+            true if own_from == 0 => Head::First,
+            true => Head::None,
+        };
+        Stroke {
+            look: self.look(arrow),
+            head,
+            faint: arrow.straight,
+            classes: [from, to].map(|end| self.class(end)).concat(),
+            line: self.line(&arrow.points[own_from..], start, Some(finish)),
+            full: format!("from {} to {}", self.names[from], self.names[to]),
         }
     }
 
-    fn stroke(&self, arrow: &Arrow, line: String) -> Stroke {
-        let (upper, lower) = (arrow.points[0], arrow.points[arrow.points.len() - 1]);
-        let (from, to) = if arrow.closes_loop { (lower, upper) } else { (upper, lower) };
-        let look = match arrow.closes_loop {
+    /// A stretch that arrows share.
+    fn stretch(&self, stretch: &Stretch, ends: &Ends) -> Stroke {
+        let arrows = stretch.arrows.iter().map(|&arrow| &self.layers.arrows[arrow]);
+        let mut at_ends: Vec<usize> =
+            arrows.clone().flat_map(|arrow| <[usize; 2]>::from(from_and_to(arrow))).collect();
+        at_ends.sort();
+        at_ends.dedup();
+        let (first, at_block) = (stretch.points[0], !self.layers.is_bend(stretch.points[0]));
+        let start = if at_block { ends.starts[stretch.arrows[0]] } else { self.placed.at(first).x };
+        let closes_loop = arrows.clone().any(|arrow| arrow.closes_loop);
+        let mut looks = arrows.map(|arrow| self.look(arrow));
+        Stroke {
+            look: looks.find(|&look| look != Look::LeftOut).unwrap_or(Look::LeftOut),
+            head: if closes_loop && at_block { Head::First } else { Head::None },
+            faint: false,
+            classes: at_ends.into_iter().map(|end| self.class(end)).collect(),
+            line: self.line(&stretch.points, start, None),
+            full: String::new(),
+        }
+    }
+
+    fn look(&self, arrow: &Arrow) -> Look {
+        let (from, to) = from_and_to(arrow);
+        match arrow.closes_loop {
             _ if self.view.is_gap(from) || self.view.is_gap(to) => Look::LeftOut,
             true => Look::Loop,
             false => Look::Control,
-        };
-        let full = format!("from {} to {}", self.names[from], self.names[to]);
-        let classes = [from, to].map(|end| self.class(end)).concat();
-        Stroke { look, reversed: arrow.closes_loop, faint: arrow.straight, classes, line, full }
+        }
     }
 
     /// The class of the arrows at a block, with a blank before it. A gap has none.
@@ -59,25 +94,35 @@ impl Drawn<'_> {
         line.curve([-out, -8.0], [-out, 28.0], [0.0, 18.0]);
         let full = format!("{} is its own predecessor", self.names[block]);
         let classes = self.class(block);
-        Stroke { look: Look::Loop, reversed: true, faint: false, classes, line: line.text(), full }
+        Stroke { look: Look::Loop, head: Head::First, faint: false, classes, line: line.text(), full }
     }
 
-    /// From the upper block's bottom through the bends to the lower block's top, upright within
-    /// each layer.
-    fn line(&self, arrow: &Arrow, start: f64, finish: f64) -> String {
-        let upper = arrow.points[0];
-        let at = self.placed.at(upper);
-        let mut line = Line::new(start, at.y + self.extents[upper].foot);
+    /// The line along these points, upright within each layer. It starts at the first one's bottom,
+    /// and ends at this place of the last one's top, or without one at its bottom.
+    fn line(&self, points: &[usize], start: f64, finish: Option<f64>) -> String {
+        let at = self.placed.at(points[0]);
+        let bottom = self.extents.get(points[0]).map_or(at.layer_end, |extent| at.y + extent.foot);
+        let mut line = Line::new(start, bottom);
         line.down_to(at.layer_end);
-        let last = arrow.points.len() - 1;
-        for (place, &point) in arrow.points.iter().enumerate().skip(1) {
-            let at = self.placed.at(point);
-            line.bend_to(if place == last { finish } else { at.x }, at.y);
-            if place < last {
+        let last = points.len() - 1;
+        for (place, &point) in points.iter().enumerate().skip(1) {
+            let (at, finish) = (self.placed.at(point), finish.filter(|_| place == last));
+            line.bend_to(finish.unwrap_or(at.x), at.y);
+            if finish.is_none() {
                 line.down_to(at.layer_end);
             }
         }
         line.text()
+    }
+}
+
+/// The block or gap from which an arrow comes, and the one to which it goes.
+fn from_and_to(arrow: &Arrow) -> (usize, usize) {
+    let (upper, lower) = (arrow.points[0], arrow.points[arrow.points.len() - 1]);
+    if arrow.closes_loop {
+        (lower, upper)
+    } else {
+        (upper, lower)
     }
 }
 

@@ -1,6 +1,6 @@
 //! What the marks and colours of a picture stand for.
 
-use super::svg::{Look, Stroke, Svg};
+use super::svg::{Head, Look, Stroke, Svg};
 
 /// The room that the legend takes.
 pub(super) const WIDTH: f64 = 420.0;
@@ -29,5 +29,6 @@ pub(super) fn draw(y: f64, svg: &mut Svg) {
 fn arrow(x: f64, y: f64, look: Look, svg: &mut Svg) {
     let line = format!("M{x} {}h34", y - 4.0);
     let (classes, full) = (String::new(), String::new());
-    svg.arrow(&Stroke { look, reversed: look == Look::Loop, faint: false, classes, line, full });
+    let head = if look == Look::Loop { Head::First } else { Head::Last };
+    svg.arrow(&Stroke { look, head, faint: false, classes, line, full });
 }

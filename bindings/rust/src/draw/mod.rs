@@ -30,6 +30,7 @@ mod order;
 mod panel;
 mod place;
 mod relax;
+mod shared;
 mod shown;
 mod style;
 mod svg;

@@ -54,9 +54,8 @@ pub(super) fn style(blocks: impl Iterator<Item = usize>) -> String {
 /// A block that is pointed at dims all arrows, and then lights its own: those are of its class. The
 /// arrows stand after the blocks, so that a rule for what follows the block finds them.
 fn pointed(blocks: impl Iterator<Item = usize>) -> String {
-    let dims = format!(
-        ".block{POINTED}>rect{{stroke-width:2.6}}.block{POINTED}~path{{opacity:.12;stroke-width:.8}}"
-    );
+    let dims =
+        format!(".block{POINTED}>rect{{stroke-width:2.6}}.block{POINTED}~path{{opacity:.2;stroke-width:.8}}");
     let lights = blocks.map(|block| {
         format!(".{}{POINTED}~.{}{{opacity:1;stroke-width:2}}", of_block(block), at_block(block))
     });

@@ -23,11 +23,18 @@ pub(super) enum Look {
     LeftOut,
 }
 
-/// An arrow as it is drawn.
+/// At which end of a line the arrowhead is.
+#[derive(Clone, Copy, PartialEq, Eq)]
+pub(super) enum Head {
+    First,
+    Last,
+    None,
+}
+
+/// An arrow as it is drawn, or a part of one.
 pub(super) struct Stroke {
     pub(super) look: Look,
-    /// Whether the head is at the line's start.
-    pub(super) reversed: bool,
+    pub(super) head: Head,
     pub(super) faint: bool,
     /// Classes besides that of its look, with a blank before each.
     pub(super) classes: String,
@@ -92,18 +99,22 @@ impl Svg {
         self.line(format_args!("</g>"));
     }
 
-    /// A line with an arrowhead.
+    /// A line, with an arrowhead or without.
     pub(super) fn arrow(&mut self, arrow: &Stroke) {
-        let Stroke { look, reversed, faint, classes, line, full } = arrow;
-        let (class, head) = match look {
+        let Stroke { look, head, faint, classes, line, full } = arrow;
+        let (class, marker) = match look {
             Look::Control => ("arrow", "plain"),
             Look::Loop => ("loop", "loop"),
             Look::LeftOut => ("left-out", "plain"),
         };
-        let marker = if *reversed { "marker-start" } else { "marker-end" };
+        let head = match head {
+            Head::First => format!(" marker-start=\"url(#{marker})\""),
+            Head::Last => format!(" marker-end=\"url(#{marker})\""),
+            Head::None => String::new(),
+        };
         let faint = if *faint { " opacity=\"0.3\"" } else { "" };
         self.line(format_args!(
-            "<path class=\"{class}{classes}\"{faint} {marker}=\"url(#{head})\" d=\"{line}\">{}</path>",
+            "<path class=\"{class}{classes}\"{faint}{head} d=\"{line}\">{}</path>",
             title(full)
         ));
     }

@@ -1,5 +1,6 @@
 //! Pictures: one file that stands alone, with every block and arrow, and nothing over another.
 
+mod arrows;
 #[path = "../common/mod.rs"]
 mod common;
 mod focus;
@@ -99,21 +100,6 @@ fn a_picture_shows_the_cut_the_loop_and_the_scope() {
     let loops: Vec<&str> =
         arrows.iter().filter(|arrow| arrow.class == "loop").map(|arrow| arrow.title).collect();
     assert_eq!(loops, ["from block 2 to scope block 1", "scope block 1 is its own predecessor"]);
-}
-
-#[test]
-fn no_stretch_of_an_arrow_is_without_length() {
-    let picture = of_text(
-        "scope 3 block 0 block 1 after 0, 3 block 2 after 1 assumes 5, 6 block 3 after 1, 2 block 4 after 1 block 7 after 4",
-    );
-    let arrows = picture.arrows();
-    let upright: Vec<f64> = arrows
-        .iter()
-        .flat_map(|arrow| arrow.line.split('v').skip(1))
-        .map(|rest| rest.split('c').next().unwrap().parse().unwrap())
-        .collect();
-    assert!(!upright.is_empty() && upright.iter().all(|&length| length > 0.0), "{upright:?}");
-    assert!(arrows.iter().all(|arrow| !arrow.line.contains("c0 0 ")));
 }
 
 #[test]

@@ -43,7 +43,7 @@ fn the_rule_that_dims_comes_first_and_reaches_all_arrows_and_no_legend() {
     let picture = of_text("scope 2 block 0 block 1 after 0 block 2 after 0, 1, 2");
     let dims = picture
         .style()
-        .find(&format!(".block{POINTED}~path{{opacity:.12;stroke-width:.8}}"))
+        .find(&format!(".block{POINTED}~path{{opacity:.2;stroke-width:.8}}"))
         .expect("a rule that dims");
     assert!(dims < picture.style().find(".b0:is").unwrap(), "of equal rules the last counts");
     let place = |start: &str| picture.lines().position(|line| line.starts_with(start)).unwrap();

@@ -41,8 +41,12 @@ pub fn attribute<'t>(tag: &'t str, name: &str) -> &'t str {
     &tag[start..start + tag[start..].find('"').unwrap()]
 }
 
+pub fn number_of(text: &str) -> f64 {
+    text.parse().unwrap_or_else(|why| panic!("{text}: {why}"))
+}
+
 pub fn number(tag: &str, name: &str) -> f64 {
-    attribute(tag, name).parse().unwrap()
+    number_of(attribute(tag, name))
 }
 
 /// Left, top, right and bottom of a rectangle.
