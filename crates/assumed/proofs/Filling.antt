@@ -5,7 +5,6 @@ use mathlib.Core.Path.{_≡_, refl, sym, ap, subst, _∙_}
 use mathlib.Core.List.{List, [], _∷_}
 use lib.ListN.{length}
 use Rattle.entries.specs.declared.NodeId.{NodeId}
-use Rattle.entries.specs.declared.Refusal.{Refusal}
 use Rattle.entries.specs.Path.{ReactiveScopeDependency}
 use Rattle.model.specs.Read.{Read, got, refused, readMany}
 use Rattle.model.specs.Job.{PA, readPath}
@@ -16,12 +15,12 @@ use Rattle.model.specs.Stage.{Entered, enterPaths}
 use Rattle.registry.specs.Words.{registryOf, Held}
 use Rattle.registry.proofs.View.{registry-length}
 use Rattle.rows.specs.Members.{membersOf}
-use Rattle.job.specs.Passing.{orNone}
+use Rattle.job.specs.Passing.{IsRead, orNone}
 use Rattle.job.proofs.Many.{many-first}
 use Rattle.paths.specs.declared.EnteredPath.{EnteredPath}
 use Rattle.paths.specs.declared.EnteredPath.the-variants as path
 use Rattle.paths.specs.Enters.{Enters}
-use Rattle.assumed.specs.Start.{IsRead, pathsAt}
+use Rattle.assumed.specs.Start.{pathsAt}
 
 -- Entering paths only adds nodes.
 pub paths-extend : (reg : PropertyPathRegistry) (s : NodeSet) (ds : List ReactiveScopeDependency) → Extends reg (enterPaths reg s ds .registry)
@@ -40,9 +39,6 @@ entered-at (refused r) reach k n ws os h = absurd h
 
 entered-full : {A : Type 0} (x : Read A) (reach : A → Reached) (ws os : List ℕ) → Enters x reach path.Full ws os → {a : A} {n : ℕ} → x ≡ got a n → nodeLimit < length (reach a .registry)
 entered-full x reach ws os h {a} {n} e = subst (λ y. Enters y reach path.Full ws os) e h
-
-not-refused : {A : Type 0} (x : Read A) (reach : A → Reached) (r : Refusal) (ws os : List ℕ) → Enters x reach (path.Refused r) ws os → {a : A} {n : ℕ} → x ≡ got a n → ⊥
-not-refused x reach r ws os h {a} {n} e = subst (λ y. Enters y reach (path.Refused r) ws os) e h
 
 -- The paths that are left.
 
@@ -84,49 +80,52 @@ module _ {want : Entered} {s ws os set : List ℕ} {at left : ℕ} (x : Filling 
       let no : [] ≡ x .rest = cc in
       (x .held, x .same ∙ ap (enterPaths (registryOf ws) (membersOf set)) (sym no))
 
-  module _ (some : 0 < left) (r : EnteredPath) (us ps : List ℕ) (entered : Enters (readPath 4 PA s at) (getOrCreateProperty (registryOf ws)) r us ps) where
+  module _ (some : 0 < left) where
     -- the first of the paths that are left, and the others
-    first : (d : ReactiveScopeDependency) × (next : ℕ) × (rest : List ReactiveScopeDependency) × (readPath 4 PA s at ≡ got d next) × (readMany (left - 1) (readPath 4 PA) s next ≡ got rest (x .end)) × (d ∷ rest ≡ x .rest)
+    first : (d : ReactiveScopeDependency) × (next : ℕ) × (rest : List ReactiveScopeDependency) × (readPath 4 PA s at ≡ got d next)
+        × (readMany (left - 1) (readPath 4 PA) s next ≡ got rest (x .end)) × (d ∷ rest ≡ x .rest)
     first = many-first (readPath 4 PA) s left at some (x .read)
 
-    -- no answer but a node says that the registry has room
-    pub filling-full : ((k : NodeId) (n : ℕ) → r ≡ path.At k n → ⊥) → nodeLimit < length (want .registry)
-    filling-full other =
-        let d = first .0 in
-        let node = getOrCreateProperty (registryOf ws) d in
-        let longer = extends-length (paths-extend (node .registry) (insert (node .node) (membersOf set)) (first .2)) in
-        rw (x .same, ← (first .5)) (go r refl entered (first .3) longer)
-      where
-        go : (q : EnteredPath) → r ≡ q → Enters (readPath 4 PA s at) (getOrCreateProperty (registryOf ws)) q us ps → {d : ReactiveScopeDependency} {n more : ℕ} → readPath 4 PA s at ≡ got d n
-            → length (getOrCreateProperty (registryOf ws) d .registry) ≤ more → nodeLimit < more
-        go (path.At k n) same h e l = absurd (other k n same)
-        go path.Full same h e l = let f = entered-full _ (getOrCreateProperty (registryOf ws)) us ps h e in omega arith
-        go (path.Refused q) same h e l = absurd (not-refused _ (getOrCreateProperty (registryOf ws)) q us ps h e)
+    pub first-there : IsRead (readPath 4 PA s at)
+    first-there = record { value = first .0; next = first .1; read = first .3 }
 
-    module _ (k : NodeId) (n : ℕ) (same : r ≡ path.At k n) where
-      reached : (d : ReactiveScopeDependency) × (readPath 4 PA s at ≡ got d n) × Held us ps × (getOrCreateProperty (registryOf ws) d ≡ record { registry = registryOf us; node = k })
-      reached = entered-at (readPath 4 PA s at) (getOrCreateProperty (registryOf ws)) k n us ps (subst (λ q. Enters (readPath 4 PA s at) (getOrCreateProperty (registryOf ws)) q us ps) same entered)
+    module _ (r : EnteredPath) (us ps : List ℕ) (entered : Enters (readPath 4 PA s at) (getOrCreateProperty (registryOf ws)) r us ps) where
+      pub filling-full : r ≡ path.Full → nodeLimit < length (want .registry)
+      filling-full same =
+          let node = getOrCreateProperty (registryOf ws) (first .0) in
+          let longer = extends-length (paths-extend (node .registry) (insert (node .node) (membersOf set)) (first .2)) in
+          let full = subst (λ q. Enters (readPath 4 PA s at) (getOrCreateProperty (registryOf ws)) q us ps) same entered in
+          let more = entered-full (readPath 4 PA s at) (getOrCreateProperty (registryOf ws)) us ps full (first .3) in
+          rw (x .same, ← (first .5)) (omega (arith, more, longer))
 
-      pub node-inside : k .0 < 512
-      unfolding getOrCreateProperty
-      node-inside =
-          let p = path-proper ownMark (registryOf ws) (reached .0) (x .held .sound) .inside in
-          let l = subst (λ (y : Reached). y .node .0 < length (y .registry)) (reached .3) p in
-          let size = registry-length us in
-          let room = reached .2 .sized .room in
-          omega arith
+      module _ (k : NodeId) (n : ℕ) (same : r ≡ path.At k n) where
+        reached : (d : ReactiveScopeDependency) × (readPath 4 PA s at ≡ got d n) × Held us ps
+            × (getOrCreateProperty (registryOf ws) d ≡ record { registry = registryOf us; node = k })
+        reached =
+            entered-at (readPath 4 PA s at) (getOrCreateProperty (registryOf ws)) k n us ps
+            (subst (λ q. Enters (readPath 4 PA s at) (getOrCreateProperty (registryOf ws)) q us ps) same entered)
 
-      pub filling-more : (more : List ℕ) → membersOf more ≡ insert k (membersOf set) → Filling want s us ps more n (left - 1)
-      filling-more more inserted =
-          let there : got (reached .0) n ≡ got (first .0) (first .1) = sym (reached .1) ∙ first .3 in
-          let d-same : first .0 ≡ reached .0 = cc in
-          let n-same : first .1 ≡ n = cc in
-          record {
-            held = reached .2;
-            rest = first .2;
-            end = x .end;
-            read = subst (λ m. readMany (left - 1) (readPath 4 PA) s m ≡ got (first .2) (x .end)) n-same (first .4);
-            same =
-                x .same
-                ∙ next-path (registryOf ws) (registryOf us) (membersOf set) (membersOf more) (x .rest) (first .2) (first .0) (reached .0) k (first .5) d-same (reached .3) inserted;
-          }
+        pub node-inside : k .0 < 512
+        unfolding getOrCreateProperty
+        node-inside =
+            let p = path-proper ownMark (registryOf ws) (reached .0) (x .held .sound) .inside in
+            let l = subst (λ (y : Reached). y .node .0 < length (y .registry)) (reached .3) p in
+            let size = registry-length us in
+            let room = reached .2 .sized .room in
+            omega arith
+
+        pub filling-more : (more : List ℕ) → membersOf more ≡ insert k (membersOf set) → Filling want s us ps more n (left - 1)
+        filling-more more inserted =
+            let there : got (reached .0) n ≡ got (first .0) (first .1) = sym (reached .1) ∙ first .3 in
+            let d-same : first .0 ≡ reached .0 = cc in
+            let n-same : first .1 ≡ n = cc in
+            record {
+              held = reached .2;
+              rest = first .2;
+              end = x .end;
+              read = subst (λ m. readMany (left - 1) (readPath 4 PA) s m ≡ got (first .2) (x .end)) n-same (first .4);
+              same =
+                  x .same
+                  ∙ next-path (registryOf ws) (registryOf us) (membersOf set) (membersOf more) (x .rest) (first .2) (first .0) (reached .0) k (first .5) d-same
+                  (reached .3) inserted;
+            }

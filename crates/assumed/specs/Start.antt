@@ -5,7 +5,7 @@ use mathlib.Core.Bool.{Bool, true, false}
 use mathlib.Core.List.{List}
 use lib.ListN.{length}
 use Rattle.entries.specs.Path.{ReactiveScopeDependency}
-use Rattle.model.specs.Read.{Read, got, readMany}
+use Rattle.model.specs.Read.{readMany}
 use Rattle.model.specs.Job.{PA, Block, readPath, readBlock}
 use Rattle.model.specs.Answer.{spanWidth}
 use Rattle.model.specs.Registry.{nodeLimit}
@@ -17,12 +17,6 @@ use Rattle.job.specs.Passing.{orNone}
 use Rattle.assumed.specs.declared.EnteredSet.{EnteredSet}
 use Rattle.assumed.specs.declared.Entered.{Entered}
 use Rattle.assumed.specs.declared.Entered.the-variants.{All, Full}
-
--- A value was read.
-pub record IsRead {A : Type 0} (x : Read A) : Type 0 where
-  pub value : A
-  pub next : ℕ
-  pub read : x ≡ got value next
 
 -- so many assumed paths from a place on
 unfoldable pub pathsAt : List ℕ → ℕ → ℕ → List ReactiveScopeDependency

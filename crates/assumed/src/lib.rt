@@ -1,16 +1,15 @@
 // All assumed paths of a job entered into the registry, straight from its bytes, and each block's set of them stored in its row.
-ghost use mathlib.Core.Path.{_≡_};
 ghost use mathlib.Core.List.{[]};
 ghost use Prim.Native.Nat.{_≤_};
-ghost use lib.ListN.{length};
 ghost use Rattle.rows.specs.Rows.{Lent};
-ghost use Rattle.registry.specs.Words.{registryOf, Held};
+ghost use Rattle.registry.specs.Words.{registryOf, Held, HoldsNone};
 ghost use Rattle.model.specs.Read.{readMany};
 ghost use Rattle.model.specs.Job.{PA, readPath, readBlock};
 ghost use Rattle.model.specs.Answer.{spanWidth};
 ghost use Rattle.model.specs.Stage.{enterPaths, enterBlocks};
 ghost use Rattle.job.specs.Kept.{blocksOf, PlacedJob};
-ghost use Rattle.assumed.specs.Start.{IsRead, pathsAt, assumedAt, Fills, Starts};
+ghost use Rattle.job.specs.Passing.{IsRead};
+ghost use Rattle.assumed.specs.Start.{pathsAt, assumedAt, Fills, Starts};
 use fields::Passed;
 use job::ReadBlockHead;
 use paths::EnteredPath;
@@ -37,7 +36,7 @@ fn enter_paths(
     let mut at = start;
     let mut left = count;
     while 0 < left {
-        let entered = paths::enter_path(s, at, job::PA, ws, optional);
+        let entered = paths::enter_path(s, at, ws, optional);
         let EnteredPath::At(node, next) = entered else {
             return EnteredSet { set, full: true };
         };
@@ -84,10 +83,9 @@ pub fn enter_blocks(
     optional: &mut [u64; 8],
     sets: &mut [u64; 1024],
 ) -> Entered
-    requires { ⌜ PlacedJob (now s) blocks (now places) × (blocks ≤ 128) × (length (now ws) ≡ 1665) × Lent (now sets) ⌝ }
+    requires { ⌜ PlacedJob (now s) blocks (now places) × (blocks ≤ 128) × HoldsNone (now ws) (now optional) × Lent (now sets) ⌝ }
     ensures { λ r. ⌜ Starts (enterBlocks [] (blocksOf (now (s .entry)))) blocks r (now (ws .exit)) (now (optional .exit)) (now (sets .exit)) ⌝ }
 {
-    registry::clear(ws, optional);
     let mut b: usize = 0;
     while b < blocks {
         let at = places[b];

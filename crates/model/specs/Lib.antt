@@ -13,7 +13,9 @@ pub mod Read
 pub mod Job
 pub mod Stage
 pub mod Answer
--- the examples of document 01
+pub mod JobBytes
+-- the examples of document 01, and others beside them
+pub mod PathExamples
 pub mod Examples
 -- laws
 pub mod Tests

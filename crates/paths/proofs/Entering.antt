@@ -1,23 +1,23 @@
 -- The entries that are left of a path: what enters them from the node reached so far enters the whole.
-use Prim.Native.Nat.{ℕ, zero, suc, _-_, _≤_, _<_}
+use Prim.Native.Nat.{ℕ, suc, _-_, _≤_, _<_}
 use native.Mathlib.Omega.{arith}
 use mathlib.Core.Path.{_≡_, refl, sym, ap, subst, _∙_}
-use mathlib.Core.Bool.{Bool, true}
+use mathlib.Core.Bool.{Bool}
 use mathlib.Core.List.{List, [], _∷_}
 use lib.ListN.{length}
 use Rattle.entries.specs.declared.IdentifierId.{IdentifierId}
 use Rattle.entries.specs.declared.NodeId.{NodeId}
 use Rattle.entries.specs.declared.Refusal.{Refusal}
 use Rattle.entries.specs.declared.DependencyPathEntry.{DependencyPathEntry}
-use Rattle.entries.specs.Path.{ReactiveScopeDependency}
 use Rattle.model.specs.Read.{Read, got, refused, mapped, both, readMany, readMark}
-use Rattle.model.specs.Job.{readEntry, readPath}
+use Rattle.model.specs.Job.{PA, readEntry, readPath}
 use Rattle.job.specs.declared.PathHead.{PathHead}
 use Rattle.job.specs.Head.{readPathHead}
-use Rattle.job.specs.Passing.{passed}
 use Rattle.job.proofs.Heads.{pathOf, path-by-head}
-use Rattle.job.proofs.Passing.{passed-got, passed-refused}
-use Rattle.model.specs.Registry.{nodeLimit, PropertyPathRegistry, PropertyPathNode, Reached, fullPathOf, findOrMake, isRootFor, isChildBy, rootNode, childNode, getOrCreateIdentifier, getOrCreatePropertyEntry, getOrCreateProperty, walkFrom, ownMark}
+use Rattle.job.proofs.Many.{many-first}
+use Rattle.job.proofs.Passing.{not-both, mapped-got}
+use Rattle.model.specs.Registry.{nodeLimit, PropertyPathRegistry, Reached, fullPathOf, isRootFor, isChildBy, rootNode, childNode, walkFrom, ownMark}
+use Rattle.model.specs.Registry.{getOrCreateIdentifier, getOrCreatePropertyEntry, getOrCreateProperty}
 use Rattle.model.specs.RegistryLaws.{entry-same, extends-length, reached-inside, walk-extends}
 use Rattle.model.specs.Tests.{eqb-same}
 use Rattle.registry.specs.declared.Entered.{Entered}
@@ -25,29 +25,26 @@ use Rattle.registry.specs.declared.Entered.the-variants as entered
 use Rattle.registry.specs.Words.{countIn, registryOf, Held, Arrives}
 use Rattle.registry.proofs.View.{registry-length}
 use Rattle.paths.specs.declared.EnteredPath.{EnteredPath}
-use Rattle.paths.specs.declared.EnteredPath.the-variants.{At, Full, Refused}
-use Rattle.paths.specs.Enters.{walkOwn, Enters, fullOrRefused}
+use Rattle.paths.specs.declared.EnteredPath.the-variants.{At, Full}
+use Rattle.job.specs.Passing.{IsRead}
+use Rattle.paths.specs.Enters.{walkOwn, Enters}
+
+-- no reading of what was read is refused
+pub not-refused : {A B : Type 0} {x : Read A} {r : Refusal} → IsRead x → x ≡ refused r → B
+not-refused i e = not-both (i .read) e
 
 -- a record that is made of another
-pub enters-mapped : {A B : Type 0} (f : A → B) (x : Read A) (reach : B → Reached) (r : EnteredPath) (ws os : List ℕ) → Enters x (λ a. reach (f a)) r ws os → Enters (mapped f x) reach r ws os
+pub enters-mapped : {A B : Type 0} (f : A → B) (x : Read A) (reach : B → Reached) (r : EnteredPath) (ws os : List ℕ)
+    → Enters x (λ a. reach (f a)) r ws os → Enters (mapped f x) reach r ws os
 enters-mapped f (got a n) reach (At k m) ws os h = h
 enters-mapped f (got a n) reach Full ws os h = h
-enters-mapped f (got a n) reach (Refused q) ws os h = h
-enters-mapped f (refused q) reach (At k m) ws os h = h
-enters-mapped f (refused q) reach Full ws os h = absurd h
-enters-mapped f (refused q) reach (Refused p) ws os h = h
+enters-mapped f (refused q) reach r ws os h = absurd h
 
 -- wherever it would lead, there is no room
-pub enters-full : {A : Type 0} (x : Read A) (reach : A → Reached) (ws os : List ℕ) → ((a : A) → nodeLimit < length (reach a .registry)) → Enters x reach (fullOrRefused x) ws os
-enters-full (got a n) reach ws os h = h a
-enters-full (refused q) reach ws os h = refl
-
--- what is said where there is no room, by how far the rest of the record was passed
-pub rest-read : {A : Type 0} (x : Read A) {n : ℕ} → passed x ≡ got tt n → Full ≡ fullOrRefused x
-rest-read x e = rw (passed-got x e .1)
-
-pub rest-refused : {A : Type 0} (x : Read A) {r : Refusal} → passed x ≡ refused r → Refused r ≡ fullOrRefused x
-rest-refused x e = rw (passed-refused x e)
+pub enters-full : {A : Type 0} (x : Read A) (reach : A → Reached) (ws os : List ℕ) → IsRead x
+    → ((a : A) → nodeLimit < length (reach a .registry)) → Enters x reach Full ws os
+enters-full (got a n) reach ws os i h = h a
+enters-full (refused q) reach ws os i h = not-refused i refl
 
 -- The registry's answers by their case, with what the next call asks.
 
@@ -81,9 +78,12 @@ child-made-at reg p e =
 pub record Entering {A : Type 0} (whole : Read A) (reach : A → Reached) (s ws os : List ℕ) (node : NodeId) (at left : ℕ) : Type 0 where
   pub held : Held ws os
   pub inside : node .0 < countIn ws
-  pub on : (r : EnteredPath) (us ps : List ℕ) → Enters (readMany left (readEntry 4) s at) (walkOwn (registryOf ws) node) r us ps → Enters whole reach r us ps
+  pub there : IsRead (readMany left (readEntry 4) s at)
+  pub on : (r : EnteredPath) (us ps : List ℕ) → Enters (readMany left (readEntry 4) s at) (walkOwn (registryOf ws) node) r us ps
+      → Enters whole reach r us ps
 
-module _ {A : Type 0} {whole : Read A} {reach : A → Reached} {s ws os : List ℕ} {node : NodeId} {at left : ℕ} (x : Entering whole reach s ws os node at left) where
+module _ {A : Type 0} {whole : Read A} {reach : A → Reached} {s ws os : List ℕ} {node : NodeId} {at left : ℕ}
+    (x : Entering whole reach s ws os node at left) where
   pub entering-end : left ≤ 0 → Enters whole reach (At node at) ws os
   unfolding walkFrom
   entering-end none =
@@ -94,61 +94,94 @@ module _ {A : Type 0} {whole : Read A} {reach : A → Reached} {s ws os : List �
     more : left ≡ suc (left - 1)
     more = omega arith
 
-    pub entering-refused : {r : Refusal} → readEntry 4 s at ≡ refused r → (us ps : List ℕ) → Enters whole reach (Refused r) us ps
-    entering-refused {r} e us ps =
-        let rest : readMany left (readEntry 4) s at ≡ refused r = ap (λ n. readMany n (readEntry 4) s at) more ∙ ap (λ y. both (λ first rest. first ∷ rest) y (readMany (left - 1) (readEntry 4) s)) e in
-        x .on (Refused r) us ps (rw rest refl)
+    -- the first of the entries that are left was read
+    first : (e : DependencyPathEntry) × (next : ℕ) × (es : List DependencyPathEntry) × (readEntry 4 s at ≡ got e next)
+        × (readMany (left - 1) (readEntry 4) s next ≡ got es (x .there .next)) × (e ∷ es ≡ x .there .value)
+    first = many-first (readEntry 4) s left at some (x .there .read)
+
+    pub entry-there : {B : Type 0} {r : Refusal} → readEntry 4 s at ≡ refused r → B
+    entry-there e = not-both (first .3) e
 
     module _ {e : DependencyPathEntry} {next : ℕ} (read : readEntry 4 s at ≡ got e next) where
       rest : readMany left (readEntry 4) s at ≡ mapped (λ es. e ∷ es) (readMany (left - 1) (readEntry 4) s next)
-      rest = ap (λ n. readMany n (readEntry 4) s at) more ∙ ap (λ y. both (λ first rest. first ∷ rest) y (readMany (left - 1) (readEntry 4) s)) read
+      rest =
+          ap (λ n. readMany n (readEntry 4) s at) more
+          ∙ ap (λ y. both (λ first rest. first ∷ rest) y (readMany (left - 1) (readEntry 4) s)) read
+
+      rest-there : IsRead (readMany (left - 1) (readEntry 4) s next)
+      rest-there =
+          let m = mapped-got (λ es. e ∷ es) (readMany (left - 1) (readEntry 4) s next) (sym rest ∙ x .there .read) in
+          record { value = m .0; next = x .there .next; read = m .1 }
 
       abbrev child : Reached
       child = getOrCreatePropertyEntry (registryOf ws) node e
 
       -- what enters the entries after this one enters those from it on
-      step : (r : EnteredPath) (us ps : List ℕ) → Enters (readMany (left - 1) (readEntry 4) s next) (λ es. walkFrom ownMark child es) r us ps → Enters whole reach r us ps
+      step : (r : EnteredPath) (us ps : List ℕ) → Enters (readMany (left - 1) (readEntry 4) s next) (λ es. walkFrom ownMark child es) r us ps
+          → Enters whole reach r us ps
       unfolding walkFrom
-      step r us ps h = x .on r us ps (rw rest (enters-mapped (λ es. e ∷ es) (readMany (left - 1) (readEntry 4) s next) (walkOwn (registryOf ws) node) r us ps h))
+      step r us ps h =
+          x .on r us ps (rw rest (enters-mapped (λ es. e ∷ es) (readMany (left - 1) (readEntry 4) s next) (walkOwn (registryOf ws) node) r us ps h))
 
-      pub entering-full : (r : EnteredPath) (us ps : List ℕ) → nodeLimit < length (child .registry) → r ≡ fullOrRefused (readMany (left - 1) (readEntry 4) s next) → Enters whole reach r us ps
-      entering-full r us ps full is =
-          rw is (step (fullOrRefused (readMany (left - 1) (readEntry 4) s next)) us ps (enters-full (readMany (left - 1) (readEntry 4) s next) (λ es. walkFrom ownMark child es) us ps (λ es. let longer = extends-length (walk-extends ownMark child es) in omega arith)))
+      pub entering-full : (us ps : List ℕ) → nodeLimit < length (child .registry) → Enters whole reach Full us ps
+      entering-full us ps full =
+          step Full us ps
+          (enters-full (readMany (left - 1) (readEntry 4) s next) (λ es. walkFrom ownMark child es) us ps rest-there
+          (λ es. let longer = extends-length (walk-extends ownMark child es) in omega arith))
 
       pub entering-more : (vs qs : List ℕ) (k : NodeId) → Held vs qs → k .0 < countIn vs → child ≡ record { registry = registryOf vs; node = k }
           → Entering whole reach s vs qs k next (left - 1)
       entering-more vs qs k held inside is = record {
         held = held;
         inside = inside;
-        on = λ r us ps h. step r us ps (subst (λ (y : Reached). Enters (readMany (left - 1) (readEntry 4) s next) (λ es. walkFrom ownMark y es) r us ps) (sym is) h);
+        there = rest-there;
+        on =
+            λ r us ps h.
+            step r us ps (subst (λ (y : Reached). Enters (readMany (left - 1) (readEntry 4) s next) (λ es. walkFrom ownMark y es) r us ps) (sym is) h);
       }
 
 -- The whole path: its mark, its head, and its entries from its root.
 
-module _ (mark : ℕ) (s : List ℕ) (at : ℕ) where
-  pub path-unmarked : {r : Refusal} → readMark mark s at ≡ refused r → readPath 4 mark s at ≡ refused r
-  path-unmarked e = rw (path-by-head, e)
+module _ (s : List ℕ) (at : ℕ) (there : IsRead (readPath 4 PA s at)) where
+  pub mark-there : {B : Type 0} {r : Refusal} → readMark PA s at ≡ refused r → B
+  mark-there {r = r} e =
+      let none : readPath 4 PA s at ≡ refused r = rw (path-by-head, e) in
+      not-refused there none
 
-  module _ {headAt : ℕ} (marked : readMark mark s at ≡ got tt headAt) where
-    pub path-headless : {r : Refusal} → readPathHead s headAt ≡ refused r → readPath 4 mark s at ≡ refused r
-    path-headless e = rw (path-by-head, marked, e)
+  module _ {headAt : ℕ} (marked : readMark PA s at ≡ got tt headAt) where
+    pub head-there : {B : Type 0} {r : Refusal} → readPathHead s headAt ≡ refused r → B
+    head-there {r = r} e =
+        let none : readPath 4 PA s at ≡ refused r = rw (path-by-head, marked, e) in
+        not-refused there none
 
-    module _ {head : PathHead} {entriesAt : ℕ} (read : readPathHead s headAt ≡ got head entriesAt) (reg : PropertyPathRegistry) where
-      abbrev root : Reached
-      root = getOrCreateIdentifier reg (head .identifier) (head .reactive) (head .span)
+    module _ {head : PathHead} {entriesAt : ℕ} (read : readPathHead s headAt ≡ got head entriesAt) where
+      parts : readPath 4 PA s at ≡ mapped (pathOf head) (readMany (head .entries) (readEntry 4) s entriesAt)
+      parts = rw (path-by-head, marked, read)
 
-      pub path-entered : (r : EnteredPath) (us ps : List ℕ) → Enters (readMany (head .entries) (readEntry 4) s entriesAt) (λ es. walkFrom ownMark root es) r us ps → Enters (readPath 4 mark s at) (getOrCreateProperty reg) r us ps
-      unfolding getOrCreateProperty
-      path-entered r us ps h = rw (path-by-head, marked, read) (enters-mapped (pathOf head) (readMany (head .entries) (readEntry 4) s entriesAt) (getOrCreateProperty reg) r us ps h)
+      pub entries-there : IsRead (readMany (head .entries) (readEntry 4) s entriesAt)
+      entries-there =
+          let m = mapped-got (pathOf head) (readMany (head .entries) (readEntry 4) s entriesAt) (sym parts ∙ there .read) in
+          record { value = m .0; next = there .next; read = m .1 }
 
-      pub path-full : (r : EnteredPath) (us ps : List ℕ) → nodeLimit < length (root .registry) → r ≡ fullOrRefused (readMany (head .entries) (readEntry 4) s entriesAt)
-          → Enters (readPath 4 mark s at) (getOrCreateProperty reg) r us ps
-      path-full r us ps full is =
-          rw is (path-entered (fullOrRefused (readMany (head .entries) (readEntry 4) s entriesAt)) us ps (enters-full (readMany (head .entries) (readEntry 4) s entriesAt) (λ es. walkFrom ownMark root es) us ps (λ es. let longer = extends-length (walk-extends ownMark root es) in omega arith)))
+      module _ (reg : PropertyPathRegistry) where
+        abbrev root : Reached
+        root = getOrCreateIdentifier reg (head .identifier) (head .reactive) (head .span)
 
-      pub path-rooted : (vs : List ℕ) (k : NodeId) → root ≡ record { registry = registryOf vs; node = k } → (r : EnteredPath) (us ps : List ℕ)
-          → Enters (readMany (head .entries) (readEntry 4) s entriesAt) (walkOwn (registryOf vs) k) r us ps → Enters (readPath 4 mark s at) (getOrCreateProperty reg) r us ps
-      path-rooted vs k is r us ps h = path-entered r us ps (subst (λ (y : Reached). Enters (readMany (head .entries) (readEntry 4) s entriesAt) (λ es. walkFrom ownMark y es) r us ps) (sym is) h)
+        path-entered : (r : EnteredPath) (us ps : List ℕ) → Enters (readMany (head .entries) (readEntry 4) s entriesAt) (λ es. walkFrom ownMark root es) r us ps
+            → Enters (readPath 4 PA s at) (getOrCreateProperty reg) r us ps
+        unfolding getOrCreateProperty
+        path-entered r us ps h =
+            rw parts (enters-mapped (pathOf head) (readMany (head .entries) (readEntry 4) s entriesAt) (getOrCreateProperty reg) r us ps h)
 
-pub enters-refused : {A : Type 0} {x : Read A} (reach : A → Reached) {r : Refusal} (ws os : List ℕ) → x ≡ refused r → Enters x reach (Refused r) ws os
-enters-refused reach ws os e = rw e refl
+        pub path-full : (us ps : List ℕ) → nodeLimit < length (root .registry) → Enters (readPath 4 PA s at) (getOrCreateProperty reg) Full us ps
+        path-full us ps full =
+            path-entered Full us ps
+            (enters-full (readMany (head .entries) (readEntry 4) s entriesAt) (λ es. walkFrom ownMark root es) us ps entries-there
+            (λ es. let longer = extends-length (walk-extends ownMark root es) in omega arith))
+
+        pub path-rooted : (vs : List ℕ) (k : NodeId) → root ≡ record { registry = registryOf vs; node = k } → (r : EnteredPath) (us ps : List ℕ)
+            → Enters (readMany (head .entries) (readEntry 4) s entriesAt) (walkOwn (registryOf vs) k) r us ps
+            → Enters (readPath 4 PA s at) (getOrCreateProperty reg) r us ps
+        path-rooted vs k is r us ps h =
+            path-entered r us ps
+            (subst (λ (y : Reached). Enters (readMany (head .entries) (readEntry 4) s entriesAt) (λ es. walkFrom ownMark y es) r us ps) (sym is) h)

@@ -1,35 +1,25 @@
-// Enters a path of a job into the registry, straight from its bytes.
+// Enters an assumed path of a job into the registry, straight from its bytes. The path was read
+// before, with the whole job, so that no record is refused here.
 ghost use mathlib.Core.Path.{_≡_};
 ghost use Prim.Native.Nat.{_<_};
 ghost use Rattle.model.specs.Read.{readMany};
-ghost use Rattle.model.specs.Job.{readEntry, readPath};
+ghost use Rattle.model.specs.Job.{PA, readEntry, readPath};
 ghost use Rattle.model.specs.Registry.{getOrCreateProperty};
 ghost use Rattle.model.specs.Answer.{spanWidth};
 ghost use Rattle.registry.specs.Words.{countIn, registryOf, Held};
-ghost use Rattle.paths.specs.Enters.{walkOwn, Enters, fullOrRefused};
+ghost use Rattle.job.specs.Passing.{IsRead};
+ghost use Rattle.paths.specs.Enters.{walkOwn, Enters};
 use entries::NodeId;
-use entries::Refusal;
 use fields::Passed;
 use job::ReadEntry;
 use job::ReadPathHead;
 use registry::Entered;
 
-// The path's node and the place after the record; or that the registry has no room; or the refusal of the record.
+// The path's node and the place after the record; or that the registry has no room. Where a part
+// that was read before is refused, `Full` stands for an answer that no caller sees.
 pub enum EnteredPath {
     At(NodeId, usize),
     Full,
-    Refused(Refusal),
-}
-
-// The registry has no room for a path of which `left` entries stand from a place on: full, unless the record cannot be read.
-fn full_or_refused(s: &[u8], at: usize, left: u8) -> EnteredPath
-    ensures { λ r. ⌜ r ≡ fullOrRefused (readMany left (readEntry spanWidth) (now (s .entry)) at) ⌝ }
-{
-    let rest = job::past_entries(s, at, left);
-    let Passed::To(_) = rest else {
-        return EnteredPath::Refused(rest.refusal());
-    };
-    EnteredPath::Full
 }
 
 // From a node on by `count` entries.
@@ -41,7 +31,7 @@ fn enter_entries(
     optional: &mut [u64; 8],
     from: NodeId,
 ) -> EnteredPath
-    requires { ⌜ Held (now ws) (now optional) × (from .0 < countIn (now ws)) ⌝ }
+    requires { ⌜ Held (now ws) (now optional) × (from .0 < countIn (now ws)) × IsRead (readMany count (readEntry spanWidth) (now s) start) ⌝ }
     ensures { λ r. ⌜ Enters (readMany count (readEntry spanWidth) (now (s .entry)) start) (walkOwn (registryOf (now (ws .entry))) from) r (now (ws .exit)) (now (optional .exit)) ⌝ }
 {
     let mut at = start;
@@ -50,11 +40,11 @@ fn enter_entries(
     while 0 < left {
         let field = job::entry_at(s, at);
         let ReadEntry::Value(entry, next) = field else {
-            return EnteredPath::Refused(field.refusal());
+            return EnteredPath::Full;
         };
         let child = registry::get_or_create_property_entry(ws, optional, node, entry);
         let Entered::At(reached) = child else {
-            return full_or_refused(s, next, left - 1);
+            return EnteredPath::Full;
         };
         node = reached;
         at = next;
@@ -63,24 +53,18 @@ fn enter_entries(
     EnteredPath::At(node, at)
 }
 
-// The path under the mark at a place.
-pub fn enter_path(
-    s: &[u8],
-    at: usize,
-    mark: u16,
-    ws: &mut [u64; 1665],
-    optional: &mut [u64; 8],
-) -> EnteredPath
-    requires { ⌜ Held (now ws) (now optional) ⌝ }
-    ensures { λ r. ⌜ Enters (readPath spanWidth mark (now (s .entry)) at) (getOrCreateProperty (registryOf (now (ws .entry)))) r (now (ws .exit)) (now (optional .exit)) ⌝ }
+// The assumed path at a place.
+pub fn enter_path(s: &[u8], at: usize, ws: &mut [u64; 1665], optional: &mut [u64; 8]) -> EnteredPath
+    requires { ⌜ Held (now ws) (now optional) × IsRead (readPath spanWidth PA (now s) at) ⌝ }
+    ensures { λ r. ⌜ Enters (readPath spanWidth PA (now (s .entry)) at) (getOrCreateProperty (registryOf (now (ws .entry)))) r (now (ws .exit)) (now (optional .exit)) ⌝ }
 {
-    let marked = fields::mark_at(s, at, mark);
+    let marked = fields::mark_at(s, at, job::PA);
     let Passed::To(head_at) = marked else {
-        return EnteredPath::Refused(marked.refusal());
+        return EnteredPath::Full;
     };
     let field = job::path_head_at(s, head_at);
     let ReadPathHead::Value(head, entries_at) = field else {
-        return EnteredPath::Refused(field.refusal());
+        return EnteredPath::Full;
     };
     let identifier = head.identifier;
     let root = registry::get_or_create_identifier(
@@ -91,7 +75,7 @@ pub fn enter_path(
         head.span,
     );
     let Entered::At(reached) = root else {
-        return full_or_refused(s, entries_at, head.entries);
+        return EnteredPath::Full;
     };
     enter_entries(s, entries_at, head.entries, ws, optional, reached)
 }

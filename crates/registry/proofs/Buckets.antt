@@ -37,12 +37,6 @@ none-linked ws none ends = record {
   links = λ k l. absurd (omega arith);
 }
 
--- words from 1536 on that are 0, and one more
-pub zero-more : (ws : List ℕ) (at : ℕ) → length ws ≡ 1665 → at < 1665 → ((i : ℕ) → 1536 ≤ i → i < at → getD ws i 0 ≡ 0) → (i : ℕ) → 1536 ≤ i → i < at + 1 → getD (set ws at 0) i 0 ≡ 0
-zero-more ws at long l zeros i from below =
-    decide (eqb i at) (λ t. rw (eqb-true i at t) (getD-set-same ws at 0 0 (omega arith)))
-    (λ t. let other = eqb-false i at t in getD-set-other ws at i 0 0 other ∙ zeros i from (omega arith))
-
 -- what is said of the nodes below a limit stays where these do
 moved : (ws vs : List ℕ) (b limit e : ℕ) → ((j : ℕ) → j < limit → nodeAt vs j ≡ nodeAt ws j) → BehindLast ws b limit e → BehindLast vs b limit e
 moved ws vs b limit e same h =

@@ -4,7 +4,7 @@ use native.Mathlib.Omega.{arith}
 use mathlib.Core.Path.{_≡_, refl, sym, ap, _∙_, subst}
 use mathlib.Core.Bool.{Bool, true, false, _||_, cond, or-comm, or-false}
 use mathlib.Core.List.{List, [], _∷_, _++_}
-use lib.ListN.{length, getD, length-append, List·getD-append, List·getD-eq-default}
+use lib.ListN.{length, getD, replicate, length-replicate, getD-replicate, length-append, List·getD-append, List·getD-eq-default}
 use lib.Seq.{getD-append-seam}
 use lib.Dec.{eqb}
 use Rattle.entries.specs.declared.NodeId.{NodeId}
@@ -17,10 +17,11 @@ use Rattle.model.specs.Registry.{PropertyPathRegistry, PropertyPathNode, fullPa
 use Rattle.model.specs.RegistryLaws.{nodeAt, Sound, sound-empty}
 use Rattle.model.specs.Reduction.{hasOptional}
 use Rattle.rows.specs.Members.{membersOf}
+use Rattle.rows.proofs.Members.{no-members}
 use Rattle.registry.specs.declared.Node.{Node}
 use Rattle.registry.specs.declared.Node.the-variants.{Root, Child}
 use Rattle.registry.specs.Nodes.{nodeOver, Inside, optionalOver, notedWith}
-use Rattle.registry.specs.Words.{endIn, countIn, nodesOf, registryOf, Held}
+use Rattle.registry.specs.Words.{endIn, countIn, nodesOf, registryOf, Held, HoldsNone}
 use Rattle.registry.proofs.View.{registry-length, registry-snoc}
 use Rattle.registry.proofs.Buckets.{none-linked}
 
@@ -87,7 +88,8 @@ noted-new ws vs os ps n k h e nodes members j =
     ∙ ap (λ r. hasOptional r j) (sym (registry-snoc ws vs n nodes))
 
 -- words that count no node
-pub none-held : (ws os : List ℕ) → length ws ≡ 1665 → countIn ws ≡ 0 → ((b : ℕ) → b < 128 → endIn ws b ≡ 0) → membersOf os ≡ [] → Held ws os × (registryOf ws ≡ [])
+none-held : (ws os : List ℕ) → length ws ≡ 1665 → countIn ws ≡ 0 → ((b : ℕ) → b < 128 → endIn ws b ≡ 0) → membersOf os ≡ []
+    → HoldsNone ws os
 none-held ws os long none ends empty = (
   record {
     sized = record { long = long; room = omega arith };
@@ -104,3 +106,9 @@ none-held ws os long none ends empty = (
         go : (r : PropertyPathRegistry) → length r ≡ 0 → r ≡ []
         go [] e = refl
         go (n ∷ r) e = absurd (omega arith)
+
+-- words that are all 0
+pub zeros-hold-none : HoldsNone (replicate 1665 0) (replicate 8 0)
+zeros-hold-none =
+    none-held (replicate 1665 0) (replicate 8 0) (length-replicate {A = ℕ} 1665 0) (getD-replicate 1665 1536 0 0 (omega arith))
+    (λ b l. getD-replicate 1665 (1537 + b) 0 0 (omega arith)) (no-members (replicate 8 0) (λ i l. getD-replicate 8 i 0 0 l))

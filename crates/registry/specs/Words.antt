@@ -127,6 +127,10 @@ pub record Held (ws os : List ℕ) : Type 0 where
   pub sound : Sound (registryOf ws)
   pub noted : (k : NodeId) → contains (membersOf os) k ≡ hasOptional (registryOf ws) k
 
+-- The words hold a registry that has no node.
+abbrev pub HoldsNone : List ℕ → List ℕ → Type 0
+HoldsNone ws os = Held ws os × (registryOf ws ≡ [])
+
 -- What is reached: the words hold the registry that was to be reached, and the node is its number; or that registry has no room.
 abbrev pub Arrives : Reached → Entered → List ℕ → List ℕ → Type 0
 Arrives want (At k) ws os = Held ws os × (want ≡ record { registry = registryOf ws; node = k })

@@ -8,7 +8,6 @@ ghost use Rattle.model.specs.Registry.{getOrCreateIdentifier, getOrCreateProper
 ghost use Rattle.model.specs.RegistryLaws.{Sound};
 ghost use Rattle.model.specs.Answer.{flag};
 ghost use mathlib.Core.List.{_++_, _∷_, []};
-ghost use lib.ListN.{length};
 ghost use Rattle.registry.specs.declared.Node.the-variants.{Root, Child};
 ghost use Rattle.rows.specs.Members.{membersOf};
 ghost use Rattle.registry.specs.Nodes.{sameKey, bucketOf, findNode, madeFor, Inside, optionalOver, notedWith};
@@ -191,21 +190,6 @@ fn link(ws: &[u64; 1665], k: usize) -> usize
     ensures { λ r. ⌜ r ≡ linkAt (now (ws .entry)) k ⌝ }
 {
     (ws[k * 3] / LINK) as usize
-}
-
-// A registry of no nodes: the number of nodes and the ends of all buckets are 0.
-pub fn clear(ws: &mut [u64; 1665], optional: &mut [u64; 8])
-    requires { ⌜ length (now ws) ≡ 1665 ⌝ }
-    ensures { λ _. ⌜ Held (now (ws .exit)) (now (optional .exit)) × (registryOf (now (ws .exit)) ≡ []) ⌝ }
-{
-    let mut at: usize = 1536;
-    while at < 1665 {
-        ws[at] = 0;
-        at += 1;
-    }
-    let none = NodeBits::empty();
-    let words = none.words;
-    *optional = words;
 }
 
 // One node more, which is the last of its bucket.

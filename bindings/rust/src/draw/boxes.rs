@@ -5,6 +5,7 @@ use super::shown;
 use super::svg::{width, Svg, SMALL};
 use crate::ids::BlockId;
 use crate::job::{Block, Job};
+use crate::names::Names;
 use crate::path::Path;
 use crate::sheet::Sheet;
 
@@ -50,11 +51,13 @@ impl BlockBox {
         let most = if drawn <= FEW_BLOCKS { 8 } else { 4 };
         let held: Vec<Path> = sheet.paths(block.id()).collect();
         let mut rows = match same_as(block, sheet).filter(|&id| is_drawn(id)) {
-            Some(id) => vec![Row::note("holds", format!("the same as block {id}"), shown::all(&held))],
-            None => rows("holds", "", &held, most),
+            Some(id) => {
+                vec![Row::note("holds", format!("the same as block {id}"), shown::all(&held, job.names()))]
+            }
+            None => rows("holds", "", &held, job.names(), most),
         };
         if !block.assumed().is_empty() {
-            rows.splice(0..0, self::rows("assumes", "assumed", block.assumed(), most));
+            rows.splice(0..0, self::rows("assumes", "assumed", block.assumed(), job.names(), most));
         }
         let widest =
             rows.iter().map(|row| PATHS + width(&row.text, SMALL)).fold(width(&head, SMALL), f64::max);
@@ -100,8 +103,8 @@ impl Row {
 
 /// The paths with commas between them, in lines; what comes after the last line is counted at its
 /// end.
-fn rows(label: &'static str, class: &'static str, paths: &[Path], most: usize) -> Vec<Row> {
-    let lines = shown::lines(paths, most);
+fn rows(label: &'static str, class: &'static str, paths: &[Path], names: &Names, most: usize) -> Vec<Row> {
+    let lines = shown::lines(paths, names, most);
     let labels = std::iter::once(label).chain(std::iter::repeat(""));
     let in_lines = lines.lines.into_iter().zip(labels);
     let mut rows: Vec<Row> =
@@ -111,7 +114,7 @@ fn rows(label: &'static str, class: &'static str, paths: &[Path], most: usize) -
     }
     if lines.shown < paths.len() {
         let text = format!("and {} more", paths.len() - lines.shown);
-        rows.push(Row::note("", text, shown::all(&paths[lines.shown..])));
+        rows.push(Row::note("", text, shown::all(&paths[lines.shown..], names)));
     }
     rows
 }

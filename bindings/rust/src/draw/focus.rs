@@ -1,77 +1,85 @@
-//! Which blocks matter to the candidates.
+//! Which blocks are drawn where the others are left out: those of which `explain` speaks in short,
+//! and those by way of which the paths came that it speaks of.
 
-use crate::explain::{Base, End, Explanation, How};
-use crate::graph::Graph;
+use crate::explain::{Base, Elsewhere, End, Explanation, How, Reason, Stop, Unknown, Why};
 use crate::ids::BlockId;
-use crate::job::Job;
-use crate::path::Path;
-use crate::sheet::Sheet;
 use std::collections::BTreeSet;
 
-/// The scope block, the blocks by way of which a known path came there, and those that stop a path
-/// by which one more base would be known.
-pub(super) fn blocks_that_matter(job: &Job, sheet: &Sheet, explanation: &Explanation) -> BTreeSet<BlockId> {
-    let mut matter = bringing(explanation);
-    matter.insert(job.scope());
-    let graph = Graph::new(job);
-    let scope = job.place_of(job.scope()).into_iter();
-    for (base, scope) in unknown_bases(explanation).iter().zip(scope.cycle()) {
-        let knows: Vec<bool> = job.blocks().iter().map(|block| knows(sheet, block.id(), base)).collect();
-        for near in [&graph.predecessors, &graph.successors] {
-            let stopping = stopping(scope, &knows, near);
-            matter.extend(stopping.into_iter().map(|block| job.blocks()[block].id()));
+/// The scope block; the blocks by way of which the known paths came there; and of each base that is
+/// not known there the nearest block at which it stopped, with the neighbours that have it and those
+/// that do not, and the blocks by way of which one of them came to have it.
+pub(super) fn blocks_in_focus(explanation: &Explanation) -> BTreeSet<BlockId> {
+    let mut blocks = BTreeSet::from([explanation.scope]);
+    let mut steps = Vec::new();
+    for reason in &explanation.reasons {
+        steps.extend(known_by(reason));
+        unknown(reason).for_each(|why| stopped(why, &mut blocks, &mut steps));
+    }
+    blocks.extend(along(explanation, steps));
+    blocks
+}
+
+/// The steps by which the scope block came to have the paths that show bases.
+fn known_by(reason: &Reason) -> impl Iterator<Item = usize> + '_ {
+    reason.bases.iter().filter_map(|base| match base {
+        Base::Known(known) => Some(known.step),
+        Base::Unknown(_) => None,
+    })
+}
+
+/// Why bases are not known: those of returned entries, and that of the first that is cut.
+fn unknown(reason: &Reason) -> impl Iterator<Item = &Unknown> {
+    let of_entries = reason.bases.iter().filter_map(|base| match base {
+        Base::Known(_) => None,
+        Base::Unknown(why) => Some(why),
+    });
+    let of_end = match &reason.end {
+        End::Cut { why, .. } => Some(why),
+        End::Whole | End::Covered { .. } => None,
+    };
+    of_entries.chain(of_end)
+}
+
+/// Adds the blocks that keep the scope block from having a base, and how another came to have it.
+fn stopped(why: &Unknown, blocks: &mut BTreeSet<BlockId>, steps: &mut Vec<usize>) {
+    match &why.elsewhere {
+        Elsewhere::Here(_) => {}
+        Elsewhere::Nowhere(open) => blocks.extend(open.first().map(|(block, _)| block)),
+        Elsewhere::Apart { holder, .. } => steps.push(holder.step),
+        Elsewhere::Stopped { stops, .. } => {
+            blocks.extend(stops.first().into_iter().flat_map(at_stop));
+            steps.extend(stops.first().map(|stop| stop.holder.step));
         }
     }
-    matter
 }
 
-/// The blocks that the origins of known paths name.
-fn bringing(explanation: &Explanation) -> BTreeSet<BlockId> {
-    let steps = explanation.origins.iter().flat_map(|origin| &origin.steps);
-    let named = steps.flat_map(|step| match &step.how {
-        How::Joined { from, passed_over, .. } => [&[step.block], &from[..], passed_over].concat(),
-        How::Assumed | How::Reduced { .. } => vec![step.block],
-    });
-    named.collect()
+/// The block at which a base stopped, and its neighbours there.
+fn at_stop(stop: &Stop) -> Vec<BlockId> {
+    let others = match &stop.why {
+        Why::Lacking(lacking) => lacking.clone(),
+        Why::Different { one, other } => vec![one.0, other.0],
+        Why::Unfinished | Why::TooLate => Vec::new(),
+    };
+    [vec![stop.at], stop.holders.clone(), others].concat()
 }
 
-/// The bases that are not known, and make an entry stay optional or be cut.
-fn unknown_bases(explanation: &Explanation) -> Vec<Path> {
-    let mut unknown = Vec::new();
-    for reason in &explanation.reasons {
-        let levels = reason.bases.iter().enumerate().filter(|(_, base)| matches!(base, Base::Unknown(_)));
-        unknown.extend(levels.map(|(level, _)| reason.returned.prefix(level)));
-        unknown.extend(matches!(reason.end, End::Cut { .. }).then(|| reason.returned.clone()));
-    }
-    unknown
-}
-
-/// Whether a path of the block's set ends at the base or reads from it plainly.
-fn knows(sheet: &Sheet, block: BlockId, base: &Path) -> bool {
-    let plain = |path: &Path| path.entries().get(base.entries().len()).is_none_or(|entry| !entry.optional);
-    sheet.paths(block).any(|path| base.names_start(&path) && plain(&path))
-}
-
-/// The blocks that stop a base on its way to the scope block from one side. Each has a neighbour on
-/// that side that knows the base, and one that does not; both matter too, and so do the blocks from
-/// there to the scope block.
-fn stopping(scope: usize, knows: &[bool], near: &[Vec<usize>]) -> BTreeSet<usize> {
-    let mut came_from = vec![None; near.len()];
-    came_from[scope] = Some(scope);
-    let mut open = vec![scope];
-    let mut matter = BTreeSet::new();
-    for at in 0.. {
-        let Some(&block) = open.get(at) else { break };
-        for &next in near[block].iter().filter(|&&next| !knows[next]) {
-            if came_from[next].is_none() {
-                came_from[next] = Some(block);
-                open.push(next);
+/// The blocks of these steps and of all on which they rest, and those that were left out there.
+fn along(explanation: &Explanation, mut open: Vec<usize>) -> BTreeSet<BlockId> {
+    let mut seen = BTreeSet::new();
+    let mut blocks = BTreeSet::new();
+    while let Some(place) = open.pop() {
+        let step = &explanation.steps[place];
+        if seen.insert(place) {
+            blocks.insert(step.block);
+            match &step.how {
+                How::Assumed => {}
+                How::TookOver { from, left_out, .. } => {
+                    open.extend(from);
+                    blocks.extend(left_out);
+                }
+                How::Made { from, bases, .. } => open.extend(bases.iter().chain([from])),
             }
         }
-        if near[block].iter().any(|&next| knows[next]) {
-            matter.extend(&near[block]);
-            matter.extend(std::iter::successors(Some(block), |&on| came_from[on].filter(|&next| next != on)));
-        }
     }
-    matter
+    blocks
 }

@@ -66,7 +66,7 @@ pub fn draw(job: &Job, sheet: &Sheet, answer: &Answer) -> Result<String, Mismatc
 /// the scope block, or stop one. Where others are left out, it says how many.
 pub fn draw_focused(job: &Job, sheet: &Sheet, answer: &Answer) -> Result<String, Mismatch> {
     let explanation = explain(job, sheet, answer)?;
-    let view = View::only(job, &focus::blocks_that_matter(job, sheet, &explanation));
+    let view = View::only(job, &focus::blocks_in_focus(&explanation));
     Ok(Picture { job, sheet, view }.drawn(&explanation))
 }
 

@@ -4,6 +4,7 @@ use super::boxes::{LINE, PADDING};
 use super::shown::{self, Piece};
 use super::svg::{width, Svg, SMALL};
 use crate::explain::{End, Explanation, Reason};
+use crate::names::Names;
 
 /// The space between the two columns.
 const BETWEEN: f64 = 26.0;
@@ -24,8 +25,9 @@ struct Row {
 }
 
 impl Row {
-    fn new(reason: &Reason) -> Self {
-        let (candidate, returned) = (shown::parts(&reason.candidate), shown::parts(&reason.returned));
+    fn new(reason: &Reason, names: &Names) -> Self {
+        let (candidate, returned) =
+            (shown::parts(&reason.candidate, names), shown::parts(&reason.returned, names));
         let (knife, rest, why) = match &reason.end {
             End::Whole => ("", "", "returned whole"),
             End::Cut { .. } => ("|", "cut", "cut: the base is not known there"),
@@ -46,7 +48,8 @@ impl Row {
 
 impl Panel {
     pub(super) fn new(explanation: &Explanation) -> Self {
-        let rows: Vec<Row> = explanation.reasons.iter().map(Row::new).collect();
+        let rows: Vec<Row> =
+            explanation.reasons.iter().map(|reason| Row::new(reason, &explanation.names)).collect();
         if rows.is_empty() {
             return Self { rows, second: 0.0, width: 0.0, height: 0.0 };
         }

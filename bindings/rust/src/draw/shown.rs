@@ -1,5 +1,6 @@
 //! Paths as the picture shows them, and lines of them.
 
+use crate::names::Names;
 use crate::path::Path;
 
 /// The most characters of a line of paths. Only a variable or an entry that is longer by itself
@@ -11,20 +12,15 @@ const GOES_ON: &str = "\u{a0}\u{a0}";
 
 /// The parts of a path between which a line may be broken: the variable, and each entry. Every path
 /// that is shown in a picture comes from here.
-pub(super) fn parts(path: &Path) -> Vec<String> {
-    let variable = path.identifier().to_string();
-    let entries = path.entries().iter().map(|entry| format!("{entry:#}"));
+pub(super) fn parts(path: &Path, names: &Names) -> Vec<String> {
+    let variable = path.identifier().with_names(names).to_string();
+    let entries = path.entries().iter().map(|entry| format!("{:#}", entry.with_names(names)));
     std::iter::once(variable).chain(entries).collect()
 }
 
-/// The whole path in one text.
-pub(super) fn whole(path: &Path) -> String {
-    parts(path).concat()
-}
-
 /// All paths in one text.
-pub(super) fn all(paths: &[Path]) -> String {
-    paths.iter().map(whole).collect::<Vec<_>>().join(", ")
+pub(super) fn all(paths: &[Path], names: &Names) -> String {
+    paths.iter().map(|path| parts(path, names).concat()).collect::<Vec<_>>().join(", ")
 }
 
 /// A piece of a text, and its class.
@@ -58,10 +54,10 @@ pub(super) struct Lines {
 
 /// As many paths as have room in `most` lines, and at least one. A path is shown whole or not at
 /// all.
-pub(super) fn lines(paths: &[Path], most: usize) -> Lines {
+pub(super) fn lines(paths: &[Path], names: &Names, most: usize) -> Lines {
     let mut made = Lines { lines: Vec::new(), shown: 0 };
     for (place, path) in paths.iter().enumerate() {
-        let own = own_lines(path, place + 1 < paths.len());
+        let own = own_lines(parts(path, names), place + 1 < paths.len());
         match made.joined(&own) {
             Some((last, joined)) => made.lines[last] = joined,
             None if place > 0 && made.lines.len() + own.len() > most => break,
@@ -84,8 +80,7 @@ impl Lines {
 }
 
 /// The lines of a path by itself, with a comma behind it where others follow.
-fn own_lines(path: &Path, others_follow: bool) -> Vec<String> {
-    let mut parts = parts(path);
+fn own_lines(mut parts: Vec<String>, others_follow: bool) -> Vec<String> {
     if let (true, Some(last)) = (others_follow, parts.last_mut()) {
         last.push(',');
     }

@@ -3,7 +3,7 @@
 use crate::common::jobs;
 use crate::read::{focused, whole, Picture};
 use crate::{check_boxes, check_tags, titles};
-use scope_deps::explain::{explain, How};
+use scope_deps::explain::{blocks_that_matter, explain};
 use scope_deps::{answer, sheet, BlockId, Job};
 use std::collections::BTreeSet;
 use std::io::Write;
@@ -38,19 +38,29 @@ fn left_out(picture: &Picture) -> Vec<usize> {
     marks.map(count).collect()
 }
 
-/// The blocks by way of which known paths came to the scope block.
-fn bringing(job: &Job) -> BTreeSet<BlockId> {
+/// The blocks of a job that a text names after `block` or `blocks`.
+fn named(text: &str, job: &Job) -> BTreeSet<BlockId> {
+    let numbers = |words: &str| -> Vec<u32> {
+        let ids = words.split([',', ' ']).filter(|word| !word.is_empty() && *word != "and");
+        ids.map_while(|word| word.trim_end_matches([':', ';', '.', '\n']).parse().ok()).collect()
+    };
+    let after = ["block ", "blocks "].into_iter().flat_map(|word| text.split(word).skip(1));
+    after.flat_map(numbers).map(BlockId).filter(|&id| job.place_of(id).is_some()).collect()
+}
+
+/// That the blocks are drawn that the explanation names in short, and none that it does not name in
+/// full.
+fn check_drawn(job: &Job, drawn: &BTreeSet<BlockId>) {
     let explanation = explain(job, &sheet(job).unwrap(), &answer(job).unwrap()).unwrap();
-    let steps = explanation.origins.iter().flat_map(|origin| &origin.steps);
-    let blocks = steps.flat_map(|step| match &step.how {
-        How::Joined { from, passed_over, .. } => [&[step.block], &from[..], &passed_over[..]].concat(),
-        _ => vec![step.block],
-    });
-    blocks.collect()
+    let in_short: BTreeSet<_> = named(&explanation.to_string(), job);
+    assert!(in_short.is_subset(drawn), "{in_short:?} {drawn:?} {job}");
+    let mut in_full = blocks_that_matter(&explanation);
+    in_full.insert(job.scope());
+    assert!(drawn.is_subset(&in_full), "{drawn:?} {in_full:?} {job}");
 }
 
 #[test]
-fn focus_draws_the_scope_block_and_those_that_bring_a_path_and_counts_the_others() {
+fn focus_draws_the_scope_block_and_those_that_are_named_and_counts_the_others() {
     let mut fewer = 0;
     for job in jobs(15, 800) {
         let Some(picture) = focused(&job) else { continue };
@@ -58,7 +68,7 @@ fn focus_draws_the_scope_block_and_those_that_bring_a_path_and_counts_the_others
         check_boxes(&picture.0, &picture.rectangles());
         let drawn = drawn(&picture, &job);
         assert!(drawn.contains(&job.scope()));
-        assert!(bringing(&job).is_subset(&drawn), "{job}");
+        check_drawn(&job, &drawn);
         assert_eq!(left_out(&picture).iter().sum::<usize>() + drawn.len(), job.blocks().len(), "{job}");
         let arrows = picture.arrows();
         let (gaps, between): (Vec<_>, Vec<_>) = arrows.iter().partition(|arrow| arrow.class == "left-out");

@@ -145,3 +145,21 @@ fn a_long_path_is_broken_at_an_entry() {
     assert_eq!(texts[2..7], expected);
     assert!(texts.contains(&"\u{a0}\u{a0}[1.7976931348623157e308].3".to_string()), "{texts:?}");
 }
+
+#[test]
+fn paths_are_shown_by_the_names_of_the_job() {
+    let picture = of_text(
+        "name 1 athlete name .10 lastSession name .11 beats scope 1 block 0 assumes athlete.lastSession
+        block 1 after 0 candidate athlete?.lastSession[0].beats",
+    );
+    let groups = picture.groups();
+    let first = ["block 0", "assumes", "athlete.lastSession", "holds", "athlete.lastSession"];
+    assert_eq!(texts(&groups[0]), first);
+    let candidate = ["athlete?.lastSession[0]|.beats", "athlete.lastSession[0]"];
+    let scope = texts(&groups[1]);
+    assert!(candidate.iter().all(|text| scope.contains(&text.to_string())), "{scope:?}");
+    assert_eq!(
+        title(groups[1].lines.iter().find(|line| line.contains("the same")).unwrap()),
+        "athlete.lastSession"
+    );
+}

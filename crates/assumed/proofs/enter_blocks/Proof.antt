@@ -14,11 +14,11 @@ abbrev μ-loop : tie.MeasureT-loop
 μ-loop s places blocks ws₀ optional₀ sets₀ b₀ ws optional sets b = blocks - b
 
 loop-holds : tie.Need-loop-holds Inv-loop μ-loop
-loop-holds c = let e = c .clear .ensures in starting _ _ _ _ _ (e .0) (e .1) (c .before .before .before .before .pre .3)
+loop-holds c = let p = c .before .pre in starting _ _ _ _ _ (p .2 .0) (p .2 .1) (p .3)
 
 -- from the loop's turn back to the start
 abbrev start : tie.In-loop Inv-loop μ-loop → tie.Start Inv-loop μ-loop
-start l = l .before .before .before .before .before .before
+start l = l .before .before .before
 
 enter-block-requires : tie.Need-enter-block-requires Inv-loop μ-loop
 enter-block-requires c κs = let l = c .before .before .before in (l .before .loop .inv .held, block-read (start l .pre .0) (l .before .loop .b) (l .loop-test .taken))
@@ -44,7 +44,7 @@ loop-again c =
     starting-more (start l .pre .0) (l .before .loop .inv) (l .loop-test .taken) (call .enter-block .result) _ _ (call .enter-block .ensures) (i .if1 .left) _ (c .set-row .ensures)
 
 returns-2 : tie.Need-returns-2 Inv-loop μ-loop
-returns-2 c = starting-end (c .before .before .before .before .before .before .pre .0) (c .before .loop .inv) (c .loop-test .left)
+returns-2 c = starting-end (c .before .before .before .pre .0) (c .before .loop .inv) (c .loop-test .left)
 
 pub enter-blocks-spec : {M : Type 1} → statement M
 enter-blocks-spec =
@@ -52,7 +52,6 @@ enter-blocks-spec =
     (tie.spec
     Inv-loop
     μ-loop
-    (λ c κs. search needs)
     loop-holds
     (λ c. search needs)
     (λ c. search needs)

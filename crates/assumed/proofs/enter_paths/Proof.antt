@@ -1,28 +1,18 @@
--- The loop's invariant, `Filling`: the paths that are left were read, and what enters them after those before enters them all. The measure is their number.
-use Prim.Native.Nat.{ℕ}
-use native.Mathlib.Omega.{arith}
-use mathlib.Core.Path.{refl, subst}
-use mathlib.Core.List.{[], _∷_}
-use denote.Enum.Declared.{tagOf}
-use types.Run.{OneOf}
-use mathlib.Core.Logic.{inl, inr}
+-- The loop's invariant, `Filling`: the paths that are left were read, and what enters them after those
+-- before enters them all. The measure is their number.
+use mathlib.Core.Path.{refl}
+use mathlib.Core.List.{[]}
 use borrow.Author.Needs.{needs}
-use Rattle.paths.proofs.EnteredPath.{the-type}
-use Rattle.entries.specs.declared.NodeId.{NodeId}
-use Rattle.paths.specs.declared.EnteredPath.the-variants.{At}
 use Rattle.model.specs.Stage.{enterPaths}
 use Rattle.registry.specs.Words.{registryOf}
 use Rattle.assumed.specs.Start.{pathsAt}
-use Rattle.assumed.proofs.Filling.{Filling, filling, filling-end, filling-full, node-inside, filling-more}
+use Rattle.assumed.proofs.Filling.{Filling, filling, filling-end, first-there, filling-full, node-inside, filling-more}
 use Rattle.assumed.proofs.enter_paths.Statement.{statement}
 use Rattle.assumed.proofs.enter_paths.Tie as tie
 
--- a node is none of the two other answers
-no-tag : (k : NodeId) (n : ℕ) → OneOf (1 ∷ 2 ∷ []) (tagOf the-type (At k n)) → ⊥
-no-tag k n h = elim h [ inl e ↦ omega arith | inr e ↦ omega arith ]
-
 abbrev Inv-loop : tie.InvT-loop
-Inv-loop s start count ws₀ optional₀ set₀ at₀ left₀ ws optional set at left = Filling (enterPaths (registryOf ws₀) [] (pathsAt s start count)) s ws optional (set .words) at left
+Inv-loop s start count ws₀ optional₀ set₀ at₀ left₀ ws optional set at left =
+    Filling (enterPaths (registryOf ws₀) [] (pathsAt s start count)) s ws optional (set .words) at left
 
 abbrev μ-loop : tie.MeasureT-loop
 μ-loop s start count ws₀ optional₀ set₀ at₀ left₀ ws optional set at left = left
@@ -32,24 +22,28 @@ loop-holds c =
     let s = c .before .before in
     filling _ _ _ _ _ _ _ (s .pre .0) refl (c .empty .ensures) (s .pre .1)
 
+enter-path-requires : tie.Need-enter-path-requires Inv-loop μ-loop
+enter-path-requires c κs = let l = c .before .before in (l .before .loop .inv .held, first-there (l .before .loop .inv) (l .loop-test .taken))
+
 returns : tie.Need-returns Inv-loop μ-loop
 returns c =
-    let call = c .before in
+    let call = c .before .before in
     let l = call .before .before .before in
-    filling-full (l .before .loop .inv) (l .loop-test .taken) (call .enter-path .result) _ _ (call .enter-path .ensures)
-    (λ k n same. absurd (no-tag k n (subst (λ r. OneOf (1 ∷ 2 ∷ []) (tagOf the-type r)) same (c .match .keys2))))
+    filling-full (l .before .loop .inv) (l .loop-test .taken) (call .enter-path .result) _ _ (call .enter-path .ensures) (c .enum-told .given .1)
 
 insert-requires : tie.Need-insert-requires Inv-loop μ-loop
 insert-requires c κs =
     let call = c .before .before .before in
     let l = call .before .before .before in
-    node-inside (l .before .loop .inv) (l .loop-test .taken) (call .enter-path .result) _ _ (call .enter-path .ensures) _ _ (c .before .entered .given .1)
+    node-inside (l .before .loop .inv) (l .loop-test .taken) (call .enter-path .result) _ _ (call .enter-path .ensures) _ _
+    (c .before .entered .given .1)
 
 loop-again : tie.Need-loop-again Inv-loop μ-loop
 loop-again c =
     let call = c .before .before .before .before in
     let l = call .before .before .before in
-    filling-more (l .before .loop .inv) (l .loop-test .taken) (call .enter-path .result) _ _ (call .enter-path .ensures) _ _ (c .before .before .entered .given .1) _ (c .insert .ensures)
+    filling-more (l .before .loop .inv) (l .loop-test .taken) (call .enter-path .result) _ _ (call .enter-path .ensures) _ _
+    (c .before .before .entered .given .1) _ (c .insert .ensures)
 
 returns-2 : tie.Need-returns-2 Inv-loop μ-loop
 returns-2 c = filling-end (c .before .loop .inv) (c .loop-test .left)
@@ -62,7 +56,8 @@ enter-paths-spec =
     μ-loop
     (λ c κs. search needs)
     loop-holds
-    (λ c κs. search needs)
+    enter-path-requires
+    (λ c. search needs)
     (λ c. search needs)
     returns
     insert-requires

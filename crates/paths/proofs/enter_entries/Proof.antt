@@ -1,7 +1,5 @@
--- The loop's invariant, `Entering`: what enters the entries that are left from the node reached so far enters them all. The measure is their number.
-use Prim.Native.Nat.{ℕ}
-use mathlib.Core.Path.{_≡_, sym, ap, _∙_}
-use denote.Ref.{now}
+-- The loop's invariant, `Entering`: what enters the entries that are left from the node reached so far
+-- enters them all. The measure is their number.
 use borrow.Author.Needs.{needs}
 use Rattle.model.specs.Read.{readMany}
 use Rattle.model.specs.Job.{readEntry}
@@ -9,37 +7,38 @@ use Rattle.registry.specs.Words.{registryOf}
 use Rattle.fields.proofs.Reading.{seen}
 use Rattle.job.specs.Answer.{gotEntry}
 use Rattle.paths.specs.Enters.{walkOwn}
-use Rattle.paths.proofs.Entering.{Entering, child-made-at, made-full, entering-end, entering-refused, entering-full, entering-more}
+use Rattle.paths.proofs.Entering.{Entering, child-made-at, made-full, entering-end, entry-there, entering-full, entering-more}
 use Rattle.paths.proofs.enter_entries.Statement.{statement}
 use Rattle.paths.proofs.enter_entries.Tie as tie
 
 abbrev Inv-loop : tie.InvT-loop
-Inv-loop s start count ws₀ optional₀ at₀ left₀ node₀ ws optional at left node = Entering (readMany count (readEntry 4) s start) (walkOwn (registryOf ws₀) node₀) s ws optional node at left
+Inv-loop s start count ws₀ optional₀ at₀ left₀ node₀ ws optional at left node =
+    Entering (readMany count (readEntry 4) s start) (walkOwn (registryOf ws₀) node₀) s ws optional node at left
 
 abbrev μ-loop : tie.MeasureT-loop
 μ-loop s start count ws₀ optional₀ at₀ left₀ node₀ ws optional at left node = left
 
 loop-holds : tie.Need-loop-holds Inv-loop μ-loop
-loop-holds c = record { held = c .before .pre .0; inside = c .before .pre .1; on = λ r us ps h. h }
+loop-holds c = let p = c .before .pre in record { held = p .0; inside = p .1; there = p .2; on = λ r us ps h. h }
 
 returns : tie.Need-returns Inv-loop μ-loop
 returns c =
-    let call = c .before .before .before in
-    let told = c .before .enum-told .given .1 in
-    rw (c .refusal .ensures, told) (entering-refused (call .before .before .loop .inv) (call .before .loop-test .taken) (seen gotEntry (call .entry-at .ensures) told) _ _)
+    let call = c .before .before in
+    entry-there (call .before .before .loop .inv) (call .before .loop-test .taken) (seen gotEntry (call .entry-at .ensures) (c .enum-told .given .1))
 
 get-or-create-property-entry-requires : tie.Need-get-or-create-property-entry-requires Inv-loop μ-loop
-get-or-create-property-entry-requires c κs = let l = c .before .before .before .before .before .before .before in (l .loop .inv .held, l .loop .inv .inside)
+get-or-create-property-entry-requires c κs =
+    let l = c .before .before .before .before .before .before .before in
+    (l .loop .inv .held, l .loop .inv .inside)
 
 returns-2 : tie.Need-returns-2 Inv-loop μ-loop
 returns-2 c =
-    let t = c .before in
-    let r = t .before .before in
+    let r = c .before .before in
     let f = r .before .before .before .before in
     let call = f .before .before in
     let g = r .get-or-create-property-entry in
-    entering-full (call .before .before .loop .inv) (call .before .loop-test .taken) (seen gotEntry (call .entry-at .ensures) (f .field .given .1)) _ _ _
-    (made-full _ (g .result) (g .last .0) (g .last .1 .0) (g .ensures) (t .enum-told2 .given .1)) (c .full-or-refused .ensures)
+    entering-full (call .before .before .loop .inv) (call .before .loop-test .taken) (seen gotEntry (call .entry-at .ensures) (f .field .given .1)) _ _
+    (made-full _ (g .result) (g .last .0) (g .last .1 .0) (g .ensures) (c .enum-told2 .given .1))
 
 loop-again : tie.Need-loop-again Inv-loop μ-loop
 loop-again c =
@@ -48,8 +47,10 @@ loop-again c =
     let call = f .before .before in
     let g = r .get-or-create-property-entry in
     let l = call .before .before .loop in
-    let made = child-made-at (registryOf (l .ws)) (l .node) (f .field .given .0 .0) (g .result) (g .last .0) (g .last .1 .0) (g .ensures) _ (c .before .child .given .1) in
-    entering-more (call .before .before .loop .inv) (call .before .loop-test .taken) (seen gotEntry (call .entry-at .ensures) (f .field .given .1)) _ _ _ (made .held) (made .inside) (made .is)
+    let e = f .field .given .0 .0 in
+    let made = child-made-at (registryOf (l .ws)) (l .node) e (g .result) (g .last .0) (g .last .1 .0) (g .ensures) _ (c .before .child .given .1) in
+    entering-more (l .inv) (call .before .loop-test .taken) (seen gotEntry (call .entry-at .ensures) (f .field .given .1)) _ _ _
+    (made .held) (made .inside) (made .is)
 
 returns-3 : tie.Need-returns-3 Inv-loop μ-loop
 returns-3 c = entering-end (c .before .loop .inv) (c .loop-test .left)
@@ -64,13 +65,10 @@ enter-entries-spec =
     (λ c κs. search needs)
     (λ c. search needs)
     (λ c. search needs)
-    (λ c κs. search needs)
     returns
     get-or-create-property-entry-requires
     (λ c. search needs)
     (λ c. search needs)
-    (λ c. search needs)
-    (λ c κs. search needs)
     returns-2
     (λ c. search needs)
     (λ c. search needs)

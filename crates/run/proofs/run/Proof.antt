@@ -6,6 +6,9 @@ use Rattle.run.proofs.Responding.{within}
 use Rattle.run.proofs.run.Statement.{statement}
 use Rattle.run.proofs.run.Tie as tie
 
+respond-requires : tie.Need-respond-requires
+respond-requires c κs = search needs
+
 slice-aggregate-write-all : tie.Need-slice-aggregate-write-all
 slice-aggregate-write-all c = let r = c .before .before .respond in sym (length-take-le (r .result) _ (within (r .ensures)))
 
@@ -18,8 +21,7 @@ run-spec =
     (λ c κs. search needs)
     (λ c. search needs)
     (λ c. search needs)
-    (λ c. search needs)
-    (λ c κs. search needs)
+    respond-requires
     (λ c. let inside = within (c .before .respond .ensures) in search needs)
     slice-aggregate-write-all
     (λ c κs. search needs)
