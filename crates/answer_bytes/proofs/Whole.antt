@@ -17,7 +17,7 @@ use Rattle.model.specs.Forest.{Forest, firsts}
 use Rattle.model.specs.Tree.{DependencyPosition, isDependency, dependencyOf, dependencyTree, deriveMinimalDependencies}
 use Rattle.model.specs.Answer.{numberBytes, u8, u16, flag, AN, DE, pathBytes}
 use Rattle.job.proofs.Many.{many-length}
-use Rattle.safety.specs.Fits.{returned-few}
+use Rattle.laws.specs.Fits.{returned-few}
 use Rattle.writer.specs.Writes.{Writes}
 use Rattle.writer.proofs.Bytes.{number-length, writes-then, writes-as}
 use Rattle.tree.specs.Tree.{Held, forestOf, returnedOf, Derives}

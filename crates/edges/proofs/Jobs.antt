@@ -21,8 +21,8 @@ use Rattle.job.specs.Kept.{BlocksAt, blocksOf}
 use Rattle.job.proofs.Many.{many-all}
 use Rattle.job.proofs.BlocksAt.{blocks-read, job-accepted, same-job, block-there}
 use Rattle.job.proofs.RecordParts.{block-parts}
-use Rattle.safety.specs.Lists.{Member}
-use Rattle.safety.specs.GraphLaws.{ProperBlocks, proper-blocks, place-own, place-known, known-at, same-block, predecessors-inside}
+use Rattle.laws.specs.Membership.{Member}
+use Rattle.laws.specs.GraphLaws.{ProperBlocks, proper-blocks, place-own, place-known, known-at, same-block, predecessors-inside}
 use Rattle.edges.specs.Rows.{idsFrom, idsNoted, placeAmong, place-among, placesNoted, rowsAt, RowsFilled}
 use Rattle.edges.specs.Order.{insertByNumber, sortByNumber, Ordered}
 use Rattle.edges.specs.Successors.{RanksFit, AllMarked}

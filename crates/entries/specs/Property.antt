@@ -1,5 +1,6 @@
 -- A property's kind and value, and back. Document 01, "The job": "kind u8 (0 name, 1 number), value u64".
 use Prim.Native.Nat.{ℕ}
+use mathlib.Core.Path.{_≡_, refl}
 use mathlib.Core.Bool.{Bool, true, false}
 use Rattle.entries.specs.declared.PropertyLiteral.{PropertyLiteral}
 use Rattle.entries.specs.declared.PropertyLiteral.the-variants.{String, Number}
@@ -18,3 +19,8 @@ isNumber (Number v) = true
 abbrev pub valueOf : PropertyLiteral → ℕ
 valueOf (String v) = v
 valueOf (Number v) = v
+
+-- Its kind and its value make the property.
+pub property-back : (p : PropertyLiteral) → propertyOf (isNumber p) (valueOf p) ≡ p
+property-back (String v) = refl
+property-back (Number v) = refl

@@ -50,7 +50,7 @@ neighboursFrom g true b from = successorsFrom g b from
 abbrev pub neighbours : List ℕ → Bool → ℕ → List ℕ
 neighbours g backward b = neighboursFrom g backward b 0
 
--- the graph by places; what it says of a place that is no block is of no account (`proofs/Agree`)
+-- the graph by places; what it says of a place that is no block is of no account (`GraphsAgree` of the crate `laws`)
 unfoldable pub graphIn : List ℕ → Graph
 unfolding predecessorsFrom successorsFrom
 graphIn g = record { size = sizeIn g; predecessors = neighbours g false; successors = neighbours g true }

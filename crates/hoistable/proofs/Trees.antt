@@ -76,7 +76,7 @@ wayLevels [] ks = []
 wayLevels (p ∷ ps) [] = []
 wayLevels (p ∷ ps) (k ∷ ks) = cond (sameKey (p .key) k) (isOptional p ∷ wayLevels ps ks) []
 
-chain-levels : (ps : List HoistablePosition) (ks : List Key) → treeLevels (chain hoistableKey firstMade ps) ks ≡ wayLevels ps ks
+chain-levels : (ps : List HoistablePosition) (ks : List Key) → treeLevels (chain ps) ks ≡ wayLevels ps ks
 chain-levels [] ks = refl
 chain-levels (p ∷ ps) [] = refl
 chain-levels (p ∷ ps) (k ∷ ks) = ap (λ bs. cond (sameKey (p .key) k) (isOptional p ∷ bs) []) (chain-levels ps ks)

@@ -8,10 +8,8 @@ use lib.Dec.{ltb}
 use Rattle.entries.specs.declared.IdentifierId.{IdentifierId}
 use Rattle.entries.specs.declared.NodeId.{NodeId}
 use Rattle.entries.specs.declared.BlockId.{BlockId}
-use Rattle.entries.specs.declared.PropertyLiteral.{PropertyLiteral}
-use Rattle.entries.specs.declared.PropertyLiteral.the-variants.{String, Number}
 use Rattle.entries.specs.declared.DependencyPathEntry.{DependencyPathEntry}
-use Rattle.entries.specs.Property.{valueOf}
+use Rattle.entries.specs.Property.{isNumber, valueOf}
 use Rattle.entries.specs.declared.Refusal.{Refusal}
 use Rattle.entries.specs.declared.Refusal.the-variants.{ShortBuffer, LongJob, ManyNodes}
 use Rattle.entries.specs.Path.{ReactiveScopeDependency}
@@ -73,14 +71,9 @@ NO = markOf 0x4E 0x4F
 abbrev pub SE : ℕ
 SE = markOf 0x53 0x45
 
--- a property's kind, as the number of a job
-abbrev pub kindOf : PropertyLiteral → ℕ
-kindOf (String v) = 0
-kindOf (Number v) = 1
-
--- optional, kind, value
+-- optional, kind ("0 name, 1 number"), value
 abbrev pub stepBytes : DependencyPathEntry → List ℕ
-stepBytes e = u8 (flag (e .optional)) ++ u8 (kindOf (e .property)) ++ u64 (valueOf (e .property))
+stepBytes e = u8 (flag (e .optional)) ++ u8 (flag (isNumber (e .property))) ++ u64 (valueOf (e .property))
 
 -- "Entries of 14 bytes: optional u8, kind u8, value u64, span u32", the span in so many bytes.
 abbrev pub entryBytes : ℕ → DependencyPathEntry → List ℕ
@@ -194,20 +187,22 @@ longestJob = 32768
 abbrev pub spanWidth : ℕ
 spanWidth = 4
 
--- 1 and 2, then 3 to 8, and 9
-unfoldable pub verdict : JoiningRule → (ℕ → Job → Rounds Work → List ℕ) → List ℕ → List ℕ → Verdict
+-- 1 and 2, then 3 to 8, and 9: of a job with a header of this mark and spans of so many bytes, under a
+-- joining rule; `bytes` says what is written.
+unfoldable pub verdict : ℕ → ℕ → JoiningRule → (ℕ → Job → Rounds Work → List ℕ) → List ℕ → List ℕ → Verdict
 unfolding readJob propagated
-verdict rule bytes job out = withinLengths leastBuffer longestJob job out (onJob rule (bytes spanWidth) (readJob HD spanWidth job))
+verdict head spanBytes rule bytes job out =
+    withinLengths leastBuffer longestJob job out (onJob rule (bytes spanBytes) (readJob head spanBytes job))
 
 -- "Two operations take a job and an out buffer": the answer.
 unfoldable pub answerOf : List ℕ → List ℕ → Verdict
 unfolding verdict answerBytes doneNeighbours
-answerOf job out = verdict doneNeighbours answerBytes job out
+answerOf job out = verdict HD spanWidth doneNeighbours answerBytes job out
 
 -- And the sheet.
 unfoldable pub sheetOf : List ℕ → List ℕ → Verdict
 unfolding verdict sheetBytes doneNeighbours
-sheetOf job out = verdict doneNeighbours sheetBytes job out
+sheetOf job out = verdict HD spanWidth doneNeighbours sheetBytes job out
 
 -- "Both report the bytes written"; "the length or minus the refusal number".
 abbrev pub numberReturned : Verdict → ℤ

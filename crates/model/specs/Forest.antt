@@ -1,7 +1,7 @@
 -- Ordered forests whose positions have keys: what both trees of module 6 are made of. A forest is its first position, that position's children,
 -- and the positions after it; positions stand in the order of their first insertion.
 use mathlib.Core.Bool.{Bool, true, false, cond}
-use mathlib.Core.List.{List, [], _∷_, _++_, map}
+use mathlib.Core.List.{List, [], _∷_, _++_, map, foldl}
 use mathlib.Core.Option.{Option, some, none}
 use lib.Dec.{eqb}
 use Rattle.entries.specs.declared.IdentifierId.{IdentifierId}
@@ -30,6 +30,11 @@ pub record Found (P : Type 0) : Type 0 where
   pub here : P
   pub children : Forest P
 
+-- The positions that a way down makes where none of them is there: each the only child of the one before.
+abbrev pub chain : {P : Type 0} → List P → Forest P
+chain [] = empty
+chain (s ∷ ss) = position s (chain ss) empty
+
 module _ {P : Type 0} (key : P → Key) where
   -- the position with this key at the top of a forest
   abbrev pub findKey : Forest P → Key → Option (Found P)
@@ -42,11 +47,6 @@ module _ {P : Type 0} (key : P → Key) where
   childByKey (some f) k = findKey (f .children) k
 
   module _ (merge : P → P → P) where
-    -- The positions that a way down makes where none of them is there: each the only child of the one before.
-    abbrev pub chain : List P → Forest P
-    chain [] = empty
-    chain (s ∷ ss) = position s (chain ss) empty
-
     -- a way down is added: a position whose key is there is merged with the one added, another is made last
     abbrev pub add : Forest P → List P → Forest P
     add empty ss = chain ss
@@ -55,8 +55,7 @@ module _ {P : Type 0} (key : P → Key) where
 
     -- One way down after the other, in their order.
     abbrev pub addAll : Forest P → List (List P) → Forest P
-    addAll f [] = f
-    addAll f (w ∷ ws) = addAll (add f w) ws
+    addAll f ws = foldl add f ws
 
 module _ {P : Type 0} (test : P → Bool) where
   -- "The first dependencies on each way down": the ways down to the first positions on each that pass the test, in order.

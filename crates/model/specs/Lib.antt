@@ -13,6 +13,7 @@ pub mod Read
 pub mod Job
 pub mod Stage
 pub mod Answer
+pub mod JobBytes
 -- the examples of document 01
 pub mod Examples
 -- laws

@@ -1,5 +1,6 @@
--- Along a job's propagation the registry stays sound and each set is an ascending set of its nodes, so each reduction ends by a pass that changed
--- nothing; no step makes the registry shorter; and a block that has joined has a reduced set from then on.
+-- Along a job's propagation the registry stays sound and each set is an ascending set of its nodes, so each
+-- reduction ends by a pass that changed nothing; no step makes the registry shorter; and a block that has
+-- joined has a reduced set from then on.
 use Prim.Native.Nat.{ℕ, zero, suc, _≤_, _<_}
 use native.Mathlib.Nat.{le-refl, le-trans, not-suc-le-zero}
 use native.Mathlib.Omega.{arith}
@@ -14,16 +15,16 @@ use Rattle.entries.specs.Path.{ReactiveScopeDependency}
 use Rattle.model.specs.Tests.{decide, eqb-true, eqb-false}
 use Rattle.model.specs.Sets.{NodeSet, contains, insert, union, intersection, sameSet}
 use Rattle.model.specs.Registry.{PropertyPathRegistry, ownMark, getOrCreateProperty}
-use Rattle.model.specs.Reduction.{Reduced, reduceNodes, pass, reduceMaybeOptionalChains}
+use Rattle.model.specs.Reduction.{Reduced, reduceNode, pass, reduceMaybeOptionalChains}
 use Rattle.model.specs.Visit.{TraversalState}
 use Rattle.model.specs.Rounds.{Rounds, roundsFrom, walk, jobOrder, reverseJobOrder}
-use Rattle.model.specs.Propagation.{Work, setOf, JoiningRule, unchanged, doneNeighbours, intersectionOf, joinWith, join, Graph, forward, backward, round, hasChanged, propagateNonNull}
+use Rattle.model.specs.Propagation.{Work, setOf, JoiningRule, Reducer, roundStart, intersectionOf, joinWith, join, Graph, forward, backward, round, hasChanged, propagateWith, propagateNonNull}
 use Rattle.model.specs.Job.{Block}
 use Rattle.model.specs.Stage.{Entered, enterPaths, enterBlock, Started, enterBlocks, graphOf, propagated}
 use Rattle.model.specs.ListLaws.{All, all-map, all-select, all-getD, all-set, set-here, all-mapped}
 use Rattle.model.specs.SetLaws.{insert-from, select-from, union-from, insert-all, union-all}
 use Rattle.model.specs.RegistryLaws.{Extends, extends-refl, extends-trans, extends-length, Sound, sound-empty, Proper, path-proper, path-extends}
-use Rattle.model.specs.ReductionLaws.{Members, members-extends, Shrunk, reduction-last, reduction-shrunk, reduction-extends, reduction-sound, Repeats, reduction-only, IsReduced, reduced-extends, reduction-reduced}
+use Rattle.model.specs.ReductionLaws.{Members, members-extends, reduction-members, reduction-extends, reduction-sound, Repeats, reduction-only, IsReduced, reduced-extends, reduction-reduced}
 use Rattle.model.specs.VisitLaws.{Preorder}
 use Rattle.model.specs.RoundsLaws.{walk-does, rounds-do, walk-same, rounds-same}
 
@@ -64,24 +65,20 @@ members-joined neighbours b w p =
     members-union (w .registry) (setOf (w .sets) b) _ (members-setOf w p b)
     (members-intersection (w .registry) (map (setOf (w .sets)) neighbours) (all-mapped (Members (w .registry)) (setOf (w .sets)) neighbours (members-setOf w p)))
 
--- Each reduction of a join ends: its last pass changed nothing.
-pub join-ends : (neighbours : List ℕ) (b : ℕ) (w : Work) → ProperWork w → reduceMaybeOptionalChains (w .registry) (joinedSet neighbours b w) .changed ≡ false
-join-ends neighbours b w p = reduction-last (w .registry) (joinedSet neighbours b w) (p .sound) (members-joined neighbours b w p)
-
-pub join-extends : (neighbours : List ℕ) (b : ℕ) (w : Work) → Extends (w .registry) (joinWith neighbours b w .registry)
+pub join-extends : (neighbours : List ℕ) (b : ℕ) (w : Work) → Extends (w .registry) (joinWith reduceMaybeOptionalChains neighbours b w .registry)
 unfolding joinWith
 join-extends neighbours b w = reduction-extends (w .registry) (joinedSet neighbours b w)
 
-pub join-proper : (neighbours : List ℕ) (b : ℕ) (w : Work) → ProperWork w → ProperWork (joinWith neighbours b w)
+pub join-proper : (neighbours : List ℕ) (b : ℕ) (w : Work) → ProperWork w → ProperWork (joinWith reduceMaybeOptionalChains neighbours b w)
 unfolding joinWith
 join-proper neighbours b w p =
     let s = joinedSet neighbours b w in
     let r = reduceMaybeOptionalChains (w .registry) s in
-    let out = reduction-shrunk (w .registry) s (p .sound) (members-joined neighbours b w p) in
     let x = reduction-extends (w .registry) s in
     record {
       sound = reduction-sound (w .registry) s (p .sound);
-      members = all-set (Members (r .registry)) (w .sets) b (r .set) (all-map (Members (w .registry)) (Members (r .registry)) (λ t m. members-extends t x m) (w .sets) (p .members)) (out .members);
+      members = all-set (Members (r .registry)) (w .sets) b (r .set) (all-map (Members (w .registry)) (Members (r .registry)) (λ t m. members-extends t x m) (w .sets) (p .members))
+          (reduction-members (w .registry) s (p .sound) (members-joined neighbours b w p));
     }
 
 -- Blocks whose sets are reduced already.
@@ -90,12 +87,12 @@ abbrev pub ReducedAt : Work → ℕ → Type 0
 ReducedAt w b = IsReduced (w .registry) (setOf (w .sets) b)
 
 reduced-empty : (reg : PropertyPathRegistry) → IsReduced reg []
-unfolding pass reduceNodes
+unfolding pass
 reduced-empty reg = refl
 
 module _ (neighbours : List ℕ) (b : ℕ) (w : Work) (p : ProperWork w) where
   -- the set of a block that joins is reduced
-  pub join-reduces : ReducedAt (joinWith neighbours b w) b
+  pub join-reduces : ReducedAt (joinWith reduceMaybeOptionalChains neighbours b w) b
   unfolding joinWith
   join-reduces =
       let s = joinedSet neighbours b w in
@@ -103,33 +100,33 @@ module _ (neighbours : List ℕ) (b : ℕ) (w : Work) (p : ProperWork w) where
       set-here (IsReduced (r .registry)) (w .sets) b (r .set) [] (reduction-reduced (w .registry) s (p .sound) (members-joined neighbours b w p)) (reduced-empty (r .registry))
 
   -- and the set of any other stays so
-  pub join-keeps-reduced : (a : ℕ) → ReducedAt w a → ReducedAt (joinWith neighbours b w) a
+  pub join-keeps-reduced : (a : ℕ) → ReducedAt w a → ReducedAt (joinWith reduceMaybeOptionalChains neighbours b w) a
   unfolding joinWith
   join-keeps-reduced a h =
       let r = reduceMaybeOptionalChains (w .registry) (joinedSet neighbours b w) in
-      decide (eqb a b) (λ e. subst (ReducedAt (joinWith neighbours b w)) (sym (eqb-true a b e)) join-reduces)
+      decide (eqb a b) (λ e. subst (ReducedAt (joinWith reduceMaybeOptionalChains neighbours b w)) (sym (eqb-true a b e)) join-reduces)
       (λ e. rw (getD-set-other (w .sets) b a (r .set) [] (eqb-false a b e)) (reduced-extends (w .registry) (setOf (w .sets) a) (p .sound) (members-setOf w p a) (join-extends neighbours b w) h))
 
 -- Rounds.
 
 -- what holds between the work before and after each join, and does not look at `changed`, holds between that before and after all rounds
-module _ (R : Work → Work → Type 0) (order : Preorder R) (joins : (neighbours : List ℕ) (b : ℕ) (w : Work) → R w (joinWith neighbours b w))
-    (starts : (w : Work) → R w (unchanged (w .registry) (w .sets))) where
-  walk-joins : (rule : JoiningRule) (near : ℕ → List ℕ) (n : ℕ) (bs : List ℕ) (w : Work) → R w (walk n near (join rule near) bs w)
+module _ (R : Work → Work → Type 0) (order : Preorder R) (joins : (neighbours : List ℕ) (b : ℕ) (w : Work) → R w (joinWith reduceMaybeOptionalChains neighbours b w))
+    (starts : (w : Work) → R w (roundStart (w .registry) (w .sets))) where
+  walk-joins : (rule : JoiningRule) (near : ℕ → List ℕ) (n : ℕ) (bs : List ℕ) (w : Work) → R w (walk n near (join reduceMaybeOptionalChains rule near) bs w)
   unfolding join
-  walk-joins rule near n bs w = walk-does R order near (join rule near) (λ b ms u. joins (rule ms (near b)) b u) n bs w
+  walk-joins rule near n bs w = walk-does R order near (join reduceMaybeOptionalChains rule near) (λ b ms u. joins (rule ms (near b)) b u) n bs w
 
-  round-does : (rule : JoiningRule) (g : Graph) (w : Work) → R w (round rule g w)
+  round-does : (rule : JoiningRule) (g : Graph) (w : Work) → R w (round reduceMaybeOptionalChains rule g w)
   unfolding round forward backward
   round-does rule g w =
-      let start = unchanged (w .registry) (w .sets) in
-      let mid = forward rule g start in
+      let start = roundStart (w .registry) (w .sets) in
+      let mid = forward reduceMaybeOptionalChains rule g start in
       order .after w start _ (starts w)
       (order .after start mid _ (walk-joins rule (g .predecessors) (g .size) (jobOrder (g .size)) start) (walk-joins rule (g .successors) (g .size) (reverseJobOrder (g .size)) mid))
 
-  pub propagation-does : (rule : JoiningRule) (g : Graph) (reg : PropertyPathRegistry) (sets : List NodeSet) → R (unchanged reg sets) (propagateNonNull rule g reg sets .work)
-  unfolding propagateNonNull
-  propagation-does rule g reg sets = rounds-do hasChanged (round rule g) R order (round-does rule g) 100 zero (unchanged reg sets)
+  pub propagation-does : (rule : JoiningRule) (g : Graph) (reg : PropertyPathRegistry) (sets : List NodeSet) → R (roundStart reg sets) (propagateNonNull rule g reg sets .work)
+  unfolding propagateNonNull propagateWith
+  propagation-does rule g reg sets = rounds-do hasChanged (round reduceMaybeOptionalChains rule g) R order (round-does rule g) 100 zero (roundStart reg sets)
 
 -- Propagation only adds nodes, so a registry that has passed the limit of refusal 9 stays beyond it.
 pub propagation-extends : (rule : JoiningRule) (g : Graph) (reg : PropertyPathRegistry) (sets : List NodeSet) → Extends reg (propagateNonNull rule g reg sets .work .registry)
@@ -144,59 +141,50 @@ KeepsProper u w = ProperWork u → ProperWork w
 keeps-order : Preorder KeepsProper
 keeps-order = record { none = λ w p. p; after = λ u v w a b p. b (a p) }
 
-starts-proper : (w : Work) → KeepsProper w (unchanged (w .registry) (w .sets))
+starts-proper : (w : Work) → KeepsProper w (roundStart (w .registry) (w .sets))
 starts-proper w p = record { sound = p .sound; members = p .members }
 
-pub propagation-proper : (rule : JoiningRule) (g : Graph) (reg : PropertyPathRegistry) (sets : List NodeSet) → ProperWork (unchanged reg sets) → ProperWork (propagateNonNull rule g reg sets .work)
+pub propagation-proper : (rule : JoiningRule) (g : Graph) (reg : PropertyPathRegistry) (sets : List NodeSet) → ProperWork (roundStart reg sets) → ProperWork (propagateNonNull rule g reg sets .work)
 propagation-proper rule g reg sets p = propagation-does KeepsProper keeps-order join-proper starts-proper rule g reg sets p
 
 -- Propagation with another reduction.
 
-module _ (v : PropertyPathRegistry → NodeSet → Reduced) where
-  abbrev pub joinBy : JoiningRule → (ℕ → List ℕ) → ℕ → List TraversalState → Work → Work
-  joinBy rule near b marks w =
-      let r = v (w .registry) (joinedSet (rule marks (near b)) b w) in
-      record { registry = r .registry; sets = set (w .sets) b (r .set); changed = w .changed || not (sameSet (setOf (w .sets) b) (r .set)) }
+module _ (v : Reducer) (repeats : Repeats v) (rule : JoiningRule) where
+  join-same : (near : ℕ → List ℕ) (b : ℕ) (ms : List TraversalState) (w : Work) → ProperWork w
+      → join reduceMaybeOptionalChains rule near b ms w ≡ join v rule near b ms w
+  unfolding join joinWith
+  join-same near b ms w p =
+      let ns = rule ms (near b) in
+      ap (λ (r : Reduced). record {
+        registry = r .registry;
+        sets = set (w .sets) b (r .set);
+        changed = w .changed || not (sameSet (setOf (w .sets) b) (r .set));
+      })
+      (reduction-only v repeats (w .registry) (joinedSet ns b w) (p .sound) (members-joined ns b w p))
 
-  abbrev pub forwardBy : JoiningRule → Graph → Work → Work
-  forwardBy rule g w = walk (g .size) (g .predecessors) (joinBy rule (g .predecessors)) (jobOrder (g .size)) w
+  walk-proper-same : (near : ℕ → List ℕ) (n : ℕ) (order : List ℕ) (w : Work) → ProperWork w
+      → walk n near (join reduceMaybeOptionalChains rule near) order w ≡ walk n near (join v rule near) order w
+  unfolding join
+  walk-proper-same near n order w p =
+      walk-same ProperWork near (join reduceMaybeOptionalChains rule near) (join v rule near)
+      (λ b ms u q. join-proper (rule ms (near b)) b u q) (join-same near) n order w p
 
-  abbrev pub backwardBy : JoiningRule → Graph → Work → Work
-  backwardBy rule g w = walk (g .size) (g .successors) (joinBy rule (g .successors)) (reverseJobOrder (g .size)) w
+  round-same : (g : Graph) (w : Work) → ProperWork w → round reduceMaybeOptionalChains rule g w ≡ round v rule g w
+  unfolding round forward backward
+  round-same g w p =
+      let start = roundStart (w .registry) (w .sets) in
+      let mid = forward reduceMaybeOptionalChains rule g start in
+      walk-proper-same (g .successors) (g .size) (reverseJobOrder (g .size)) mid
+      (walk-joins KeepsProper keeps-order join-proper starts-proper rule (g .predecessors) (g .size) (jobOrder (g .size)) start (starts-proper w p))
+      ∙ ap (backward v rule g) (walk-proper-same (g .predecessors) (g .size) (jobOrder (g .size)) start (starts-proper w p))
 
-  abbrev pub roundBy : JoiningRule → Graph → Work → Work
-  roundBy rule g w = backwardBy rule g (forwardBy rule g (unchanged (w .registry) (w .sets)))
-
-  abbrev pub propagateBy : JoiningRule → Graph → PropertyPathRegistry → List NodeSet → Rounds Work
-  propagateBy rule g reg sets = roundsFrom hasChanged (roundBy rule g) 100 zero (unchanged reg sets)
-
-  module _ (repeats : Repeats v) (rule : JoiningRule) where
-    join-same : (near : ℕ → List ℕ) (b : ℕ) (ms : List TraversalState) (w : Work) → ProperWork w → join rule near b ms w ≡ joinBy rule near b ms w
-    unfolding join joinWith
-    join-same near b ms w p =
-        let ns = rule ms (near b) in
-        ap (λ (r : Reduced). record { registry = r .registry; sets = set (w .sets) b (r .set); changed = w .changed || not (sameSet (setOf (w .sets) b) (r .set)) })
-        (reduction-only v repeats (w .registry) (joinedSet ns b w) (p .sound) (members-joined ns b w p))
-
-    walk-proper-same : (near : ℕ → List ℕ) (n : ℕ) (order : List ℕ) (w : Work) → ProperWork w → walk n near (join rule near) order w ≡ walk n near (joinBy rule near) order w
-    unfolding join
-    walk-proper-same near n order w p =
-        walk-same ProperWork near (join rule near) (joinBy rule near) (λ b ms u q. join-proper (rule ms (near b)) b u q) (join-same near) n order w p
-
-    round-same : (g : Graph) (w : Work) → ProperWork w → round rule g w ≡ roundBy rule g w
-    unfolding round forward backward
-    round-same g w p =
-        let start = unchanged (w .registry) (w .sets) in
-        let mid = forward rule g start in
-        walk-proper-same (g .successors) (g .size) (reverseJobOrder (g .size)) mid
-        (walk-joins KeepsProper keeps-order join-proper starts-proper rule (g .predecessors) (g .size) (jobOrder (g .size)) start (starts-proper w p))
-        ∙ ap (backwardBy rule g) (walk-proper-same (g .predecessors) (g .size) (jobOrder (g .size)) start (starts-proper w p))
-
-    -- Any reduction that repeats passes until one changes nothing gives the same propagation: how many passes are allowed is no part of it.
-    pub propagation-only : (g : Graph) (reg : PropertyPathRegistry) (sets : List NodeSet) → ProperWork (unchanged reg sets) → propagateNonNull rule g reg sets ≡ propagateBy rule g reg sets
-    unfolding propagateNonNull
-    propagation-only g reg sets p =
-        rounds-same ProperWork hasChanged (round rule g) (roundBy rule g) (λ w q. round-does KeepsProper keeps-order join-proper starts-proper rule g w q) (round-same g) 100 zero (unchanged reg sets) p
+  -- Any reduction that repeats passes until one changes nothing gives the same propagation: how many passes are allowed is no part of it.
+  pub propagation-only : (g : Graph) (reg : PropertyPathRegistry) (sets : List NodeSet) → ProperWork (roundStart reg sets)
+      → propagateNonNull rule g reg sets ≡ propagateWith v rule g reg sets
+  unfolding propagateNonNull propagateWith
+  propagation-only g reg sets p =
+      rounds-same ProperWork hasChanged (round reduceMaybeOptionalChains rule g) (round v rule g)
+      (λ w q. round-does KeepsProper keeps-order join-proper starts-proper rule g w q) (round-same g) 100 zero (roundStart reg sets) p
 
 -- The start.
 
@@ -235,7 +223,7 @@ blocks-begun reg (b ∷ bs) h =
 
 -- A job's propagation.
 
-pub start-proper : (bs : List Block) → ProperWork (unchanged (enterBlocks [] bs .registry) (enterBlocks [] bs .sets))
+pub start-proper : (bs : List Block) → ProperWork (roundStart (enterBlocks [] bs .registry) (enterBlocks [] bs .sets))
 start-proper bs = let begun = blocks-begun [] bs sound-empty in record { sound = begun .sound; members = begun .members }
 
 pub propagated-proper : (rule : JoiningRule) (bs : List Block) → ProperWork (propagated rule bs .work)
@@ -243,7 +231,7 @@ unfolding propagated
 propagated-proper rule bs = propagation-proper rule (graphOf bs) (enterBlocks [] bs .registry) (enterBlocks [] bs .sets) (start-proper bs)
 
 -- the same with any reduction that repeats passes until one changes nothing
-pub propagated-only : (v : PropertyPathRegistry → NodeSet → Reduced) → Repeats v → (rule : JoiningRule) (bs : List Block)
-    → propagated rule bs ≡ propagateBy v rule (graphOf bs) (enterBlocks [] bs .registry) (enterBlocks [] bs .sets)
+pub propagated-only : (v : Reducer) → Repeats v → (rule : JoiningRule) (bs : List Block)
+    → propagated rule bs ≡ propagateWith v rule (graphOf bs) (enterBlocks [] bs .registry) (enterBlocks [] bs .sets)
 unfolding propagated
 propagated-only v r rule bs = propagation-only v r rule (graphOf bs) (enterBlocks [] bs .registry) (enterBlocks [] bs .sets) (start-proper bs)

@@ -1,6 +1,8 @@
--- The passes of a reduction are enough: in a sound registry each change takes an optional mark out of the set's paths, so the last pass changed
--- nothing, more passes change nothing, and the reduction is the repetition that document 01 describes. What it returns is reduced, stays so when nodes are made,
--- and reducing it again changes nothing.
+-- The passes of a reduction are enough: in a sound registry each change takes an optional mark out of the
+-- set's paths, so a further pass changes nothing (`reduction-reduced`), more passes change nothing
+-- (`reduction-more`), and the reduction is the repetition that document 01 describes (`reduction-repeats`)
+-- and nothing else is (`reduction-only`). A reduced set stays so when nodes are made, and reducing it
+-- again changes nothing.
 use Prim.Native.Nat.{ℕ, zero, suc, _+_, _≤_, _<_}
 use native.Mathlib.Nat.{le-refl, le-trans, not-suc-le-zero}
 use native.Mathlib.Omega.{arith}
@@ -16,7 +18,7 @@ use Rattle.entries.specs.Path.{ReactiveScopeDependency}
 use Rattle.model.specs.Lists.{select, countOf, sumOf}
 use Rattle.model.specs.Sets.{NodeSet, sameNode, contains, insert, remove}
 use Rattle.model.specs.Registry.{PropertyPathRegistry, Reached, fullPathOf, getOrCreateIdentifier, getOrCreatePropertyEntry, withOptional, walkFrom, walkPath, ownMark}
-use Rattle.model.specs.Reduction.{Reduced, reducedMark, reduceNode, reduceNodes, hasOptional, pass, passes, optionalMarks, optionalMarksOf, reduceMaybeOptionalChains}
+use Rattle.model.specs.Reduction.{PassState, Reduced, leftBy, reducedMark, reduceNode, reduceNodes, passStart, hasOptional, pass, passes, optionalMarks, optionalMarksOf, reduceMaybeOptionalChains}
 use Rattle.model.specs.Tests.{by-cond, decide, never, eqb-same, eqb-true, eqb-false, eqb-apart, and-first}
 use Rattle.model.specs.ListLaws.{All, all-map, all-both, all-select, select-same}
 use Rattle.model.specs.SetLaws.{same-node, Ascending, From, from-above, insert-from, select-from, insert-all, contains-all, contains-insert, contains-select, all-contained, sum-insert, sum-remove, sum-same}
@@ -141,50 +143,44 @@ unfolding optionalMarksOf
 marks-extends {a} {b} s x m =
     sum-same (marksAt b) (marksAt a) s (all-map (λ k. k .0 < length a) (λ k. marksAt b k ≡ marksAt a k) (λ k h. ap (λ d. optionalMarks (d .path)) (extends-path k x h)) s (m .inside))
 
--- as a pass starts
-abbrev pub unchanged : PropertyPathRegistry → NodeSet → Reduced
-unchanged reg s = record { registry = reg; set = s; changed = false }
-
 -- No step of a reduction takes a node out of the registry, sound or not.
 
-pub node-extends : (r : Reduced) (k : NodeId) → Extends (r .registry) (reduceNode r k .registry)
+pub node-extends : (r : PassState) (k : NodeId) → Extends (r .registry) (reduceNode r k .registry)
 unfolding reduceNode
 node-extends r k = path-extends (reducedMark (r .set)) (r .registry) (fullPathOf (r .registry) k)
 
-pub nodes-extend : (r : Reduced) (ks : List NodeId) → Extends (r .registry) (reduceNodes r ks .registry)
-unfolding reduceNodes
+pub nodes-extend : (r : PassState) (ks : List NodeId) → Extends (r .registry) (reduceNodes r ks .registry)
 nodes-extend r [] = extends-refl (r .registry)
 nodes-extend r (k ∷ ks) = extends-trans (node-extends r k) (nodes-extend (reduceNode r k) ks)
 
 pub pass-extends : (reg : PropertyPathRegistry) (s : NodeSet) → Extends reg (pass reg s .registry)
 unfolding pass
-pass-extends reg s = nodes-extend (unchanged reg s) (select (hasOptional reg) s)
+pass-extends reg s = nodes-extend (passStart reg s) (select (hasOptional reg) s)
 
 -- A sound registry stays sound.
 
-pub node-sound : (r : Reduced) (k : NodeId) → Sound (r .registry) → Sound (reduceNode r k .registry)
+pub node-sound : (r : PassState) (k : NodeId) → Sound (r .registry) → Sound (reduceNode r k .registry)
 unfolding reduceNode
 node-sound r k h = path-proper (reducedMark (r .set)) (r .registry) (fullPathOf (r .registry) k) h .sound
 
-nodes-sound : (r : Reduced) (ks : List NodeId) → Sound (r .registry) → Sound (reduceNodes r ks .registry)
-unfolding reduceNodes
+nodes-sound : (r : PassState) (ks : List NodeId) → Sound (r .registry) → Sound (reduceNodes r ks .registry)
 nodes-sound r [] h = h
 nodes-sound r (k ∷ ks) h = nodes-sound (reduceNode r k) ks (node-sound r k h)
 
 pub pass-sound : (reg : PropertyPathRegistry) (s : NodeSet) → Sound reg → Sound (pass reg s .registry)
 unfolding pass
-pass-sound reg s h = nodes-sound (unchanged reg s) (select (hasOptional reg) s) h
+pass-sound reg s h = nodes-sound (passStart reg s) (select (hasOptional reg) s) h
 
 -- What reducing does to the set: `changed` is paid for by a mark.
-pub record Shrunk (r r′ : Reduced) : Type 0 where
+pub record Shrunk (r r′ : PassState) : Type 0 where
   pub members : Members (r′ .registry) (r′ .set)
   pub paid : optionalMarksOf (r′ .registry) (r′ .set) + mark-value (r′ .changed) ≤ optionalMarksOf (r .registry) (r .set) + mark-value (r .changed)
 
-shrunk-trans : {a b c : Reduced} → Shrunk a b → Shrunk b c → Shrunk a c
+shrunk-trans : {a b c : PassState} → Shrunk a b → Shrunk b c → Shrunk a c
 shrunk-trans x y = record { members = y .members; paid = le-trans (y .paid) (x .paid) }
 
 -- the set after a node of it was walked again
-module _ (r : Reduced) (k : NodeId) (h : Sound (r .registry)) (m : Members (r .registry) (r .set)) (has : contains (r .set) k ≡ true) where
+module _ (r : PassState) (k : NodeId) (h : Sound (r .registry)) (m : Members (r .registry) (r .set)) (has : contains (r .set) k ≡ true) where
   at : Reached
   at = walkPath (reducedMark (r .set)) (r .registry) (fullPathOf (r .registry) k)
 
@@ -253,8 +249,7 @@ module _ (r : Reduced) (k : NodeId) (h : Sound (r .registry)) (m : Members (r .r
 
 -- A pass.
 
-nodes-shrunk : (r : Reduced) (b : ℕ) (ks : List NodeId) → Sound (r .registry) → Members (r .registry) (r .set) → From b ks → All (λ k. contains (r .set) k ≡ true) ks → Shrunk r (reduceNodes r ks)
-unfolding reduceNodes
+nodes-shrunk : (r : PassState) (b : ℕ) (ks : List NodeId) → Sound (r .registry) → Members (r .registry) (r .set) → From b ks → All (λ k. contains (r .set) k ≡ true) ks → Shrunk r (reduceNodes r ks)
 nodes-shrunk r b [] h m f c = record { members = m; paid = le-refl _ }
 nodes-shrunk r b (k ∷ ks) h m f c =
     let one = node-shrunk r k h m (c .0) in
@@ -262,10 +257,10 @@ nodes-shrunk r b (k ∷ ks) h m f c =
     (all-both (λ j. k .0 < j .0) (λ j. contains (r .set) j ≡ true) ks (from-above (suc (k .0)) ks (f .1)) (c .1)) in
     shrunk-trans one (nodes-shrunk (reduceNode r k) (suc (k .0)) ks (node-sound r k h) (one .members) (f .1) still)
 
-pub pass-shrunk : (reg : PropertyPathRegistry) (s : NodeSet) → Sound reg → Members reg s → Shrunk (unchanged reg s) (pass reg s)
+pub pass-shrunk : (reg : PropertyPathRegistry) (s : NodeSet) → Sound reg → Members reg s → Shrunk (passStart reg s) (pass reg s)
 unfolding pass
 pass-shrunk reg s h m =
-    nodes-shrunk (unchanged reg s) zero (select (hasOptional reg) s) h m (select-from zero (hasOptional reg) s (m .ascending))
+    nodes-shrunk (passStart reg s) zero (select (hasOptional reg) s) h m (select-from zero (hasOptional reg) s (m .ascending))
     (all-select (λ k. contains s k ≡ true) (hasOptional reg) s (all-contained s))
 
 -- Passes.
@@ -273,13 +268,13 @@ pass-shrunk reg s h m =
 module _ (most : ℕ) (reg : PropertyPathRegistry) (s : NodeSet) where
   -- what the flag of the first pass decides
   abbrev onward : Bool → Reduced
-  onward t = elim t [ true ↦ passes most (pass reg s .registry) (pass reg s .set) | false ↦ pass reg s ]
+  onward t = elim t [ true ↦ passes most (pass reg s .registry) (pass reg s .set) | false ↦ leftBy (pass reg s) ]
 
   pub passes-on : pass reg s .changed ≡ true → passes (suc most) reg s ≡ passes most (pass reg s .registry) (pass reg s .set)
   unfolding passes
   passes-on e = ap onward e
 
-  pub passes-stop : pass reg s .changed ≡ false → passes (suc most) reg s ≡ pass reg s
+  pub passes-stop : pass reg s .changed ≡ false → passes (suc most) reg s ≡ leftBy (pass reg s)
   unfolding passes
   passes-stop e = ap onward e
 
@@ -305,7 +300,7 @@ pass-less reg s h m e = let paid = pass-shrunk reg s h m .paid in let one = ap m
 -- any function that repeats passes until one changes nothing
 abbrev pub Repeats : (PropertyPathRegistry → NodeSet → Reduced) → Type 0
 Repeats v = (reg : PropertyPathRegistry) (s : NodeSet) → Sound reg → Members reg s →
-    (pass reg s .changed ≡ true → v reg s ≡ v (pass reg s .registry) (pass reg s .set)) × (pass reg s .changed ≡ false → v reg s ≡ pass reg s)
+    (pass reg s .changed ≡ true → v reg s ≡ v (pass reg s .registry) (pass reg s .set)) × (pass reg s .changed ≡ false → v reg s ≡ leftBy (pass reg s))
 
 -- the passes do as such a function does, where the set's marks are fewer than the passes
 passes-same : (v : PropertyPathRegistry → NodeSet → Reduced) → Repeats v → (most : ℕ) (reg : PropertyPathRegistry) (s : NodeSet) → Sound reg → Members reg s
@@ -329,19 +324,16 @@ passes-enough (suc a) (suc b) reg s h m la lb =
     passes-on a reg s e ∙ passes-enough a b (pass reg s .registry) (pass reg s .set) (pass-sound reg s h) (p .members) (omega arith) (omega arith) ∙ sym (passes-on b reg s e))
     (λ e. passes-stop a reg s e ∙ sym (passes-stop b reg s e))
 
-passes-shrunk : (most : ℕ) (reg : PropertyPathRegistry) (s : NodeSet) → Sound reg → Members reg s → optionalMarksOf reg s < most
-    → Shrunk (unchanged reg s) (passes most reg s) × (passes most reg s .changed ≡ false)
-passes-shrunk zero reg s h m lt = absurd (not-suc-le-zero lt)
-passes-shrunk (suc most) reg s h m lt =
+-- a set of the registry's nodes comes out
+passes-members : (most : ℕ) (reg : PropertyPathRegistry) (s : NodeSet) → Sound reg → Members reg s
+    → Members (passes most reg s .registry) (passes most reg s .set)
+unfolding passes
+passes-members zero reg s h m = m
+passes-members (suc most) reg s h m =
     let p = pass-shrunk reg s h m in
     decide (pass reg s .changed)
-    (λ e.
-    let less = pass-less reg s h m e in
-    let rest = passes-shrunk most (pass reg s .registry) (pass reg s .set) (pass-sound reg s h) (p .members) (omega arith) in
-    let last = rest .0 in
-    let paid = last .paid in
-    rw (passes-on most reg s e) (record { members = last .members; paid = omega arith }, rest .1))
-    (λ e. rw (passes-stop most reg s e) (p, e))
+    (λ e. rw (passes-on most reg s e) (passes-members most (pass reg s .registry) (pass reg s .set) (pass-sound reg s h) (p .members)))
+    (λ e. rw (passes-stop most reg s e) (p .members))
 
 -- The reduction.
 
@@ -354,20 +346,15 @@ unfolding reduceMaybeOptionalChains
 reduction-sound reg s h = passes-sound (suc (optionalMarksOf reg s)) reg s h
 
 module _ (reg : PropertyPathRegistry) (s : NodeSet) (h : Sound reg) (m : Members reg s) where
-  -- the last pass changed nothing
-  pub reduction-last : reduceMaybeOptionalChains reg s .changed ≡ false
-  unfolding reduceMaybeOptionalChains
-  reduction-last = passes-shrunk (suc (optionalMarksOf reg s)) reg s h m (le-refl _) .1
-
   -- more passes change nothing
   pub reduction-more : (more : ℕ) → passes (suc (optionalMarksOf reg s) + more) reg s ≡ reduceMaybeOptionalChains reg s
   unfolding reduceMaybeOptionalChains
   reduction-more more = passes-enough (suc (optionalMarksOf reg s) + more) (suc (optionalMarksOf reg s)) reg s h m (omega arith) (le-refl _)
 
   -- a set of the registry's nodes comes out
-  pub reduction-shrunk : Shrunk (unchanged reg s) (reduceMaybeOptionalChains reg s)
+  pub reduction-members : Members (reduceMaybeOptionalChains reg s .registry) (reduceMaybeOptionalChains reg s .set)
   unfolding reduceMaybeOptionalChains
-  reduction-shrunk = passes-shrunk (suc (optionalMarksOf reg s)) reg s h m (le-refl _) .0
+  reduction-members = passes-members (suc (optionalMarksOf reg s)) reg s h m
 
 -- "Passes repeat until one changes nothing": the reduction does so ..
 pub reduction-repeats : Repeats reduceMaybeOptionalChains
@@ -390,7 +377,7 @@ reduction-only v r reg s h m = passes-same v r (suc (optionalMarksOf reg s)) reg
 
 -- a pass over the set changes nothing and makes nothing
 abbrev pub IsReduced : PropertyPathRegistry → NodeSet → Type 0
-IsReduced reg s = pass reg s ≡ unchanged reg s
+IsReduced reg s = pass reg s ≡ passStart reg s
 
 -- a node's path, walked again, leads back to the node and makes nothing
 abbrev pub LeadsBack : PropertyPathRegistry → NodeSet → NodeId → Type 0
@@ -410,21 +397,20 @@ node-back s reg k h le same =
     ap (marksAt (to .registry)) (same-node (to .node) k same) ∙ ap (λ (p : ReactiveScopeDependency). optionalMarks (p .path)) (extends-path k (path-extends (reducedMark s) reg d) le) in
     low .kept (omega arith) ∙ leads-back reg h (suc (k .0)) k (le-refl _) le (d .reactive) (d .span)
 
-pub node-still : (r : Reduced) (k : NodeId) → LeadsBack (r .registry) (r .set) k → reduceNode r k ≡ r
+pub node-still : (r : PassState) (k : NodeId) → LeadsBack (r .registry) (r .set) k → reduceNode r k ≡ r
 unfolding reduceNode
 node-still r k e =
     ap (λ (at : Reached). record { registry = at .registry; set = cond (sameNode (at .node) k) (r .set) (insert (at .node) (remove k (r .set))); changed = r .changed || not (sameNode (at .node) k) }) e
     ∙ rw (eqb-same (k .0), or-false (r .changed))
 
-nodes-still : (r : Reduced) (ks : List NodeId) → All (LeadsBack (r .registry) (r .set)) ks → reduceNodes r ks ≡ r
-unfolding reduceNodes
+nodes-still : (r : PassState) (ks : List NodeId) → All (LeadsBack (r .registry) (r .set)) ks → reduceNodes r ks ≡ r
 nodes-still r [] a = refl
-nodes-still r (k ∷ ks) a = ap (λ (x : Reduced). reduceNodes x ks) (node-still r k (a .0)) ∙ nodes-still r ks (a .1)
+nodes-still r (k ∷ ks) a = ap (λ (x : PassState). reduceNodes x ks) (node-still r k (a .0)) ∙ nodes-still r ks (a .1)
 
 -- where the flag says that nothing has changed, each node led back
-nodes-back : (r : Reduced) (ks : List NodeId) → Sound (r .registry) → All (λ k. k .0 < length (r .registry)) ks → reduceNodes r ks .changed ≡ false
+nodes-back : (r : PassState) (ks : List NodeId) → Sound (r .registry) → All (λ k. k .0 < length (r .registry)) ks → reduceNodes r ks .changed ≡ false
     → (r .changed ≡ false) × All (LeadsBack (r .registry) (r .set)) ks
-unfolding reduceNodes reduceNode
+unfolding reduceNode
 nodes-back r [] h a e = (e, tt)
 nodes-back r (k ∷ ks) h a e =
     let longer = extends-length (node-extends r k) in
@@ -432,7 +418,7 @@ nodes-back r (k ∷ ks) h a e =
     let at = walkPath (reducedMark (r .set)) (r .registry) (fullPathOf (r .registry) k) in
     let flags = neither (r .changed) (sameNode (at .node) k) (rest .0) in
     let back = node-back (r .set) (r .registry) k h (a .0) (flags .1) in
-    (flags .0, (back, subst (λ (x : Reduced). All (LeadsBack (x .registry) (x .set)) ks) (node-still r k back) (rest .1)))
+    (flags .0, (back, subst (λ (x : PassState). All (LeadsBack (x .registry) (x .set)) ks) (node-still r k back) (rest .1)))
   where
     neither : (b c : Bool) → b || not c ≡ false → (b ≡ false) × (c ≡ true)
     neither true c f = never refl f
@@ -442,12 +428,12 @@ nodes-back r (k ∷ ks) h a e =
 module _ (reg : PropertyPathRegistry) (s : NodeSet) (h : Sound reg) (m : Members reg s) where
   pass-back : pass reg s .changed ≡ false → All (LeadsBack reg s) (select (hasOptional reg) s)
   unfolding pass
-  pass-back e = nodes-back (unchanged reg s) (select (hasOptional reg) s) h (all-select (λ k. k .0 < length reg) (hasOptional reg) s (m .inside)) e .1
+  pass-back e = nodes-back (passStart reg s) (select (hasOptional reg) s) h (all-select (λ k. k .0 < length reg) (hasOptional reg) s (m .inside)) e .1
 
   -- a pass that changes nothing makes nothing
   pass-still : pass reg s .changed ≡ false → IsReduced reg s
   unfolding pass
-  pass-still e = nodes-still (unchanged reg s) (select (hasOptional reg) s) (pass-back e)
+  pass-still e = nodes-still (passStart reg s) (select (hasOptional reg) s) (pass-back e)
 
   -- it stays so when nodes are made
   pub reduced-extends : {reg′ : PropertyPathRegistry} → Extends reg reg′ → IsReduced reg s → IsReduced reg′ s
@@ -456,15 +442,15 @@ module _ (reg : PropertyPathRegistry) (s : NodeSet) (h : Sound reg) (m : Members
       let path : (k : NodeId) → k .0 < length reg → fullPathOf reg′ k ≡ fullPathOf reg k = λ k l. extends-path k x l in
       let same = select-same (hasOptional reg) (hasOptional reg′) s (all-map (λ k. k .0 < length reg) (λ k. hasOptional reg k ≡ hasOptional reg′ k) (λ k l. rw (path k l)) s (m .inside)) in
       let inside = all-select (λ k. k .0 < length reg) (hasOptional reg) s (m .inside) in
-      nodes-still (unchanged reg′ s) (select (hasOptional reg′) s)
+      nodes-still (passStart reg′ s) (select (hasOptional reg′) s)
       (subst (All (LeadsBack reg′ s)) same
       (all-map (λ k. (k .0 < length reg) × LeadsBack reg s k) (LeadsBack reg′ s) (λ k b. rw (path k (b .0)) (walk-extended (reducedMark s) x (fullPathOf reg k) (b .1))) (select (hasOptional reg) s)
-      (all-both (λ k. k .0 < length reg) (LeadsBack reg s) (select (hasOptional reg) s) inside (pass-back (ap (λ (r : Reduced). r .changed) e)))))
+      (all-both (λ k. k .0 < length reg) (LeadsBack reg s) (select (hasOptional reg) s) inside (pass-back (ap (λ (r : PassState). r .changed) e)))))
 
   -- and the reduction leaves it as it is
-  pub reduced-already : IsReduced reg s → reduceMaybeOptionalChains reg s ≡ unchanged reg s
+  pub reduced-already : IsReduced reg s → reduceMaybeOptionalChains reg s ≡ record { registry = reg; set = s }
   unfolding reduceMaybeOptionalChains
-  reduced-already e = passes-stop (optionalMarksOf reg s) reg s (ap (λ (r : Reduced). r .changed) e) ∙ e
+  reduced-already e = passes-stop (optionalMarksOf reg s) reg s (ap (λ (r : PassState). r .changed) e) ∙ ap leftBy e
 
 passes-reduced : (most : ℕ) (reg : PropertyPathRegistry) (s : NodeSet) → Sound reg → Members reg s → optionalMarksOf reg s < most
     → IsReduced (passes most reg s .registry) (passes most reg s .set)
@@ -474,7 +460,7 @@ passes-reduced (suc most) reg s h m lt =
     (λ e.
     let less = pass-less reg s h m e in
     rw (passes-on most reg s e) (passes-reduced most (pass reg s .registry) (pass reg s .set) (pass-sound reg s h) (pass-shrunk reg s h m .members) (omega arith)))
-    (λ e. let still = pass-still reg s h m e in rw (passes-stop most reg s e) (subst (λ (r : Reduced). IsReduced (r .registry) (r .set)) (sym still) still))
+    (λ e. let still = pass-still reg s h m e in rw (passes-stop most reg s e) (subst (λ (r : PassState). IsReduced (r .registry) (r .set)) (sym still) still))
 
 -- What a reduction returns is reduced.
 pub reduction-reduced : (reg : PropertyPathRegistry) (s : NodeSet) → Sound reg → Members reg s → IsReduced (reduceMaybeOptionalChains reg s .registry) (reduceMaybeOptionalChains reg s .set)

@@ -1,5 +1,6 @@
 -- Going by cases on a test, and what the tests on numbers say.
 use Prim.Native.Nat.{ℕ, _≤_, _<_}
+use native.Mathlib.Omega.{arith}
 use mathlib.Core.Path.{_≡_, refl, sym, ap}
 use mathlib.Core.Bool.{Bool, true, false, _&&_, _||_, not, cond, true≢false, false≢true, Bool·beq}
 use lib.Dec.{T, eqb, ltb, eqb→eq, eqb-refl, ltb→lt, lt→ltb, nltb→le}
@@ -48,6 +49,12 @@ ltb-true a b e = ltb→lt a b (test-passes e)
 
 pub ltb-false : (a b : ℕ) → ltb a b ≡ false → b ≤ a
 ltb-false a b e = nltb→le a b (test-fails e)
+
+pub ltb-less : (a b : ℕ) → a < b → ltb a b ≡ true
+ltb-less a b h = passes-test (lt→ltb a b h)
+
+pub ltb-not-less : (a b : ℕ) → b ≤ a → ltb a b ≡ false
+ltb-not-less a b h = decide (ltb a b) (λ e. let l = ltb-true a b e in absurd (omega arith)) (λ e. e)
 
 pub and-first : (a b : Bool) → a && b ≡ true → a ≡ true
 and-first true b h = refl

@@ -3,7 +3,7 @@
 -- once its neighbours are visited.
 use Prim.Native.Nat.{ℕ, zero, suc}
 use mathlib.Core.Bool.{Bool, true, false}
-use mathlib.Core.List.{List, [], _∷_}
+use mathlib.Core.List.{List, [], _∷_, foldl}
 use lib.ListN.{getD, set}
 
 -- `TraversalState` of the Rust, with the unmarked blocks, of which its map says nothing
@@ -47,13 +47,11 @@ abbrev pub leave : {W : Type 0} → (ℕ → List TraversalState → W → W) �
 leave join b v = record { marks = set (v .marks) b Done; work = join b (v .marks) (v .work) }
 
 -- a step for each block of a list, in its order
-unfoldable pub each : {S : Type 0} → (ℕ → S → S) → List ℕ → S → S
-each step [] s = s
-each step (b ∷ bs) s = each step bs (step b s)
+abbrev pub each : {S : Type 0} → (ℕ → S → S) → List ℕ → S → S
+each step bs s = foldl (λ t b. step b t) s bs
 
 -- "A visit marks the block Active, visits unmarked neighbours, then joins .. and marks it Done", at most `most` visits deep.
 unfoldable pub visitWithin : {W : Type 0} → ℕ → (ℕ → List ℕ) → (ℕ → List TraversalState → W → W) → ℕ → Visited W → Visited W
-unfolding each
 visitWithin zero near join b v = v
 visitWithin (suc most) near join b v =
     elim (marked b v) [ true ↦ v | false ↦ leave join b (each (visitWithin most near join) (near b) (enter b v)) ]

@@ -56,12 +56,10 @@ abbrev AgreeTo : {W : Type 0} → ℕ → (f g : ℕ → Visited W → Visited W
 AgreeTo {W} k f g = (b : ℕ) (v : Visited W) → unmarkedIn (v .marks) ≤ k → f b v ≡ g b v
 
 pub each-marks : {W : Type 0} (step : ℕ → Visited W → Visited W) → Marks step → (bs : List ℕ) (v : Visited W) → unmarkedIn (each step bs v .marks) ≤ unmarkedIn (v .marks)
-unfolding each
 each-marks step h [] v = le-refl _
 each-marks step h (b ∷ bs) v = le-trans (each-marks step h bs (step b v)) (h b v)
 
 each-agree : {W : Type 0} (k : ℕ) (f g : ℕ → Visited W → Visited W) → Marks f → AgreeTo k f g → (bs : List ℕ) (v : Visited W) → unmarkedIn (v .marks) ≤ k → each f bs v ≡ each g bs v
-unfolding each
 each-agree k f g h same [] v le = refl
 each-agree k f g h same (b ∷ bs) v le = each-agree k f g h same bs (f b v) (le-trans (h b v) le) ∙ ap (each g bs) (same b v le)
 
@@ -143,7 +141,6 @@ pub record Preorder {W : Type 0} (R : W → W → Type 0) : Type 0 where
 
 module _ {W : Type 0} (R : W → W → Type 0) (order : Preorder R) where
   pub each-does : (step : ℕ → Visited W → Visited W) → ((b : ℕ) (x : Visited W) → R (x .work) (step b x .work)) → (bs : List ℕ) (x : Visited W) → R (x .work) (each step bs x .work)
-  unfolding each
   each-does step h [] x = order .none (x .work)
   each-does step h (b ∷ bs) x = order .after (x .work) (step b x .work) _ (h b x) (each-does step h bs (step b x))
 
@@ -166,7 +163,6 @@ module _ {W : Type 0} (P : W → Type 0) (near : ℕ → List ℕ) (f g : ℕ �
     (keeps : (b : ℕ) (ms : List TraversalState) (w : W) → P w → P (f b ms w)) (same : (b : ℕ) (ms : List TraversalState) (w : W) → P w → f b ms w ≡ g b ms w) where
   each-same : (u v : ℕ → Visited W → Visited W) → ((b : ℕ) (x : Visited W) → P (x .work) → P (u b x .work)) → ((b : ℕ) (x : Visited W) → P (x .work) → u b x ≡ v b x)
       → (bs : List ℕ) (x : Visited W) → P (x .work) → each u bs x ≡ each v bs x
-  unfolding each
   each-same u v k s [] x p = refl
   each-same u v k s (b ∷ bs) x p = each-same u v k s bs (u b x) (k b x p) ∙ ap (each v bs) (s b x p)
 
@@ -220,7 +216,6 @@ module _ {W : Type 0} (P : W → Type 0) (G : W → ℕ → Type 0) where
   }
 
   pub each-makes : (step : ℕ → Visited W → Visited W) → ((b : ℕ) (v : Visited W) → P (v .work) → Makes v (step b v)) → (bs : List ℕ) (v : Visited W) → P (v .work) → Makes v (each step bs v)
-  unfolding each
   each-makes step h [] v p = makes-none v p
   each-makes step h (b ∷ bs) v p = let one = h b v p in makes-after one (each-makes step h bs (step b v) (one .proper))
 
@@ -255,7 +250,6 @@ module _ {W : Type 0} (P : W → Type 0) (G : W → ℕ → Type 0) where
         (λ e. rw (visit-recurs near join b v .1 e) (set-here (λ x. isMarked x ≡ true) (each (visit near join) (near b) (enter b v) .marks) b Done Done refl refl))
 
     pub visits-mark : (bs : List ℕ) (v : Visited W) → P (v .work) → All (λ b. marked b (each (visit near join) bs v) ≡ true) bs
-    unfolding each
     visits-mark [] v p = tt
     visits-mark (b ∷ bs) v p =
         let next = visit near join b v in

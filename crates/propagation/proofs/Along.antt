@@ -10,7 +10,7 @@ use Rattle.model.specs.Registry.{nodeLimit}
 use Rattle.model.specs.RegistryLaws.{extends-length}
 use Rattle.model.specs.Visit.{TraversalState, Visited, unmarkedIn, marked, enter, leave, each}
 use Rattle.model.specs.VisitLaws.{Preorder, each-does, visit-does, visit-marks, visit-recurs}
-use Rattle.model.specs.Propagation.{Work, doneNeighbours, join}
+use Rattle.model.specs.Propagation.{Work, JoiningRule, join}
 use Rattle.model.specs.PropagationLaws.{join-extends}
 use Rattle.graph.specs.Bytes.{sizeIn, neighbours}
 use Rattle.propagation.specs.declared.Progress.{Progress}
@@ -29,30 +29,30 @@ adds-order = record { none = λ w. le-refl _; after = λ u v w a b. le-trans a b
 
 -- The laws of `visit`.
 
-module _ (g : List ℕ) (backward : Bool) where
-  pub join-adds : (b : ℕ) (ms : List TraversalState) (w : Work) → Adds w (joinIn g backward b ms w)
+module _ (rule : JoiningRule) (g : List ℕ) (backward : Bool) where
+  pub join-adds : (b : ℕ) (ms : List TraversalState) (w : Work) → Adds w (joinIn rule g backward b ms w)
   unfolding joinIn join
-  join-adds b ms w = extends-length (join-extends (doneNeighbours ms (neighbours g backward b)) b w)
+  join-adds b ms w = extends-length (join-extends (rule ms (neighbours g backward b)) b w)
 
-  visit-adds : (b : ℕ) (v : Visited Work) → Adds (v .work) (visitIn g backward b v .work)
+  visit-adds : (b : ℕ) (v : Visited Work) → Adds (v .work) (visitIn rule g backward b v .work)
   unfolding visitIn
-  visit-adds = visit-does Adds adds-order (neighbours g backward) (joinIn g backward) join-adds
+  visit-adds = visit-does Adds adds-order (neighbours g backward) (joinIn rule g backward) join-adds
 
-  pub visits-add : (bs : List ℕ) (v : Visited Work) → Adds (v .work) (each (visitIn g backward) bs v .work)
-  visits-add = each-does Adds adds-order (visitIn g backward) visit-adds
+  pub visits-add : (bs : List ℕ) (v : Visited Work) → Adds (v .work) (each (visitIn rule g backward) bs v .work)
+  visits-add = each-does Adds adds-order (visitIn rule g backward) visit-adds
 
-  pub visit-fewer : (b : ℕ) (v : Visited Work) → unmarkedIn (visitIn g backward b v .marks) ≤ unmarkedIn (v .marks)
+  pub visit-fewer : (b : ℕ) (v : Visited Work) → unmarkedIn (visitIn rule g backward b v .marks) ≤ unmarkedIn (v .marks)
   unfolding visitIn
-  visit-fewer = visit-marks (neighbours g backward) (joinIn g backward)
+  visit-fewer = visit-marks (neighbours g backward) (joinIn rule g backward)
 
-  pub visit-marked : (b : ℕ) (v : Visited Work) → marked b v ≡ true → visitIn g backward b v ≡ v
+  pub visit-marked : (b : ℕ) (v : Visited Work) → marked b v ≡ true → visitIn rule g backward b v ≡ v
   unfolding visitIn
-  visit-marked b v = visit-recurs (neighbours g backward) (joinIn g backward) b v .0
+  visit-marked b v = visit-recurs (neighbours g backward) (joinIn rule g backward) b v .0
 
   pub visit-unmarked : (b : ℕ) (v : Visited Work) → marked b v ≡ false
-      → visitIn g backward b v ≡ leave (joinIn g backward) b (each (visitIn g backward) (neighbours g backward b) (enter b v))
+      → visitIn rule g backward b v ≡ leave (joinIn rule g backward) b (each (visitIn rule g backward) (neighbours g backward b) (enter b v))
   unfolding visitIn
-  visit-unmarked b v = visit-recurs (neighbours g backward) (joinIn g backward) b v .1
+  visit-unmarked b v = visit-recurs (neighbours g backward) (joinIn rule g backward) b v .1
 
 -- An answer by its case.
 
@@ -71,25 +71,23 @@ module _ (want : Work) (n : ℕ) (r : Progress) (sets ws os : List ℕ) (h : Joi
   joined-full e = subst (λ a. Joins want n a sets ws os) e h
 
 -- A loop that visits blocks: the visits of the blocks of `order`, those still to come, lead from what the arrays hold to `end`.
-pub record Along (g : List ℕ) (backward later : Bool) (order : List ℕ) (end : Visited Work) (marks sets ws os : List ℕ) (c : Bool) : Type 0 where
+pub record Along (rule : JoiningRule) (g : List ℕ) (backward later : Bool) (order : List ℕ) (end : Visited Work) (marks sets ws os : List ℕ) (c : Bool) : Type 0 where
   pub long : length marks ≡ 128
   pub stands : Stands (sizeIn g) sets ws os
   pub before : ReducedBefore later (sizeIn g) sets ws
-  pub rest : each (visitIn g backward) order (visitedOf (sizeIn g) marks sets ws c) ≡ end
+  pub rest : each (visitIn rule g backward) order (visitedOf (sizeIn g) marks sets ws c) ≡ end
 
-module _ {g : List ℕ} {backward later : Bool} {end : Visited Work} {marks sets ws os : List ℕ} {c : Bool} where
+module _ {rule : JoiningRule} {g : List ℕ} {backward later : Bool} {end : Visited Work} {marks sets ws os : List ℕ} {c : Bool} where
   -- the same with the blocks to come in another form
-  pub along-by : {order order′ : List ℕ} → order ≡ order′ → Along g backward later order end marks sets ws os c → Along g backward later order′ end marks sets ws os c
-  along-by e a = subst (λ (bs : List ℕ). Along g backward later bs end marks sets ws os c) e a
+  pub along-by : {order order′ : List ℕ} → order ≡ order′ → Along rule g backward later order end marks sets ws os c → Along rule g backward later order′ end marks sets ws os c
+  along-by e a = subst (λ (bs : List ℕ). Along rule g backward later bs end marks sets ws os c) e a
 
-  pub along-end : Along g backward later [] end marks sets ws os c → visitedOf (sizeIn g) marks sets ws c ≡ end
-  unfolding each
+  pub along-end : Along rule g backward later [] end marks sets ws os c → visitedOf (sizeIn g) marks sets ws c ≡ end
   along-end a = a .rest
 
-  module _ {b : ℕ} {order : List ℕ} (a : Along g backward later (b ∷ order) end marks sets ws os c) where
+  module _ {b : ℕ} {order : List ℕ} (a : Along rule g backward later (b ∷ order) end marks sets ws os c) where
     -- a block that is marked already is passed over
-    pub along-marked : b < sizeIn g → sizeIn g ≤ 128 → (getD marks b 0 ≡ 0 → ⊥) → Along g backward later order end marks sets ws os c
-    unfolding each
+    pub along-marked : b < sizeIn g → sizeIn g ≤ 128 → (getD marks b 0 ≡ 0 → ⊥) → Along rule g backward later order end marks sets ws os c
     along-marked inside few marked-here =
         let long = a .long in
         let here = more-marked (sizeIn g) marks b inside (omega arith) marked-here in
@@ -97,25 +95,23 @@ module _ {g : List ℕ} {backward later : Bool} {end : Visited Work} {marks sets
           long = a .long;
           stands = a .stands;
           before = a .before;
-          rest = ap (each (visitIn g backward) order) (sym (visit-marked g backward b (visitedOf (sizeIn g) marks sets ws c) here)) ∙ a .rest;
+          rest = ap (each (visitIn rule g backward) order) (sym (visit-marked rule g backward b (visitedOf (sizeIn g) marks sets ws c) here)) ∙ a .rest;
         }
 
-    module _ (r : Progress) (marks′ sets′ ws′ os′ : List ℕ) (h : Visits (visitIn g backward b (visitedOf (sizeIn g) marks sets ws c)) (sizeIn g) r marks′ sets′ ws′ os′) where
-      pub along-more : (c′ : Bool) → r ≡ Changed c′ → Along g backward later order end marks′ sets′ ws′ os′ c′
-      unfolding each
+    module _ (r : Progress) (marks′ sets′ ws′ os′ : List ℕ) (h : Visits (visitIn rule g backward b (visitedOf (sizeIn g) marks sets ws c)) (sizeIn g) r marks′ sets′ ws′ os′) where
+      pub along-more : (c′ : Bool) → r ≡ Changed c′ → Along rule g backward later order end marks′ sets′ ws′ os′ c′
       along-more c′ e =
           let to = visited-to _ _ r marks′ sets′ ws′ os′ h c′ e in
           let v = visitedOf (sizeIn g) marks sets ws c in
           record {
             long = to .long;
             stands = to .stands;
-            before = λ t. reduced-rows (sizeIn g) sets′ ws′ c′ (visitIn g backward b v .work) (ap (λ (x : Visited Work). x .work) (to .same))
-                (λ k l. visit-keeps-reduced g backward b v (stands-proper (a .stands) c) k (reduced-work (sizeIn g) sets ws c (a .before t) k l));
-            rest = ap (each (visitIn g backward) order) (sym (to .same)) ∙ a .rest;
+            before = λ t. reduced-rows (sizeIn g) sets′ ws′ c′ (visitIn rule g backward b v .work) (ap (λ (x : Visited Work). x .work) (to .same))
+                (λ k l. visit-keeps-reduced rule g backward b v (stands-proper (a .stands) c) k (reduced-work (sizeIn g) sets ws c (a .before t) k l));
+            rest = ap (each (visitIn rule g backward) order) (sym (to .same)) ∙ a .rest;
           }
 
       pub along-full : r ≡ Full → nodeLimit < length (end .work .registry)
-      unfolding each
       along-full e =
           subst (λ (v : Visited Work). nodeLimit < length (v .work .registry)) (a .rest)
-          (lt-of-lt-of-le (visited-full _ _ r marks′ sets′ ws′ os′ h e) (visits-add g backward order (visitIn g backward b (visitedOf (sizeIn g) marks sets ws c))))
+          (lt-of-lt-of-le (visited-full _ _ r marks′ sets′ ws′ os′ h e) (visits-add rule g backward order (visitIn rule g backward b (visitedOf (sizeIn g) marks sets ws c))))

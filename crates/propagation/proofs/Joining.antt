@@ -9,9 +9,9 @@ use Rattle.model.specs.ListLaws.{All}
 use Rattle.model.specs.Sets.{NodeSet, union, sameSet}
 use Rattle.model.specs.Registry.{nodeLimit}
 use Rattle.model.specs.Reduction.{Reduced, reduceMaybeOptionalChains}
-use Rattle.model.specs.ReductionLaws.{Members, unchanged, IsReduced, reduced-already}
+use Rattle.model.specs.ReductionLaws.{Members, IsReduced, reduced-already}
 use Rattle.model.specs.Visit.{leave}
-use Rattle.model.specs.Propagation.{Work, setOf, doneNeighbours, intersectionOf, joinWith, join}
+use Rattle.model.specs.Propagation.{Work, setOf, JoiningRule, intersectionOf, joinWith, join}
 use Rattle.model.specs.PropagationLaws.{ProperWork, joinedSet, members-setOf, members-joined, join-proper}
 use Rattle.rows.specs.Members.{membersOf}
 use Rattle.rows.specs.Rows.{rowOf, rowsOf, RowSet}
@@ -20,30 +20,30 @@ use Rattle.rows.proofs.Members.{same-self, same-lists}
 use Rattle.registry.specs.Words.{registryOf, Held}
 use Rattle.reduction.specs.declared.ReducedSet.{ReducedSet}
 use Rattle.reduction.specs.Reduces.{KnownReduced, reducedOf, Reduces}
-use Rattle.reduction.proofs.Passes.{reduces-to, reduces-full}
+use Rattle.reduction.proofs.Repeats.{reduces-to, reduces-full}
 use Rattle.graph.specs.Bytes.{sizeIn, neighbours}
 use Rattle.propagation.specs.declared.Progress.{Progress}
 use Rattle.propagation.specs.declared.Progress.the-variants.{Changed, Full}
-use Rattle.propagation.specs.Joins.{marksOf, workOf, visitedOf, joinIn, doneSets, Ready, ReducedBefore, AllReduced, Holds, Joins, Visits}
+use Rattle.propagation.specs.Joins.{marksOf, workOf, visitedOf, joinIn, setsToJoin, Ready, ReducedBefore, AllReduced, Holds, Joins, Visits}
 use Rattle.propagation.proofs.Marks.{mark-set}
 use Rattle.propagation.proofs.Reductions.{stands-proper}
 
 -- What is known once the set that is to be reduced is made.
-pub record Made (g : List ℕ) (backward : Bool) (b : ℕ) (marks sets ws os own found all : List ℕ) : Type 0 where
+pub record Made (rule : JoiningRule) (g : List ℕ) (backward : Bool) (b : ℕ) (marks sets ws os own found all : List ℕ) : Type 0 where
   pub ready : Ready g sets ws os
   pub inside : b < sizeIn g
   pub own-is : membersOf own ≡ rowOf sets b
-  pub found-is : membersOf found ≡ intersectionOf (doneSets (sizeIn g) marks sets (neighbours g backward b))
+  pub found-is : membersOf found ≡ intersectionOf (setsToJoin rule (sizeIn g) marks sets (neighbours g backward b))
   pub all-is : membersOf all ≡ union (membersOf own) (membersOf found)
 
 -- the neighbours that join
-abbrev done : List ℕ → Bool → ℕ → List ℕ → List ℕ
-done g backward b marks = doneNeighbours (marksOf (sizeIn g) marks) (neighbours g backward b)
+abbrev joining : JoiningRule → List ℕ → Bool → ℕ → List ℕ → List ℕ
+joining rule g backward b marks = rule (marksOf (sizeIn g) marks) (neighbours g backward b)
 
-abbrev want : List ℕ → Bool → ℕ → List ℕ → List ℕ → List ℕ → Bool → Work
-want g backward b marks sets ws changed = joinIn g backward b (marksOf (sizeIn g) marks) (workOf (sizeIn g) sets ws changed)
+abbrev want : JoiningRule → List ℕ → Bool → ℕ → List ℕ → List ℕ → List ℕ → Bool → Work
+want rule g backward b marks sets ws changed = joinIn rule g backward b (marksOf (sizeIn g) marks) (workOf (sizeIn g) sets ws changed)
 
-module _ {g : List ℕ} {backward : Bool} {b : ℕ} {marks sets ws os own found all : List ℕ} (made : Made g backward b marks sets ws os own found all) where
+module _ {rule : JoiningRule} {g : List ℕ} {backward : Bool} {b : ℕ} {marks sets ws os own found all : List ℕ} (made : Made rule g backward b marks sets ws os own found all) where
   own-row : membersOf own ≡ setOf (rowsOf sets (sizeIn g)) b
   own-row = made .own-is ∙ sym (row-at sets (sizeIn g) b (made .inside))
 
@@ -54,13 +54,13 @@ module _ {g : List ℕ} {backward : Bool} {b : ℕ} {marks sets ws os own found 
     proper : ProperWork (workOf (sizeIn g) sets ws changed)
     proper = stands-proper (made .ready .stands) changed
 
-    joined-is : membersOf all ≡ joinedSet (done g backward b marks) b (workOf (sizeIn g) sets ws changed)
-    unfolding workOf doneSets
+    joined-is : membersOf all ≡ joinedSet (joining rule g backward b marks) b (workOf (sizeIn g) sets ws changed)
+    unfolding workOf setsToJoin
     joined-is = made .all-is ∙ ap₂ union own-row (made .found-is)
 
     pub join-members : Members (registryOf ws) (membersOf all)
     unfolding workOf
-    join-members = subst (Members (registryOf ws)) (sym joined-is) (members-joined (done g backward b marks) b (workOf (sizeIn g) sets ws changed) proper)
+    join-members = subst (Members (registryOf ws)) (sym joined-is) (members-joined (joining rule g backward b marks) b (workOf (sizeIn g) sets ws changed) proper)
 
     -- the block's own set is reduced where all are
     pub join-known : {later : Bool} → ReducedBefore later (sizeIn g) sets ws → KnownReduced later (registryOf ws) (membersOf own)
@@ -72,12 +72,12 @@ module _ {g : List ℕ} {backward : Bool} {b : ℕ} {marks sets ws os own found 
     abbrev joinedBy : Reduced → Work
     joinedBy r = record { registry = r .registry; sets = set (rowsOf sets (sizeIn g)) b (r .set); changed = changed || not (sameSet (setOf (rowsOf sets (sizeIn g)) b) (r .set)) }
 
-    want-is : want g backward b marks sets ws changed ≡ joinedBy reduced
+    want-is : want rule g backward b marks sets ws changed ≡ joinedBy reduced
     unfolding joinIn join joinWith workOf
     want-is = ap (λ (s : NodeSet). joinedBy (reduceMaybeOptionalChains (registryOf ws) s)) (sym joined-is)
 
     -- where nothing joins a set that is reduced already, the work stays
-    pub join-still : AllReduced (sizeIn g) sets ws → sameSet (membersOf own) (membersOf all) ≡ true → Holds (want g backward b marks sets ws changed) (sizeIn g) changed sets ws os
+    pub join-still : AllReduced (sizeIn g) sets ws → sameSet (membersOf own) (membersOf all) ≡ true → Holds (want rule g backward b marks sets ws changed) (sizeIn g) changed sets ws os
     unfolding workOf
     join-still before none =
         let rows = rowsOf sets (sizeIn g) in
@@ -87,12 +87,12 @@ module _ {g : List ℕ} {backward : Bool} {b : ℕ} {marks sets ws os own found 
           stands = made .ready .stands;
           same =
               want-is ∙ ap joinedBy (reduced-already (registryOf ws) (membersOf all) (made .ready .stands .held .sound) join-members still)
-              ∙ ap (λ (s : NodeSet). joinedBy (unchanged (registryOf ws) s)) same
+              ∙ ap (λ (s : NodeSet). joinedBy (record { registry = registryOf ws; set = s })) same
               ∙ rw (set-getD rows b [], same-self (setOf rows b), or-false changed);
         }
 
     module _ (r : ReducedSet) (vs ps : List ℕ) (to : Reduces reduced r vs ps) where
-      pub join-full : r .full ≡ true → nodeLimit < length (want g backward b marks sets ws changed .registry)
+      pub join-full : r .full ≡ true → nodeLimit < length (want rule g backward b marks sets ws changed .registry)
       join-full e = subst (λ (w : Work). nodeLimit < length (w .registry)) (sym want-is) (reduces-full reduced r vs ps e to)
 
       module _ (room : r .full ≡ false) {ts : List ℕ} (stored : RowSet sets ts b (membersOf (r .set .words)))
@@ -103,28 +103,28 @@ module _ {g : List ℕ} {backward : Bool} {b : ℕ} {marks sets ws os own found 
         flag : changed || not (sameSet (setOf (rowsOf sets (sizeIn g)) b) (membersOf (r .set .words))) ≡ c
         flag = ap (λ (t : Bool). changed || not t) (sym (same-is ∙ ap (λ (s : NodeSet). sameSet s (membersOf (r .set .words))) own-row)) ∙ now
 
-        became : want g backward b marks sets ws changed ≡ workOf (sizeIn g) ts vs c
+        became : want rule g backward b marks sets ws changed ≡ workOf (sizeIn g) ts vs c
         unfolding workOf
         became = want-is ∙ ap joinedBy (held .1) ∙ (λ i. record { registry = registryOf vs; sets = sym (stored .rows (sizeIn g)) i; changed = flag i })
 
-        pub join-holds : Holds (want g backward b marks sets ws changed) (sizeIn g) c ts vs ps
+        pub join-holds : Holds (want rule g backward b marks sets ws changed) (sizeIn g) c ts vs ps
         unfolding joinIn join workOf
         join-holds = record {
           stands = record {
             lent = stored .lent;
             held = held .0;
-            members = subst (λ (w : Work). All (Members (w .registry)) (w .sets)) became (join-proper (done g backward b marks) b (workOf (sizeIn g) sets ws changed) proper .members);
+            members = subst (λ (w : Work). All (Members (w .registry)) (w .sets)) became (join-proper (joining rule g backward b marks) b (workOf (sizeIn g) sets ws changed) proper .members);
           };
           same = became;
         }
 
 -- After its join the block is Done.
-pub leaves : (g : List ℕ) (backward : Bool) (b : ℕ) (marks sets ws : List ℕ) (changed : Bool) (r : Progress) (ts vs ps : List ℕ) → b < sizeIn g → length marks ≡ 128
-    → Joins (joinIn g backward b (marksOf (sizeIn g) marks) (workOf (sizeIn g) sets ws changed)) (sizeIn g) r ts vs ps
-    → Visits (leave (joinIn g backward) b (visitedOf (sizeIn g) marks sets ws changed)) (sizeIn g) r (set marks b 2) ts vs ps
-leaves g backward b marks sets ws changed (Changed c) ts vs ps inside long h = record {
+pub leaves : (rule : JoiningRule) (g : List ℕ) (backward : Bool) (b : ℕ) (marks sets ws : List ℕ) (changed : Bool) (r : Progress) (ts vs ps : List ℕ) → b < sizeIn g → length marks ≡ 128
+    → Joins (joinIn rule g backward b (marksOf (sizeIn g) marks) (workOf (sizeIn g) sets ws changed)) (sizeIn g) r ts vs ps
+    → Visits (leave (joinIn rule g backward) b (visitedOf (sizeIn g) marks sets ws changed)) (sizeIn g) r (set marks b 2) ts vs ps
+leaves rule g backward b marks sets ws changed (Changed c) ts vs ps inside long h = record {
   long = length-set marks b 2 ∙ long;
   stands = h .stands;
   same = λ i. record { marks = sym (mark-set (sizeIn g) marks b inside 2) i; work = h .same i };
 }
-leaves g backward b marks sets ws changed Full ts vs ps inside long h = h
+leaves rule g backward b marks sets ws changed Full ts vs ps inside long h = h

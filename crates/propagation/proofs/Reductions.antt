@@ -6,7 +6,7 @@ use mathlib.Core.List.{List}
 use Rattle.model.specs.Visit.{TraversalState, Visited}
 use Rattle.model.specs.VisitLaws.{visit-makes}
 use Rattle.model.specs.RoundsLaws as laws
-use Rattle.model.specs.Propagation.{Work, doneNeighbours, join}
+use Rattle.model.specs.Propagation.{Work, JoiningRule, join}
 use Rattle.model.specs.PropagationLaws.{ProperWork, join-proper, ReducedAt, join-reduces, join-keeps-reduced}
 use Rattle.graph.specs.Bytes.{sizeIn, neighbours}
 use Rattle.propagation.specs.Joins.{workOf, joinIn, visitIn, Stands, AllReduced}
@@ -25,31 +25,31 @@ pub reduced-rows : (n : ℕ) (sets ws : List ℕ) (c : Bool) (w : Work) → w �
 unfolding workOf
 reduced-rows n sets ws c w e a b l = subst (λ (u : Work). ReducedAt u b) e (a b l)
 
-module _ (g : List ℕ) (backward : Bool) where
-  keeps : (b : ℕ) (ms : List TraversalState) (w : Work) → ProperWork w → ProperWork (joinIn g backward b ms w)
+module _ (rule : JoiningRule) (g : List ℕ) (backward : Bool) where
+  keeps : (b : ℕ) (ms : List TraversalState) (w : Work) → ProperWork w → ProperWork (joinIn rule g backward b ms w)
   unfolding joinIn join
-  keeps b ms w p = join-proper (doneNeighbours ms (neighbours g backward b)) b w p
+  keeps b ms w p = join-proper (rule ms (neighbours g backward b)) b w p
 
-  stays : (b : ℕ) (ms : List TraversalState) (w : Work) → ProperWork w → (a : ℕ) → ReducedAt w a → ReducedAt (joinIn g backward b ms w) a
+  stays : (b : ℕ) (ms : List TraversalState) (w : Work) → ProperWork w → (a : ℕ) → ReducedAt w a → ReducedAt (joinIn rule g backward b ms w) a
   unfolding joinIn join
-  stays b ms w p a h = join-keeps-reduced (doneNeighbours ms (neighbours g backward b)) b w p a h
+  stays b ms w p a h = join-keeps-reduced (rule ms (neighbours g backward b)) b w p a h
 
-  makes : (b : ℕ) (ms : List TraversalState) (w : Work) → ProperWork w → ReducedAt (joinIn g backward b ms w) b
+  makes : (b : ℕ) (ms : List TraversalState) (w : Work) → ProperWork w → ReducedAt (joinIn rule g backward b ms w) b
   unfolding joinIn join
-  makes b ms w p = join-reduces (doneNeighbours ms (neighbours g backward b)) b w p
+  makes b ms w p = join-reduces (rule ms (neighbours g backward b)) b w p
 
-  pub visit-keeps-reduced : (b : ℕ) (v : Visited Work) → ProperWork (v .work) → (a : ℕ) → ReducedAt (v .work) a → ReducedAt (visitIn g backward b v .work) a
+  pub visit-keeps-reduced : (b : ℕ) (v : Visited Work) → ProperWork (v .work) → (a : ℕ) → ReducedAt (v .work) a → ReducedAt (visitIn rule g backward b v .work) a
   unfolding visitIn
-  visit-keeps-reduced b v p = visit-makes ProperWork ReducedAt (neighbours g backward) (joinIn g backward) keeps stays makes b v p .kept
+  visit-keeps-reduced b v p = visit-makes ProperWork ReducedAt (neighbours g backward) (joinIn rule g backward) keeps stays makes b v p .kept
 
-  pub walk-keeps-reduced : (w : Work) → ProperWork w → (b : ℕ) → ReducedAt w b → ReducedAt (walkIn g backward w) b
+  pub walk-keeps-reduced : (w : Work) → ProperWork w → (b : ℕ) → ReducedAt w b → ReducedAt (walkIn rule g backward w) b
   unfolding walkIn
-  walk-keeps-reduced = laws.walk-keeps ProperWork ReducedAt (neighbours g backward) (joinIn g backward) keeps stays makes (sizeIn g) (orderOf backward (sizeIn g))
+  walk-keeps-reduced = laws.walk-keeps ProperWork ReducedAt (neighbours g backward) (joinIn rule g backward) keeps stays makes (sizeIn g) (orderOf backward (sizeIn g))
 
-  pub walk-stays-proper : (w : Work) → ProperWork w → ProperWork (walkIn g backward w)
+  pub walk-stays-proper : (w : Work) → ProperWork w → ProperWork (walkIn rule g backward w)
   unfolding walkIn
-  walk-stays-proper = laws.walk-proper ProperWork ReducedAt (neighbours g backward) (joinIn g backward) keeps stays makes (sizeIn g) (orderOf backward (sizeIn g))
+  walk-stays-proper = laws.walk-proper ProperWork ReducedAt (neighbours g backward) (joinIn rule g backward) keeps stays makes (sizeIn g) (orderOf backward (sizeIn g))
 
-pub walk-reduces : (g : List ℕ) (w : Work) → ProperWork w → (b : ℕ) → b < sizeIn g → ReducedAt (walkIn g false w) b
+pub walk-reduces : (rule : JoiningRule) (g : List ℕ) (w : Work) → ProperWork w → (b : ℕ) → b < sizeIn g → ReducedAt (walkIn rule g false w) b
 unfolding walkIn
-walk-reduces g = laws.walk-makes ProperWork ReducedAt (neighbours g false) (joinIn g false) (keeps g false) (stays g false) (makes g false) (sizeIn g)
+walk-reduces rule g = laws.walk-makes ProperWork ReducedAt (neighbours g false) (joinIn rule g false) (keeps rule g false) (stays rule g false) (makes rule g false) (sizeIn g)

@@ -7,9 +7,10 @@ use lib.ListN.{length, take}
 use Rattle.model.specs.ListLaws.{All}
 use Rattle.model.specs.Sets.{NodeSet, intersection}
 use Rattle.model.specs.Registry.{nodeLimit}
+use Rattle.model.specs.Reduction.{reduceMaybeOptionalChains}
 use Rattle.model.specs.ReductionLaws.{Members, IsReduced}
 use Rattle.model.specs.Visit.{TraversalState, Unmarked, Active, Done, Visited, visit}
-use Rattle.model.specs.Propagation.{Work, setOf, doneNeighbours, intersectionOf, join}
+use Rattle.model.specs.Propagation.{Work, setOf, JoiningRule, intersectionOf, join}
 use Rattle.rows.specs.Members.{membersOf}
 use Rattle.rows.specs.Rows.{Lent, rowsOf}
 use Rattle.registry.specs.Words.{registryOf, Held}
@@ -36,17 +37,17 @@ workOf n sets ws changed = record { registry = registryOf ws; sets = rowsOf sets
 abbrev pub visitedOf : ℕ → List ℕ → List ℕ → List ℕ → Bool → Visited Work
 visitedOf n marks sets ws changed = record { marks = marksOf n marks; work = workOf n sets ws changed }
 
--- the model's join, in the graph that the bytes hold
-unfoldable pub joinIn : List ℕ → Bool → ℕ → List TraversalState → Work → Work
-joinIn g backward b marks w = join doneNeighbours (neighbours g backward) b marks w
+-- the model's join under a rule, in the graph that the bytes hold
+unfoldable pub joinIn : JoiningRule → List ℕ → Bool → ℕ → List TraversalState → Work → Work
+joinIn rule g backward b marks w = join reduceMaybeOptionalChains rule (neighbours g backward) b marks w
 
 -- the model's visit there
-unfoldable pub visitIn : List ℕ → Bool → ℕ → Visited Work → Visited Work
-visitIn g backward b v = visit (neighbours g backward) (joinIn g backward) b v
+unfoldable pub visitIn : JoiningRule → List ℕ → Bool → ℕ → Visited Work → Visited Work
+visitIn rule g backward b v = visit (neighbours g backward) (joinIn rule g backward) b v
 
--- the sets of the Done ones among some blocks
-unfoldable pub doneSets : ℕ → List ℕ → List ℕ → List ℕ → List NodeSet
-doneSets n marks sets bs = map (setOf (rowsOf sets n)) (doneNeighbours (marksOf n marks) bs)
+-- the sets of those among some blocks that join under a rule
+unfoldable pub setsToJoin : JoiningRule → ℕ → List ℕ → List ℕ → List ℕ → List NodeSet
+setsToJoin rule n marks sets bs = map (setOf (rowsOf sets n)) (rule (marksOf n marks) bs)
 
 -- the intersection of a first set, where the flag says that there is one, and of those to come
 abbrev pub intersectionBy : Bool → NodeSet → List NodeSet → NodeSet
@@ -57,10 +58,11 @@ intersectionBy false s ss = intersectionOf ss
 abbrev pub intersectionWith : Intersection → List NodeSet → NodeSet
 intersectionWith x ss = intersectionBy (x .any) (membersOf (x .set .words)) ss
 
--- Block k is taken in, among however many blocks: where it is Done, its set is no more to come.
-abbrev pub Intersects : List ℕ → List ℕ → ℕ → Intersection → Intersection → Type 0
-Intersects marks sets k before after =
-    (n : ℕ) (bs : List ℕ) → k < n → intersectionWith after (doneSets n marks sets bs) ≡ intersectionWith before (doneSets n marks sets (k ∷ bs))
+-- Block k is taken in, among however many blocks: where it joins, its set is no more to come.
+abbrev pub Intersects : JoiningRule → List ℕ → List ℕ → ℕ → Intersection → Intersection → Type 0
+Intersects rule marks sets k before after =
+    (n : ℕ) (bs : List ℕ) → k < n
+    → intersectionWith after (setsToJoin rule n marks sets bs) ≡ intersectionWith before (setsToJoin rule n marks sets (k ∷ bs))
 
 -- What the lent arrays are between two joins: each of n rows is a set of the registry's nodes.
 pub record Stands (n : ℕ) (sets ws os : List ℕ) : Type 0 where

@@ -6,7 +6,7 @@ use mathlib.Core.List.{List}
 use lib.ListN.{length}
 use Rattle.model.specs.Registry.{nodeLimit}
 use Rattle.model.specs.Rounds.{jobOrder, reverseJobOrder, walk, Rounds}
-use Rattle.model.specs.Propagation.{Work}
+use Rattle.model.specs.Propagation.{Work, JoiningRule}
 use Rattle.graph.specs.Bytes.{sizeIn, neighbours}
 use Rattle.propagation.specs.Joins.{workOf, joinIn, Stands}
 use Rattle.propagation.specs.declared.Run.{Run}
@@ -24,8 +24,8 @@ inOrder false n i = i
 inOrder true n i = n - 1 - i
 
 -- the model's walk, in the graph that the bytes hold
-unfoldable pub walkIn : List ℕ → Bool → Work → Work
-walkIn g backward w = walk (sizeIn g) (neighbours g backward) (joinIn g backward) (orderOf backward (sizeIn g)) w
+unfoldable pub walkIn : JoiningRule → List ℕ → Bool → Work → Work
+walkIn rule g backward w = walk (sizeIn g) (neighbours g backward) (joinIn rule g backward) (orderOf backward (sizeIn g)) w
 
 -- "The number of rounds run and whether the last one changed nothing", with the work that the arrays hold: a set has changed in the last round unless
 -- it settled

@@ -5,13 +5,14 @@ ghost use mathlib.Core.Bool.{true, false};
 ghost use mathlib.Core.List.{[]};
 ghost use Prim.Native.Nat.{_<_};
 ghost use lib.ListN.{length, getD};
+ghost use Rattle.model.specs.Reduction.{reduceMaybeOptionalChains};
 ghost use Rattle.model.specs.Visit.{leave};
 ghost use Rattle.model.specs.Propagation.{doneNeighbours, intersectionOf, round, propagateNonNull};
 ghost use Rattle.rows.specs.Members.{membersOf};
 ghost use Rattle.rows.specs.Rows.{rowsOf};
 ghost use Rattle.registry.specs.Words.{registryOf};
 ghost use Rattle.graph.specs.Bytes.{sizeIn, neighbours, GraphFits, graphIn};
-ghost use Rattle.propagation.specs.Joins.{marksOf, workOf, visitedOf, joinIn, visitIn, doneSets, intersectionWith, Intersects, Ready, ReducedBefore, Joins, Visits};
+ghost use Rattle.propagation.specs.Joins.{marksOf, workOf, visitedOf, joinIn, visitIn, setsToJoin, intersectionWith, Intersects, Ready, ReducedBefore, Joins, Visits};
 ghost use Rattle.propagation.specs.Propagates.{inOrder, walkIn, Propagates};
 use graph::Neighbour;
 use rows::NodeBits;
@@ -22,7 +23,7 @@ struct Intersection {
     set: NodeBits,
 }
 
-// Whether a set has changed since the round's start; or the registry has no room.
+// Whether a join of this round changed its set; or the registry has no room.
 enum Progress {
     Changed(bool),
     Full,
@@ -70,7 +71,7 @@ fn with_neighbour(
     before: Intersection,
 ) -> Intersection
     requires { ⌜ k < 128 ⌝ }
-    ensures { λ r. ⌜ Intersects (now (marks .entry)) (now (sets .entry)) k before r ⌝ }
+    ensures { λ r. ⌜ Intersects doneNeighbours (now (marks .entry)) (now (sets .entry)) k before r ⌝ }
 {
     if marks[k] < 2 {
         return before;
@@ -96,7 +97,7 @@ fn intersection_of_done(
     sets: &[u64; 1024],
 ) -> NodeBits
     requires { ⌜ GraphFits (now graph) × (b < sizeIn (now graph)) ⌝ }
-    ensures { λ r. ⌜ membersOf (r .words) ≡ intersectionOf (doneSets (sizeIn (now (graph .entry))) (now (marks .entry)) (now (sets .entry)) (neighbours (now (graph .entry)) backward b)) ⌝ }
+    ensures { λ r. ⌜ membersOf (r .words) ≡ intersectionOf (setsToJoin doneNeighbours (sizeIn (now (graph .entry))) (now (marks .entry)) (now (sets .entry)) (neighbours (now (graph .entry)) backward b)) ⌝ }
 {
     let mut found = Intersection::of_none();
     let mut from = 0;
@@ -124,7 +125,7 @@ fn join(
 ) -> Progress
     requires { ⌜ Ready (now graph) (now sets) (now ws) (now optional) × ReducedBefore later (sizeIn (now graph)) (now sets) (now ws) × (b < sizeIn (now graph)) ⌝ }
     ensures { λ r. ⌜ (let n = sizeIn (now (graph .entry)) in
-        Joins (joinIn (now (graph .entry)) backward b (marksOf n (now (marks .entry))) (workOf n (now (sets .entry)) (now (ws .entry)) changed))
+        Joins (joinIn doneNeighbours (now (graph .entry)) backward b (marksOf n (now (marks .entry))) (workOf n (now (sets .entry)) (now (ws .entry)) changed))
         n r (now (sets .exit)) (now (ws .exit)) (now (optional .exit))) ⌝ }
 {
     let own = rows::row(sets, b);
@@ -157,7 +158,7 @@ fn leave(
 ) -> Progress
     requires { ⌜ Ready (now graph) (now sets) (now ws) (now optional) × ReducedBefore later (sizeIn (now graph)) (now sets) (now ws) × (b < sizeIn (now graph)) × (length (now marks) ≡ 128) ⌝ }
     ensures { λ r. ⌜ (let n = sizeIn (now (graph .entry)) in
-        Visits (leave (joinIn (now (graph .entry)) backward) b (visitedOf n (now (marks .entry)) (now (sets .entry)) (now (ws .entry)) changed))
+        Visits (leave (joinIn doneNeighbours (now (graph .entry)) backward) b (visitedOf n (now (marks .entry)) (now (sets .entry)) (now (ws .entry)) changed))
         n r (now (marks .exit)) (now (sets .exit)) (now (ws .exit)) (now (optional .exit))) ⌝ }
 {
     let joined = join(
@@ -190,7 +191,7 @@ fn visit(
 ) -> Progress
     requires { ⌜ Ready (now graph) (now sets) (now ws) (now optional) × ReducedBefore later (sizeIn (now graph)) (now sets) (now ws) × (b < sizeIn (now graph)) × (length (now marks) ≡ 128) × (getD (now marks) b 0 ≡ 0) ⌝ }
     ensures { λ r. ⌜ (let n = sizeIn (now (graph .entry)) in
-        Visits (visitIn (now (graph .entry)) backward b (visitedOf n (now (marks .entry)) (now (sets .entry)) (now (ws .entry)) changed))
+        Visits (visitIn doneNeighbours (now (graph .entry)) backward b (visitedOf n (now (marks .entry)) (now (sets .entry)) (now (ws .entry)) changed))
         n r (now (marks .exit)) (now (sets .exit)) (now (ws .exit)) (now (optional .exit))) ⌝ }
 {
     marks[b] = 1;
@@ -242,7 +243,7 @@ fn walk(
 ) -> Progress
     requires { ⌜ Ready (now graph) (now sets) (now ws) (now optional) × ReducedBefore later (sizeIn (now graph)) (now sets) (now ws) ⌝ }
     ensures { λ r. ⌜ (let n = sizeIn (now (graph .entry)) in
-        Joins (walkIn (now (graph .entry)) backward (workOf n (now (sets .entry)) (now (ws .entry)) changed))
+        Joins (walkIn doneNeighbours (now (graph .entry)) backward (workOf n (now (sets .entry)) (now (ws .entry)) changed))
         n r (now (sets .exit)) (now (ws .exit)) (now (optional .exit))) ⌝ }
 {
     let n = graph::size(graph);
@@ -284,7 +285,7 @@ fn round(
 ) -> Progress
     requires { ⌜ Ready (now graph) (now sets) (now ws) (now optional) × ReducedBefore later (sizeIn (now graph)) (now sets) (now ws) ⌝ }
     ensures { λ r. ⌜ (let n = sizeIn (now (graph .entry)) in
-        Joins (round doneNeighbours (graphIn (now (graph .entry))) (workOf n (now (sets .entry)) (now (ws .entry)) true))
+        Joins (round reduceMaybeOptionalChains doneNeighbours (graphIn (now (graph .entry))) (workOf n (now (sets .entry)) (now (ws .entry)) true))
         n r (now (sets .exit)) (now (ws .exit)) (now (optional .exit))) ⌝ }
 {
     let Progress::Changed(c) = walk(graph, false, marks, sets, ws, optional, later, false) else {

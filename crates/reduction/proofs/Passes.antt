@@ -18,14 +18,14 @@ use Rattle.model.specs.Tests.{eqb-same, eqb-apart}
 use Rattle.model.specs.Sets.{NodeSet, sameNode, contains, insert, remove, intersection}
 use Rattle.model.specs.Registry.{nodeLimit, PropertyPathRegistry, Reached, fullPathOf, walkPath}
 use Rattle.model.specs.RegistryLaws.{Sound, Proper, Extends, extends-length, path-proper}
-use Rattle.model.specs.Reduction.{Reduced, reducedMark, reduceNode, reduceNodes, hasOptional, pass}
+use Rattle.model.specs.Reduction.{PassState, reducedMark, reduceNode, reduceNodes, hasOptional, pass}
 use Rattle.model.specs.ReductionLaws.{Members, LeadsBack, node-still, node-extends, nodes-extend}
-use Rattle.reduction.specs.declared.ReducedSet.{ReducedSet}
-use Rattle.reduction.specs.Reduces.{reducedOf, ReducesBy, Reduces}
+use Rattle.reduction.specs.declared.PassSet.{PassSet}
+use Rattle.reduction.specs.Reduces.{passOf, PassesBy, Passes}
 
 -- One node.
 
-module _ (ws : List ℕ) (r : ReducedSet) (k : NodeId) where
+module _ (ws : List ℕ) (r : PassSet) (k : NodeId) where
   abbrev reg : PropertyPathRegistry
   reg = registryOf ws
 
@@ -35,10 +35,10 @@ module _ (ws : List ℕ) (r : ReducedSet) (k : NodeId) where
   abbrev at : Reached
   at = walkPath (reducedMark s) reg (fullPathOf reg k)
 
-  abbrev wanted : Reduced
-  wanted = reduceNode (reducedOf reg r) k
+  abbrev wanted : PassState
+  wanted = reduceNode (passOf reg r) k
 
-  abbrev from : Reached → Reduced
+  abbrev from : Reached → PassState
   from a = record { registry = a .registry; set = cond (sameNode (a .node) k) s (insert (a .node) (remove k s)); changed = r .changed || not (sameNode (a .node) k) }
 
   is-from : wanted ≡ from at
@@ -46,7 +46,7 @@ module _ (ws : List ℕ) (r : ReducedSet) (k : NodeId) where
   is-from = refl
 
   pub node-full : nodeLimit < length (at .registry) → nodeLimit < length (wanted .registry)
-  node-full full = let same = ap (λ (x : Reduced). length (x .registry)) is-from in omega arith
+  node-full full = let same = ap (λ (x : PassState). length (x .registry)) is-from in omega arith
 
   module _ (vs : List ℕ) (q : NodeId) (walked : at ≡ record { registry = registryOf vs; node = q }) where
     pub node-inside : Sound reg → countIn vs ≤ 512 → q .0 < 512
@@ -64,19 +64,19 @@ module _ (ws : List ℕ) (r : ReducedSet) (k : NodeId) where
 
 -- An answer by its case.
 
-pub reduces-to : (want : Reduced) (r : ReducedSet) (ws os : List ℕ) → r .full ≡ false → Reduces want r ws os → Held ws os × (want ≡ reducedOf (registryOf ws) r)
-reduces-to want r ws os e a = subst (λ b. ReducesBy b want r ws os) e a
+pub passes-to : (want : PassState) (r : PassSet) (ws os : List ℕ) → r .full ≡ false → Passes want r ws os → Held ws os × (want ≡ passOf (registryOf ws) r)
+passes-to want r ws os e a = subst (λ b. PassesBy b want r ws os) e a
 
-pub reduces-full : (want : Reduced) (r : ReducedSet) (ws os : List ℕ) → r .full ≡ true → Reduces want r ws os → nodeLimit < length (want .registry)
-reduces-full want r ws os e a = subst (λ b. ReducesBy b want r ws os) e a
+pub passes-full : (want : PassState) (r : PassSet) (ws os : List ℕ) → r .full ≡ true → Passes want r ws os → nodeLimit < length (want .registry)
+passes-full want r ws os e a = subst (λ b. PassesBy b want r ws os) e a
 
 -- The nodes that are left of a pass.
 
-pub record Along (end : Reduced) (snapshot ws os : List ℕ) (r : ReducedSet) (from : ℕ) : Type 0 where
+pub record Along (end : PassState) (snapshot ws os : List ℕ) (r : PassSet) (from : ℕ) : Type 0 where
   pub held : Held ws os
   pub room : r .full ≡ false
   pub inside : All (λ k. k .0 < countIn ws) (membersFrom snapshot from)
-  pub left : reduceNodes (reducedOf (registryOf ws) r) (membersFrom snapshot from) ≡ end
+  pub left : reduceNodes (passOf (registryOf ws) r) (membersFrom snapshot from) ≡ end
 
 all-noted : (ws os : List ℕ) → Held ws os → (t : NodeSet) → All (λ k. contains (membersOf os) k ≡ hasOptional (registryOf ws) k) t
 all-noted ws os h [] = tt
@@ -96,21 +96,19 @@ module _ (ws os snapshot : List ℕ) (set : NodeBits) (held : Held ws os) (membe
     left = ap (reduceNodes (record { registry = registryOf ws; set = membersOf (set .words); changed = false })) marked;
   }
 
-module _ {end : Reduced} {snapshot ws os : List ℕ} {r : ReducedSet} {from : ℕ} (a : Along end snapshot ws os r from) where
-  pub along-end : membersFrom snapshot from ≡ [] → Reduces end r ws os
-  unfolding reduceNodes
-  along-end none = subst (λ b. ReducesBy b end r ws os) (sym (a .room)) (a .held, sym (a .left) ∙ ap (reduceNodes (reducedOf (registryOf ws) r)) none)
+module _ {end : PassState} {snapshot ws os : List ℕ} {r : PassSet} {from : ℕ} (a : Along end snapshot ws os r from) where
+  pub along-end : membersFrom snapshot from ≡ [] → Passes end r ws os
+  along-end none = subst (λ b. PassesBy b end r ws os) (sym (a .room)) (a .held, sym (a .left) ∙ ap (reduceNodes (passOf (registryOf ws) r)) none)
 
   module _ (k : NodeId) (next : firstOf (membersFrom snapshot from) ≡ At k) where
     ahead : Ahead snapshot from k
     ahead = next-at snapshot from k next
 
-    abbrev one : Reduced
-    one = reduceNode (reducedOf (registryOf ws) r) k
+    abbrev one : PassState
+    one = reduceNode (passOf (registryOf ws) r) k
 
     onward : reduceNodes one (membersFrom snapshot (k .0 + 1)) ≡ end
-    unfolding reduceNodes
-    onward = sym (ap (reduceNodes (reducedOf (registryOf ws) r)) (ahead .rest)) ∙ a .left
+    onward = sym (ap (reduceNodes (passOf (registryOf ws) r)) (ahead .rest)) ∙ a .left
 
     all : (k .0 < countIn ws) × All (λ j. j .0 < countIn ws) (membersFrom snapshot (k .0 + 1))
     all = subst (All (λ j. j .0 < countIn ws)) (ahead .rest) (a .inside)
@@ -127,25 +125,25 @@ module _ {end : Reduced} {snapshot ws os : List ℕ} {r : ReducedSet} {from : �
       held = a .held;
       room = a .room;
       inside = all .1;
-      left = ap (λ (x : Reduced). reduceNodes x (membersFrom snapshot (k .0 + 1))) (sym (node-still (reducedOf (registryOf ws) r) k back)) ∙ onward;
+      left = ap (λ (x : PassState). reduceNodes x (membersFrom snapshot (k .0 + 1))) (sym (node-still (passOf (registryOf ws) r) k back)) ∙ onward;
     }
 
-    pub along-full : (q : ReducedSet) (vs ps : List ℕ) → q .full ≡ true → Reduces one q vs ps → Reduces end q vs ps
+    pub along-full : (q : PassSet) (vs ps : List ℕ) → q .full ≡ true → Passes one q vs ps → Passes end q vs ps
     along-full q vs ps e full =
-        let past = reduces-full one q vs ps e full in
+        let past = passes-full one q vs ps e full in
         let longer = extends-length (nodes-extend one (membersFrom snapshot (k .0 + 1))) in
-        let same = ap (λ (x : Reduced). length (x .registry)) onward in
-        subst (λ b. ReducesBy b end q vs ps) (sym e) (omega arith)
+        let same = ap (λ (x : PassState). length (x .registry)) onward in
+        subst (λ b. PassesBy b end q vs ps) (sym e) (omega arith)
 
-    pub along-more : (q : ReducedSet) (vs ps : List ℕ) → q .full ≡ false → Reduces one q vs ps → Along end snapshot vs ps q (k .0 + 1)
+    pub along-more : (q : PassSet) (vs ps : List ℕ) → q .full ≡ false → Passes one q vs ps → Along end snapshot vs ps q (k .0 + 1)
     along-more q vs ps e went =
-        let to = reduces-to one q vs ps e went in
-        let longer = extends-length (subst (λ (x : Reduced). Extends (registryOf ws) (x .registry)) (to .1) (node-extends (reducedOf (registryOf ws) r) k)) in
+        let to = passes-to one q vs ps e went in
+        let longer = extends-length (subst (λ (x : PassState). Extends (registryOf ws) (x .registry)) (to .1) (node-extends (passOf (registryOf ws) r) k)) in
         let before = registry-length ws in
         let after = registry-length vs in
         record {
           held = to .0;
           room = e;
           inside = all-map (λ j. j .0 < countIn ws) (λ j. j .0 < countIn vs) (λ j l. omega arith) (membersFrom snapshot (k .0 + 1)) (all .1);
-          left = ap (λ (x : Reduced). reduceNodes x (membersFrom snapshot (k .0 + 1))) (sym (to .1)) ∙ onward;
+          left = ap (λ (x : PassState). reduceNodes x (membersFrom snapshot (k .0 + 1))) (sym (to .1)) ∙ onward;
         }

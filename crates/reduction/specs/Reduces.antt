@@ -10,8 +10,9 @@ use Rattle.rows.specs.Members.{membersOf}
 use Rattle.registry.specs.Words.{registryOf, Held}
 use Rattle.model.specs.Registry.{nodeLimit, PropertyPathRegistry, find, isChildBy, fullPathOf, walkPath}
 use Rattle.model.specs.Sets.{NodeSet, sameNode}
-use Rattle.model.specs.Reduction.{Reduced, reducedMark}
+use Rattle.model.specs.Reduction.{PassState, Reduced, reducedMark}
 use Rattle.model.specs.ReductionLaws.{Members, IsReduced}
+use Rattle.reduction.specs.declared.PassSet.{PassSet}
 use Rattle.reduction.specs.declared.ReducedSet.{ReducedSet}
 
 -- node k is the child of p by the entry e
@@ -27,11 +28,24 @@ leadsBack reg s k = sameNode (walkPath (reducedMark s) reg (fullPathOf reg k) .n
 abbrev pub KnownReduced : Bool → PropertyPathRegistry → NodeSet → Type 0
 KnownReduced known reg s = known ≡ true → Members reg s × IsReduced reg s
 
--- the model's value of a registry and a set as the code holds it
-abbrev pub reducedOf : PropertyPathRegistry → ReducedSet → Reduced
-reducedOf reg r = record { registry = reg; set = membersOf (r .set .words); changed = r .changed }
+-- the model's value of a registry and a set as a pass holds it
+abbrev pub passOf : PropertyPathRegistry → PassSet → PassState
+passOf reg r = record { registry = reg; set = membersOf (r .set .words); changed = r .changed }
 
--- The words hold what was to be reached, or that has no room.
+-- the model's value of a registry and a reduced set
+abbrev pub reducedOf : PropertyPathRegistry → ReducedSet → Reduced
+reducedOf reg r = record { registry = reg; set = membersOf (r .set .words) }
+
+-- The words hold what a pass was to reach, or that has no room.
+abbrev pub PassesBy : Bool → PassState → PassSet → List ℕ → List ℕ → Type 0
+PassesBy true want r ws os = nodeLimit < length (want .registry)
+PassesBy false want r ws os = Held ws os × (want ≡ passOf (registryOf ws) r)
+
+-- The same, by whether the code says that there was no room.
+abbrev pub Passes : PassState → PassSet → List ℕ → List ℕ → Type 0
+Passes want r ws os = PassesBy (r .full) want r ws os
+
+-- The words hold what a reduction was to reach, or that has no room.
 abbrev pub ReducesBy : Bool → Reduced → ReducedSet → List ℕ → List ℕ → Type 0
 ReducesBy true want r ws os = nodeLimit < length (want .registry)
 ReducesBy false want r ws os = Held ws os × (want ≡ reducedOf (registryOf ws) r)

@@ -8,7 +8,7 @@ ghost use Rattle.model.specs.Registry.{fullPathOf, walkPath};
 ghost use Rattle.model.specs.RegistryLaws.{stepFrom};
 ghost use Rattle.model.specs.Reduction.{reducedMark, reduceNode, pass, reduceMaybeOptionalChains};
 ghost use Rattle.model.specs.ReductionLaws.{Members};
-ghost use Rattle.reduction.specs.Reduces.{ChildAt, leadsBack, KnownReduced, reducedOf, Reduces};
+ghost use Rattle.reduction.specs.Reduces.{ChildAt, leadsBack, KnownReduced, passOf, Passes, Reduces};
 use entries::DependencyPathEntry;
 use entries::NodeId;
 use registry::Entered;
@@ -18,10 +18,16 @@ use registry::load;
 use rows::Next;
 use rows::NodeBits;
 
-// A set as it stands, whether its pass has changed it so far, and whether the registry had no room on the way.
+// A set as a pass has it so far, whether the pass has changed it, and whether the registry had no room on the way.
+struct PassSet {
+    set: NodeBits,
+    changed: bool,
+    full: bool,
+}
+
+// A reduced set, and whether the registry had no room on the way.
 pub struct ReducedSet {
     pub set: NodeBits,
-    pub changed: bool,
     pub full: bool,
 }
 
@@ -116,30 +122,30 @@ fn leads_back(ws: &[u64; 1665], set: NodeBits, k: NodeId) -> bool
 fn reduce_node(
     ws: &mut [u64; 1665],
     optional: &mut [u64; 8],
-    r: ReducedSet,
+    r: PassSet,
     k: NodeId,
-) -> ReducedSet
+) -> PassSet
     requires { ⌜ Held (now ws) (now optional) × (k .0 < countIn (now ws)) ⌝ }
-    ensures { λ s. ⌜ Reduces (reduceNode (reducedOf (registryOf (now (ws .entry))) r) k) s (now (ws .exit)) (now (optional .exit)) ⌝ }
+    ensures { λ s. ⌜ Passes (reduceNode (passOf (registryOf (now (ws .entry))) r) k) s (now (ws .exit)) (now (optional .exit)) ⌝ }
 {
     let set = r.set;
     let changed = r.changed;
     let Entered::At(q) = walk_again(ws, optional, set, k) else {
-        return ReducedSet {
+        return PassSet {
             set,
             changed,
             full: true,
         };
     };
     if q.0 == k.0 {
-        ReducedSet {
+        PassSet {
             set,
             changed,
             full: false,
         }
     } else {
         let without = set.remove(k);
-        ReducedSet {
+        PassSet {
             set: without.insert(q),
             changed: true,
             full: false,
@@ -149,13 +155,13 @@ fn reduce_node(
 
 // The set's nodes with an optional entry, ascending, as they are at the start. One whose path leads back to it is passed over, since
 // walking it again would change nothing and make nothing.
-fn pass(ws: &mut [u64; 1665], optional: &mut [u64; 8], set: NodeBits) -> ReducedSet
+fn pass(ws: &mut [u64; 1665], optional: &mut [u64; 8], set: NodeBits) -> PassSet
     requires { ⌜ Held (now ws) (now optional) × Members (registryOf (now ws)) (membersOf (set .words)) ⌝ }
-    ensures { λ r. ⌜ Reduces (pass (registryOf (now (ws .entry))) (membersOf (set .words))) r (now (ws .exit)) (now (optional .exit)) ⌝ }
+    ensures { λ r. ⌜ Passes (pass (registryOf (now (ws .entry))) (membersOf (set .words))) r (now (ws .exit)) (now (optional .exit)) ⌝ }
 {
     let with_optional = NodeBits { words: *optional };
     let snapshot = set.intersection(with_optional);
-    let mut r = ReducedSet {
+    let mut r = PassSet {
         set,
         changed: false,
         full: false,
@@ -190,7 +196,7 @@ pub fn reduce_maybe_optional_chains(
     requires { ⌜ Held (now ws) (now optional) × Members (registryOf (now ws)) (membersOf (set .words)) × KnownReduced known (registryOf (now ws)) (membersOf (before .words)) ⌝ }
     ensures { λ r. ⌜ Reduces (reduceMaybeOptionalChains (registryOf (now (ws .entry))) (membersOf (set .words))) r (now (ws .exit)) (now (optional .exit)) ⌝ }
 {
-    let mut r = ReducedSet {
+    let mut r = PassSet {
         set,
         changed: true,
         full: false,
@@ -198,15 +204,21 @@ pub fn reduce_maybe_optional_chains(
     while r.changed {
         r = pass(ws, optional, r.set);
         if r.full {
-            return r;
+            return ReducedSet {
+                set: before,
+                full: true,
+            };
         }
         if known && before.same_set(r.set) {
             return ReducedSet {
                 set: before,
-                changed: false,
                 full: false,
             };
         }
     }
-    r
+    let last = r.set;
+    ReducedSet {
+        set: last,
+        full: false,
+    }
 }

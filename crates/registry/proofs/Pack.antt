@@ -11,7 +11,7 @@ use Rattle.entries.specs.declared.PropertyLiteral.the-variants.{String, Number}
 use Rattle.entries.specs.declared.DependencyPathEntry.{DependencyPathEntry}
 use Rattle.model.specs.Tests.{eqb-apart}
 use Rattle.model.specs.Registry.{rootMark}
-use Rattle.entries.specs.Property.{propertyOf, isNumber, valueOf}
+use Rattle.entries.specs.Property.{propertyOf, isNumber, valueOf, property-back}
 use Rattle.model.specs.Answer.{flag}
 use Rattle.registry.specs.declared.Node.{Node}
 use Rattle.registry.specs.declared.Node.the-variants.{Root, Child}
@@ -20,10 +20,6 @@ use Rattle.registry.specs.Words.{ParentFits, parentUnit, linkUnit, unpac
 flag-back : (b : Bool) → eqb (flag b) 1 ≡ b
 flag-back true = refl
 flag-back false = refl
-
-property-back : (p : PropertyLiteral) → propertyOf (isNumber p) (valueOf p) ≡ p
-property-back (String v) = refl
-property-back (Number v) = refl
 
 -- The fields of a word: 32 bits, 16 bits, and flags.
 module _ (i p o k r : ℕ) (i< : i < 4294967296) (p< : p < 65536) (o< : o < 2) (k< : k < 2) (r< : r < 2) where

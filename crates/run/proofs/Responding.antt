@@ -22,10 +22,12 @@ use Rattle.stage.proofs.Performing.{answer-verdict, sheet-verdict}
 use Rattle.run.specs.Programs.{programOf, Responds}
 
 -- The verdict looks at no more of the buffer than its length.
-by-length : (rule : JoiningRule) (bytes : ℕ → Job → Rounds Work → List ℕ) (s out other : List ℕ) → length out ≡ length other → verdict rule bytes s out ≡ verdict rule bytes s other
+by-length : (head spanBytes : ℕ) (rule : JoiningRule) (bytes : ℕ → Job → Rounds Work → List ℕ) (s out other : List ℕ) → length out ≡ length other
+    → verdict head spanBytes rule bytes s out ≡ verdict head spanBytes rule bytes s other
 unfolding verdict
-by-length rule bytes s out other e =
-    ap (λ (n : ℕ). cond (ltb n leastBuffer) (turnsBack ShortBuffer) (cond (ltb longestJob (length s)) (turnsBack LongJob) (onJob rule (bytes spanWidth) (readJob HD spanWidth s)))) e
+by-length head spanBytes rule bytes s out other e =
+    ap (λ (n : ℕ). cond (ltb n leastBuffer) (turnsBack ShortBuffer)
+    (cond (ltb longestJob (length s)) (turnsBack LongJob) (onJob rule (bytes spanBytes) (readJob head spanBytes s)))) e
 
 abbrev zeros : List ℕ
 zeros = replicate leastBuffer 0
@@ -35,14 +37,14 @@ as-zeros out e = e ∙ sym (length-replicate {A = ℕ} leastBuffer 0)
 
 answer-output : (s out : List ℕ) → length out ≡ leastBuffer → programOutput (answerOf s out) ≡ answerProgram s
 unfolding answerProgram answerOf
-answer-output s out e = ap programOutput (by-length doneNeighbours answerBytes s out zeros (as-zeros out e))
+answer-output s out e = ap programOutput (by-length HD spanWidth doneNeighbours answerBytes s out zeros (as-zeros out e))
 
 sheet-output : (s out : List ℕ) → length out ≡ leastBuffer → programOutput (sheetOf s out) ≡ sheetProgram s
 unfolding sheetProgram sheetOf
-sheet-output s out e = ap programOutput (by-length doneNeighbours sheetBytes s out zeros (as-zeros out e))
+sheet-output s out e = ap programOutput (by-length HD spanWidth doneNeighbours sheetBytes s out zeros (as-zeros out e))
 
 -- A buffer of the program's length gives the program's output.
-output : (op : Operation) (s out : List ℕ) → length out ≡ leastBuffer → programOutput (verdictOf op s out) ≡ programOf op s
+output : (op : Operation) (s out : List ℕ) → length out ≡ leastBuffer → programOutput (verdictOf doneNeighbours op s out) ≡ programOf op s
 output operation.Answer s out e = ap programOutput (answer-verdict s out) ∙ answer-output s out e
 output operation.Sheet s out e = ap programOutput (sheet-verdict s out) ∙ sheet-output s out e
 
@@ -58,7 +60,7 @@ stands (turnsBack r) before after e = (refl, e)
 meets-stands : {v : Verdict} {o told : Outcome} {before after : List ℕ} → Meets v o before after → o ≡ told → Stands v before after told
 meets-stands {v} {o} {told} {before} {after} m e = subst (Stands v before after) (sym (m .outcome) ∙ e) (stands v before after (m .buffer))
 
-module _ (op : Operation) (s before after : List ℕ) {o : Outcome} (size : length before ≡ leastBuffer) (m : Meets (verdictOf op s before) o before after) where
+module _ (op : Operation) (s before after : List ℕ) {o : Outcome} (size : length before ≡ leastBuffer) (m : Meets (verdictOf doneNeighbours op s before) o before after) where
   -- The operation's bytes are the output.
   pub written : {n : ℕ} → o ≡ Written n → Responds op s before after n
   written {n} e =
@@ -90,7 +92,7 @@ pub third : (xs : List ℕ) (a b : ℕ) → length xs ≡ leastBuffer → 2 < le
 third xs a b e = let l = length-set (set xs 0 a) 1 b ∙ length-set xs 0 a in omega arith
 
 -- RF and the number are the output.
-pub refused : (op : Operation) (s before after : List ℕ) {o : Outcome} {r : Refusal} {k : ℕ} → length before ≡ leastBuffer → Meets (verdictOf op s before) o before after → o ≡ Refused r → k ≡ refusalNumber r
+pub refused : (op : Operation) (s before after : List ℕ) {o : Outcome} {r : Refusal} {k : ℕ} → length before ≡ leastBuffer → Meets (verdictOf doneNeighbours op s before) o before after → o ≡ Refused r → k ≡ refusalNumber r
     → Responds op s before (put after k) 3
 refused op s before after {o} {r} {k} size m e n =
     let l = room op s before after size m e in

@@ -7,11 +7,11 @@ use mathlib.Core.List.{List, _++_}
 use lib.ListN.{length, take, drop, replicate}
 use lib.Seq.{length-take-le, take-all}
 use lib.Dec.{ltb}
-use Rattle.model.specs.Tests.{decide, ltb-true, ltb-false}
+use Rattle.model.specs.Tests.{decide, ltb-true, ltb-false, ltb-less}
 use Rattle.model.specs.Rounds.{Rounds}
 use Rattle.model.specs.Propagation.{Work, JoiningRule, doneNeighbours}
-use Rattle.model.specs.Job.{Job}
-use Rattle.model.specs.Answer.{leastBuffer, longestJob, verdict, answerBytes, answerOf, answerProgram, sheetBytes, sheetOf, sheetProgram, programOutput}
+use Rattle.model.specs.Job.{Job, HD}
+use Rattle.model.specs.Answer.{leastBuffer, longestJob, spanWidth, verdict, answerBytes, answerOf, answerProgram, sheetBytes, sheetOf, sheetProgram, programOutput}
 use Rattle.stage.specs.declared.Operation.{Operation}
 use Rattle.stage.specs.declared.Operation.the-variants as operation
 
@@ -29,22 +29,20 @@ pub record Responds (op : Operation) (job before after : List ℕ) (n : ℕ) : T
 abbrev pub bytesRead : ℕ
 bytesRead = 65536
 
-is-less : (a b : ℕ) → a < b → ltb a b ≡ true
-is-less a b h = decide (ltb a b) (λ e. e) (λ e. let l = ltb-false a b e in absurd (omega arith))
-
 -- A longer job is refused as too long, and so are its first bytes.
-first-bytes-verdict : (rule : JoiningRule) (bytes : ℕ → Job → Rounds Work → List ℕ) (s out : List ℕ) → verdict rule bytes (take bytesRead s) out ≡ verdict rule bytes s out
+first-bytes-verdict : (head spanBytes : ℕ) (rule : JoiningRule) (bytes : ℕ → Job → Rounds Work → List ℕ) (s out : List ℕ)
+    → verdict head spanBytes rule bytes (take bytesRead s) out ≡ verdict head spanBytes rule bytes s out
 unfolding verdict
-first-bytes-verdict rule bytes s out =
+first-bytes-verdict head spanBytes rule bytes s out =
     decide (ltb bytesRead (length s))
     (λ e.
     let more = ltb-true bytesRead (length s) e in
     let size = length-take-le bytesRead s (omega arith) in
-    rw (is-less longestJob (length (take bytesRead s)) (omega arith), is-less longestJob (length s) (omega arith)))
+    rw (ltb-less longestJob (length (take bytesRead s)) (omega arith), ltb-less longestJob (length s) (omega arith)))
     (λ e. rw (take-all bytesRead s (ltb-false bytesRead (length s) e)))
 
 -- So what a program writes of a job's first bytes, it writes of the job.
 pub first-bytes : (op : Operation) (s : List ℕ) → programOf op (take bytesRead s) ≡ programOf op s
 unfolding answerProgram answerOf sheetProgram sheetOf
-first-bytes operation.Answer s = ap programOutput (first-bytes-verdict doneNeighbours answerBytes s (replicate leastBuffer 0))
-first-bytes operation.Sheet s = ap programOutput (first-bytes-verdict doneNeighbours sheetBytes s (replicate leastBuffer 0))
+first-bytes operation.Answer s = ap programOutput (first-bytes-verdict HD spanWidth doneNeighbours answerBytes s (replicate leastBuffer 0))
+first-bytes operation.Sheet s = ap programOutput (first-bytes-verdict HD spanWidth doneNeighbours sheetBytes s (replicate leastBuffer 0))

@@ -20,11 +20,12 @@ use Rattle.model.specs.Propagation.{doneNeighbours}
 use Rattle.model.specs.Job.{Block, Job, HD, readJob}
 use Rattle.model.specs.Stage.{propagated, hoistablePaths, returnedPaths}
 use Rattle.model.specs.Answer.{writes, spanWidth, answerOf, Answered, readAnswer}
-use Rattle.safety.specs.Lists.{Some, Member, none-any}
+use Rattle.laws.specs.Membership.{Some, Member, none-any}
 use Rattle.safety.specs.Runs.{ControlSequence, WithoutLoops, NoPredecessor, NoSuccessor, FirstHas, LastHas, Run, AssumedHold}
 use Rattle.safety.specs.Statement.{Exact, Demand3}
-use Rattle.safety.specs.CountLaws.{count-agree}
-use Rattle.safety.specs.Notation.{path5, path5-10, block, jobOf, jobBytes, buffer, all-bytes, not-named}
+use Rattle.laws.specs.CountLaws.{count-agree}
+use Rattle.model.specs.JobBytes.{jobBytes}
+use Rattle.safety.specs.Notation.{path5, path5-10, block, jobOf, bytesOf, buffer, all-bytes, not-named}
 use Rattle.safety.specs.Witness.{no-loops}
 
 -- Safety of all answered jobs under a hypothesis on store, job and sequence of blocks.
@@ -45,15 +46,15 @@ returning rounds =
 
 -- A job in bytes is answered by it.
 pub record Returns5-10 (j : Job) (rounds : ℕ) : Type 0 where
-  pub bytes : All (λ b. b < 256) (jobBytes j)
-  pub reads : readJob HD spanWidth (jobBytes j) ≡ got j (length (jobBytes j))
-  pub answers : answerOf (jobBytes j) buffer ≡ writes (returning rounds)
+  pub bytes : All (λ b. b < 256) (bytesOf j)
+  pub reads : readJob HD spanWidth (bytesOf j) ≡ got j (length (bytesOf j))
+  pub answers : answerOf (bytesOf j) buffer ≡ writes (returning rounds)
   pub holds : readAnswer spanWidth (returning rounds) 0 ≡ got (record { paths = path5-10 ∷ []; rounds = rounds; settled = true }) (length (returning rounds))
 
 -- Then a hypothesis that the job meets on some sequence, where nothing is there, does not make answers safe.
 refuted : (H : (X : Type 0) → Store X → Job → List Block → Type 0) (j : Job) (rounds : ℕ) → Returns5-10 j rounds → (s : List Block) → H (Unit {0}) nothing j s → SafeUnder H → ⊥
 refuted H j rounds r s h safe =
-    safe (jobBytes j) buffer (returning rounds) j (length (jobBytes j)) (record { paths = path5-10 ∷ []; rounds = rounds; settled = true }) (r .bytes) (r .reads) (r .answers) (r .holds) (Unit {0}) nothing s h .0 tt
+    safe (bytesOf j) buffer (returning rounds) j (length (bytesOf j)) (record { paths = path5-10 ∷ []; rounds = rounds; settled = true }) (r .bytes) (r .reads) (r .answers) (r .holds) (Unit {0}) nothing s h .0 tt
 
 -- Loops: P3 of document 01, with scope block 3.
 
@@ -73,7 +74,7 @@ p3-run = record {
   };
   starts = refl;
   ends = not-named (p3 .blocks) (block 4 (1 ∷ []) []) refl;
-  scope = inr (inr (inl refl));
+  passes = inr (inr (inl refl));
 }
 
 pub avoids-2 : All (λ b. b .id ≡ record { 0 = 2 } → ⊥) avoiding
@@ -97,7 +98,7 @@ p3-has-a-loop free = free (block 1 (0 ∷ 3 ∷ []) []) (block 0 [] [] ∷ []) (
 
 p3-returns : Returns5-10 p3 2
 unfolding jobBytes readJob answerOf readAnswer
-p3-returns = record { bytes = all-bytes (jobBytes p3) refl; reads = refl; answers = refl; holds = refl }
+p3-returns = record { bytes = all-bytes (bytesOf p3) refl; reads = refl; answers = refl; holds = refl }
 
 pub loop-freedom-needed : SafeUnder (λ X S j s. Run j s × AssumedHold S s) → ⊥
 loop-freedom-needed = refuted (λ X S j s. Run j s × AssumedHold S s) p3 2 p3-returns avoiding (p3-run, p3-assumed)
@@ -110,12 +111,12 @@ assuming = block 0 [] (path5 ∷ [])
 -- the assumed paths: the run's one block assumes 5
 known5-returns : Returns5-10 (jobOf 0 (assuming ∷ [])) 1
 unfolding jobBytes readJob answerOf readAnswer
-known5-returns = record { bytes = all-bytes (jobBytes (jobOf 0 (assuming ∷ []))) refl; reads = refl; answers = refl; holds = refl }
+known5-returns = record { bytes = all-bytes (bytesOf (jobOf 0 (assuming ∷ []))) refl; reads = refl; answers = refl; holds = refl }
 
 pub assumed-needed : SafeUnder (λ X S j s. WithoutLoops (j .blocks) × Run j s) → ⊥
 assumed-needed =
     refuted (λ X S j s. WithoutLoops (j .blocks) × Run j s) (jobOf 0 (assuming ∷ [])) 1 known5-returns (assuming ∷ [])
-    (no-loops (assuming ∷ []) (tt, tt), record { sequence = record { blocks = (inl refl, tt); some = tt; linked = tt }; starts = refl; ends = not-named (assuming ∷ []) assuming refl; scope = inl refl })
+    (no-loops (assuming ∷ []) (tt, tt), record { sequence = record { blocks = (inl refl, tt); some = tt; linked = tt }; starts = refl; ends = not-named (assuming ∷ []) assuming refl; passes = inl refl })
 
 -- the first block has no predecessor: 1 comes after 0, which assumes 5; the run is 1 alone
 abbrev pub after : Block
@@ -123,7 +124,7 @@ after = block 1 (0 ∷ []) []
 
 after-returns : Returns5-10 (jobOf 1 (assuming ∷ after ∷ [])) 2
 unfolding jobBytes readJob answerOf readAnswer
-after-returns = record { bytes = all-bytes (jobBytes (jobOf 1 (assuming ∷ after ∷ []))) refl; reads = refl; answers = refl; holds = refl }
+after-returns = record { bytes = all-bytes (bytesOf (jobOf 1 (assuming ∷ after ∷ []))) refl; reads = refl; answers = refl; holds = refl }
 
 abbrev pub WithoutStart : (X : Type 0) → Store X → Job → List Block → Type 0
 WithoutStart X S j s = WithoutLoops (j .blocks) × ControlSequence (j .blocks) s × LastHas (NoSuccessor (j .blocks)) s × Some (λ b. b .id ≡ j .scope) s × AssumedHold S s
@@ -142,7 +143,7 @@ assumingAfter = block 1 (0 ∷ []) (path5 ∷ [])
 
 before-returns : Returns5-10 (jobOf 0 (first ∷ assumingAfter ∷ [])) 2
 unfolding jobBytes readJob answerOf readAnswer
-before-returns = record { bytes = all-bytes (jobBytes (jobOf 0 (first ∷ assumingAfter ∷ []))) refl; reads = refl; answers = refl; holds = refl }
+before-returns = record { bytes = all-bytes (bytesOf (jobOf 0 (first ∷ assumingAfter ∷ []))) refl; reads = refl; answers = refl; holds = refl }
 
 abbrev pub WithoutEnd : (X : Type 0) → Store X → Job → List Block → Type 0
 WithoutEnd X S j s = WithoutLoops (j .blocks) × ControlSequence (j .blocks) s × FirstHas NoPredecessor s × Some (λ b. b .id ≡ j .scope) s × AssumedHold S s
@@ -158,7 +159,7 @@ alone = block 1 [] []
 
 alone-returns : Returns5-10 (jobOf 0 (assuming ∷ alone ∷ [])) 1
 unfolding jobBytes readJob answerOf readAnswer
-alone-returns = record { bytes = all-bytes (jobBytes (jobOf 0 (assuming ∷ alone ∷ []))) refl; reads = refl; answers = refl; holds = refl }
+alone-returns = record { bytes = all-bytes (bytesOf (jobOf 0 (assuming ∷ alone ∷ []))) refl; reads = refl; answers = refl; holds = refl }
 
 abbrev pub WithoutScope : (X : Type 0) → Store X → Job → List Block → Type 0
 WithoutScope X S j s = WithoutLoops (j .blocks) × ControlSequence (j .blocks) s × FirstHas NoPredecessor s × LastHas (NoSuccessor (j .blocks)) s × AssumedHold S s
@@ -175,16 +176,21 @@ abbrev pub t3 : Job
 t3 = jobOf 0 (first ∷ [])
 
 t3-run : Run t3 (first ∷ [])
-t3-run = record { sequence = record { blocks = (inl refl, tt); some = tt; linked = tt }; starts = refl; ends = not-named (first ∷ []) first refl; scope = inl refl }
+t3-run = record { sequence = record { blocks = (inl refl, tt); some = tt; linked = tt }; starts = refl; ends = not-named (first ∷ []) first refl; passes = inl refl }
 
-pub uncut-shut-out : Demand3 t3 (t3 .candidates) → ⊥
+pub uncut-shut-out : Demand3 WithoutLoops t3 (t3 .candidates) → ⊥
 uncut-shut-out d = d .safety (no-loops (first ∷ []) (tt, tt)) (Unit {0}) nothing (first ∷ []) t3-run (tt, tt) .0 tt
 
--- "One stock answer": no list is exact for one candidate and for none. "An untouched buffer": it is no answer.
+-- "One stock answer": no list is exact for one candidate and for none.
 pub stock-shut-out : (ds : List ReactiveScopeDependency) → Exact (path5-10 ∷ []) ds → Exact [] ds → ⊥
 stock-shut-out [] one none = let z : _≡_ {A = ℕ} 0 1 = one .one .0 in omega arith
 stock-shut-out (d ∷ ds) one none = never (none .some .0) refl
 
+-- A path returned twice: of two paths for one candidate the count is not one.
+pub twice-shut-out : Exact (path5-10 ∷ []) (path5 ∷ path5 ∷ []) → ⊥
+twice-shut-out twice = let z : _≡_ {A = ℕ} 2 1 = twice .one .0 in omega arith
+
+-- "An untouched buffer": it is no answer.
 pub untouched-shut-out : readAnswer spanWidth buffer 0 ≡ refused WrongMark
 unfolding readAnswer
 untouched-shut-out = refl
@@ -252,7 +258,7 @@ bare-exact cs = record {
           (all-map (λ d. anyOf (prefixOf d) xs ≡ true) (λ d. anyOf (prefixOf d) (x ∷ xs) ≡ true) (λ d h. or-second (prefixOf d x) _ h) (bareOf xs) (bare-some xs)),
     )
 
-pub bare-meets-demand-3 : (j : Job) → Demand3 j (bareOf (j .candidates))
+pub bare-meets-demand-3 : (j : Job) → Demand3 WithoutLoops j (bareOf (j .candidates))
 bare-meets-demand-3 j = record {
   safety = λ free X S s run assumed. all-map (λ d. d .path ≡ []) (λ d. Throws (read S d) → ⊥) (λ d e t. rw e at t) (bareOf (j .candidates)) (bare-paths (j .candidates));
   exactness = bare-exact (j .candidates);

@@ -10,27 +10,26 @@ use Rattle.model.specs.Tests.{by-cond, decide}
 use Rattle.model.specs.ListLaws.{All}
 use Rattle.model.specs.Registry.{nodeLimit}
 use Rattle.model.specs.Rounds.{Rounds}
-use Rattle.model.specs.RoundsLaws.{rounds-most}
-use Rattle.model.specs.Propagation.{Work, JoiningRule, doneNeighbours, hasChanged, unchanged, round, propagateNonNull}
+use Rattle.model.specs.Propagation.{Work, JoiningRule, doneNeighbours}
 use Rattle.model.specs.Read.{Read, got, refused}
 use Rattle.model.specs.Job.{Block, Job, hasRepeat, hasUnknown, readRecords, acceptIds, HD, readJob}
-use Rattle.model.specs.Stage.{graphOf, enterBlocks, propagated, hoistablePaths, returnedPaths}
+use Rattle.model.specs.Stage.{propagated, hoistablePaths, returnedPaths}
 use Rattle.model.specs.Answer.{Verdict, writes, turnsBack, withinLengths, onJob, leastBuffer, longestJob, spanWidth, verdict, answerBytes, answerOf, Answered, readAnswer}
 use Rattle.safety.specs.Runs.{WithoutLoops}
-use Rattle.safety.specs.Statement.{Safety, Demand3, AnswerMeetsDemand3, EveryAnswerMeetsDemand3}
-use Rattle.safety.specs.GraphLaws.{ProperBlocks, proper-blocks}
+use Rattle.safety.specs.Statement.{Safety, Demand3, AnswerMeetsDemand3, AnswersMeetDemand3, EveryAnswerMeetsDemand3}
+use Rattle.laws.specs.GraphLaws.{ProperBlocks, proper-blocks}
 use Rattle.safety.specs.StageSafe.{hoistable-safe}
-use Rattle.safety.specs.TreeExact.{exact}
+use Rattle.laws.specs.TreeLaws.{returned-one, returned-some}
 use Rattle.safety.specs.TreeSafe.{tree-safe}
-use Rattle.safety.specs.ReadBack.{PathFits, reads-whole, answer-back}
-use Rattle.safety.specs.Fits.{Holds, holds-then, holds-got, any-value, job-fits, returned-fit, returned-few}
+use Rattle.laws.specs.ReadBack.{PathFits, reads-whole, answer-back}
+use Rattle.laws.specs.Fits.{Holds, holds-then, holds-got, any-value, job-fits, returned-fit, returned-few, rounds-fit}
 
 -- a job's returned paths
-pub job-demand : (j : Job) → ProperBlocks (j .blocks) → Demand3 j (returnedPaths j (propagated doneNeighbours (j .blocks) .work))
+pub job-demand : (j : Job) → ProperBlocks (j .blocks) → Demand3 WithoutLoops j (returnedPaths j (propagated doneNeighbours (j .blocks) .work))
 unfolding returnedPaths
 job-demand j ok =
     let hs = hoistablePaths j (propagated doneNeighbours (j .blocks) .work) in
-    record { safety = λ free X S s run assumed. tree-safe S hs (j .candidates) (hoistable-safe S j ok free s run assumed); exactness = exact hs (j .candidates) }
+    record { safety = λ free X S s run assumed. tree-safe S hs (j .candidates) (hoistable-safe S j ok free s run assumed); exactness = record { one = returned-one hs (j .candidates); some = returned-some hs (j .candidates) } }
 
 -- refusals 7 and 8 did not turn it back
 pub job-proper : (head w : ℕ) (s : List ℕ) → Holds (λ (j : Job). ProperBlocks (j .blocks)) (readJob head w s)
@@ -64,23 +63,17 @@ lengths-written least most job out bytes rest e =
     decide (ltb (length out) least) (λ t. absurd (different _ bytes (rw t at e)))
     (λ t. let e′ = rw t at e in decide (ltb most (length job)) (λ u. absurd (different _ bytes (rw u at e′))) (λ u. rw u at e′))
 
-pub verdict-written : (rule : JoiningRule) (bytes : ℕ → Job → Rounds Work → List ℕ) (job out written : List ℕ) → verdict rule bytes job out ≡ writes written
-    → Written rule (bytes spanWidth) (readJob HD spanWidth job) written
+pub verdict-written : (head spanBytes : ℕ) (rule : JoiningRule) (bytes : ℕ → Job → Rounds Work → List ℕ) (job out written : List ℕ)
+    → verdict head spanBytes rule bytes job out ≡ writes written → Written rule (bytes spanBytes) (readJob head spanBytes job) written
 unfolding verdict
-verdict-written rule bytes job out written e =
-    job-written rule (bytes spanWidth) (readJob HD spanWidth job) written (lengths-written leastBuffer longestJob job out written (onJob rule (bytes spanWidth) (readJob HD spanWidth job)) e)
+verdict-written head spanBytes rule bytes job out written e =
+    job-written rule (bytes spanBytes) (readJob head spanBytes job) written
+    (lengths-written leastBuffer longestJob job out written (onJob rule (bytes spanBytes) (readJob head spanBytes job)) e)
 
 -- What a job's answer holds, under any rule.
 
 abbrev pub answered : JoiningRule → Job → Answered
 answered rule j = let p = propagated rule (j .blocks) in record { paths = returnedPaths j (p .work); rounds = p .rounds; settled = p .settled }
-
-pub rounds-fit : (rule : JoiningRule) (j : Job) → propagated rule (j .blocks) .rounds < 256
-unfolding propagated propagateNonNull
-rounds-fit rule j =
-    let start = enterBlocks [] (j .blocks) in
-    let most = rounds-most hasChanged (round rule (graphOf (j .blocks))) 100 zero (unchanged (start .registry) (start .sets)) in
-    omega arith
 
 pub answer-holds : (rule : JoiningRule) (w : ℕ) (j : Job) → length (j .candidates) ≤ 64 → All (PathFits w) (j .candidates)
     → readAnswer w (answerBytes w j (propagated rule (j .blocks))) 0 ≡ got (answered rule j) (length (answerBytes w j (propagated rule (j .blocks))))
@@ -90,22 +83,29 @@ answer-holds rule w j few fit =
     let fewer = returned-few (hoistablePaths j (p .work)) (j .candidates) in
     reads-whole (readAnswer w) (answered rule j) (answerBytes w j p) (answer-back w j p (omega arith) (rounds-fit rule j) (returned-fit w (hoistablePaths j (p .work)) (j .candidates) fit))
 
--- The theorem.
-pub demand-3 : EveryAnswerMeetsDemand3
-unfolding answerOf
-demand-3 job out answer bytes e = go (verdict-written doneNeighbours answerBytes job out answer e)
+-- What an operation's answer meets, under any rule for which a job's returned paths meet demand 3.
+pub verdict-meets : (head spanBytes : ℕ) (Hypothesis : List Block → Type 0) (rule : JoiningRule)
+    → ((j : Job) → ProperBlocks (j .blocks) → Demand3 Hypothesis j (returnedPaths j (propagated rule (j .blocks) .work)))
+    → AnswersMeetDemand3 head spanBytes Hypothesis (verdict head spanBytes rule answerBytes)
+verdict-meets head spanBytes Hypothesis rule meets job out answer bytes e = go (verdict-written head spanBytes rule answerBytes job out answer e)
   where
     x : Read Job
-    x = readJob HD spanWidth job
+    x = readJob head spanBytes job
 
-    go : Written doneNeighbours (answerBytes spanWidth) x answer → AnswerMeetsDemand3 job answer
+    go : Written rule (answerBytes spanBytes) x answer → AnswerMeetsDemand3 head spanBytes Hypothesis job answer
     go w =
-        let fit = holds-got _ x (w .j) (w .end) (w .reads) (job-fits job bytes HD spanWidth) in
+        let fit = holds-got _ x (w .j) (w .end) (w .reads) (job-fits job bytes head spanBytes) in
         record {
           j = w .j;
           end = w .end;
           readsJob = w .reads;
-          answered = answered doneNeighbours (w .j);
-          readsAnswer = subst (λ b. readAnswer spanWidth b 0 ≡ got (answered doneNeighbours (w .j)) (length b)) (sym (w .written)) (answer-holds doneNeighbours spanWidth (w .j) (fit .0) (fit .1));
-          holds = job-demand (w .j) (holds-got (λ (j : Job). ProperBlocks (j .blocks)) x (w .j) (w .end) (w .reads) (job-proper HD spanWidth job));
+          answered = answered rule (w .j);
+          readsAnswer = subst (λ b. readAnswer spanBytes b 0 ≡ got (answered rule (w .j)) (length b)) (sym (w .written))
+              (answer-holds rule spanBytes (w .j) (fit .0) (fit .1));
+          holds = meets (w .j) (holds-got (λ (j : Job). ProperBlocks (j .blocks)) x (w .j) (w .end) (w .reads) (job-proper head spanBytes job));
         }
+
+-- The theorem.
+pub demand-3 : EveryAnswerMeetsDemand3
+unfolding answerOf
+demand-3 = verdict-meets HD spanWidth WithoutLoops doneNeighbours job-demand

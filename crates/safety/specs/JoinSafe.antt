@@ -16,7 +16,7 @@ use Rattle.model.specs.SetLaws.{union-all, contains-all}
 use Rattle.model.specs.RegistryLaws.{Sound}
 use Rattle.model.specs.ReductionLaws.{reduction-extends, reduction-sound}
 use Rattle.model.specs.PropagationLaws.{joinedSet}
-use Rattle.safety.specs.Lists.{Some, some-map, some-of-map, all-chosen, all-of}
+use Rattle.laws.specs.Membership.{Some, some-map, some-of-map, all-chosen, all-of}
 use Rattle.safety.specs.RegistrySafe.{NonNullNode, NonNullSet, set-extends}
 use Rattle.safety.specs.ReductionSafe.{reduction-safe}
 
@@ -54,7 +54,7 @@ module _ {X : Type 0} (S : Store X) (On : ℕ → Type 0) where
     pub sound : Sound (w .registry)
     pub safe : (b : ℕ) → On b → NonNullSet S (w .registry) (setOf (w .sets) b)
 
-  pub join-safe : (neighbours : List ℕ) (b : ℕ) (w : Work) → NonNullOn w → (On b → (neighbours ≡ []) ⊎ Some On neighbours) → NonNullOn (joinWith neighbours b w)
+  pub join-safe : (neighbours : List ℕ) (b : ℕ) (w : Work) → NonNullOn w → (On b → (neighbours ≡ []) ⊎ Some On neighbours) → NonNullOn (joinWith reduceMaybeOptionalChains neighbours b w)
   unfolding joinWith
   join-safe neighbours b w h before =
       let s = joinedSet neighbours b w in

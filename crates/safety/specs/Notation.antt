@@ -3,20 +3,20 @@ use Prim.Native.Nat.{ℕ, _<_}
 use native.Mathlib.Omega.{arith}
 use mathlib.Core.Path.{_≡_}
 use mathlib.Core.Bool.{true, false}
-use mathlib.Core.List.{List, [], _∷_, _++_, map}
-use lib.ListN.{length, replicate}
+use mathlib.Core.List.{List, [], _∷_, map}
+use lib.ListN.{replicate}
 use lib.Dec.{ltb}
 use Rattle.entries.specs.declared.PropertyLiteral.the-variants.{String}
-use Rattle.entries.specs.declared.BlockId.{BlockId}
 use Rattle.entries.specs.Path.{ReactiveScopeDependency}
-use Rattle.model.specs.Lists.{anyOf, concatMap}
+use Rattle.model.specs.Lists.{anyOf}
 use Rattle.model.specs.Tests.{ltb-false, never}
 use Rattle.model.specs.ListLaws.{All, all-map}
-use Rattle.model.specs.Job.{Block, Job, containsId, HD, BL, PA, CA}
-use Rattle.model.specs.Answer.{numberBytes, u8, u16, u32, pathBytes, spanWidth, leastBuffer}
-use Rattle.safety.specs.Lists.{none-any}
+use Rattle.model.specs.Job.{Block, Job, containsId, HD}
+use Rattle.model.specs.JobBytes.{jobBytes}
+use Rattle.model.specs.Answer.{spanWidth, leastBuffer}
+use Rattle.laws.specs.Membership.{none-any}
 use Rattle.safety.specs.Runs.{Precedes, NoSuccessor}
-use Rattle.safety.specs.GraphLaws.{member-contains}
+use Rattle.laws.specs.GraphLaws.{member-contains}
 
 -- the paths 5 and 5.10
 abbrev pub path5 : ReactiveScopeDependency
@@ -32,16 +32,9 @@ block id predecessors assumed = record { id = record { 0 = id }; predecessors = 
 abbrev pub jobOf : ℕ → List Block → Job
 jobOf scope blocks = record { scope = record { 0 = scope }; blocks = blocks; candidates = path5-10 ∷ [] }
 
-abbrev pub blockBytes : Block → List ℕ
-blockBytes b =
-    u16 BL ++ u32 (b .id .0) ++ u8 (length (b .predecessors)) ++ u8 (length (b .assumed)) ++ concatMap (λ (i : BlockId). u32 (i .0)) (b .predecessors)
-    ++ concatMap (pathBytes spanWidth PA) (b .assumed)
-
-unfoldable pub jobBytes : Job → List ℕ
-unfolding numberBytes pathBytes
-jobBytes j =
-    u16 HD ++ u16 (length (j .blocks)) ++ u16 (length (j .candidates)) ++ u32 (j .scope .0) ++ concatMap blockBytes (j .blocks)
-    ++ concatMap (pathBytes spanWidth CA) (j .candidates)
+-- the job's bytes, as document 01 lays them out
+abbrev pub bytesOf : Job → List ℕ
+bytesOf = jobBytes HD spanWidth
 
 abbrev pub buffer : List ℕ
 buffer = replicate leastBuffer 0

@@ -4,14 +4,15 @@ use mathlib.Core.Path.{_≡_, refl, sym, ap, subst, _∙_}
 use mathlib.Core.Logic.{_⊎_, inl, inr}
 use mathlib.Core.List.{List, [], _∷_, _++_, map}
 use lib.ListN.{length, getD}
-use Rattle.model.specs.Job.{Block, Job}
+use Rattle.entries.specs.declared.BlockId.{BlockId}
+use Rattle.model.specs.Job.{Block}
 use Rattle.model.specs.Stage.{blockAt, placeOf, predecessorsOf, successorsOf, graphOf}
 use Rattle.model.specs.ListLaws.{All, all-append}
-use Rattle.safety.specs.Lists.{Some, Member, all-at, some-map, some-of, member-getD}
-use Rattle.safety.specs.Runs.{Precedes, Linked, ControlSequence, WithoutLoops, NoPredecessor, NoSuccessor, FirstHas, LastHas, Run}
-use Rattle.safety.specs.VisitOrder.{Reach, one, more}
+use Rattle.laws.specs.Membership.{Some, Member, all-at, some-map, some-of, member-getD}
+use Rattle.safety.specs.Runs.{Precedes, Linked, ControlSequence, WithoutLoops, NoPredecessor, NoSuccessor, FirstHas, LastHas, RunVia}
+use Rattle.laws.specs.VisitOrder.{Reach, one, more}
 use Rattle.safety.specs.PropagationSafe.{Beside}
-use Rattle.safety.specs.GraphLaws.{ProperBlocks, place-member, predecessors-inside, predecessor-precedes, predecessor-block, precedes-predecessor, successors-inside, precedes-successor, no-successor, reach-inside, reach-back}
+use Rattle.laws.specs.GraphLaws.{ProperBlocks, place-member, predecessors-inside, predecessor-precedes, predecessor-block, precedes-predecessor, successors-inside, precedes-successor, no-successor, reach-inside, reach-back}
 
 -- a block with the block before it, after it
 before : (a : Block) (s : List Block) (b : Block) → Linked (a ∷ s) → Member b s → (c : Block) × Member c (a ∷ s) × Precedes c b
@@ -59,40 +60,40 @@ module _ (bs : List Block) (ok : ProperBlocks bs) where
     no-loop-onward b r = no-loop-back b (reach-back bs ok (reach-inside bs ok r) r)
 
 -- The places of a run's blocks, with or without loops.
-module _ (j : Job) (ok : ProperBlocks (j .blocks)) (s : List Block) (run : Run j s) where
+module _ (bs : List Block) (via : BlockId) (ok : ProperBlocks bs) (s : List Block) (run : RunVia bs via s) where
   abbrev pub OnRun : ℕ → Type 0
-  OnRun k = Member (blockAt (j .blocks) k) s
+  OnRun k = Member (blockAt bs k) s
 
-  on-place : (c : Block) → Member c s → (placeOf (j .blocks) (c .id) < length (j .blocks)) × OnRun (placeOf (j .blocks) (c .id)) × (blockAt (j .blocks) (placeOf (j .blocks) (c .id)) ≡ c)
+  on-place : (c : Block) → Member c s → (placeOf bs (c .id) < length bs) × OnRun (placeOf bs (c .id)) × (blockAt bs (placeOf bs (c .id)) ≡ c)
   on-place c m =
-      let p = place-member c (j .blocks) (ok .distinct) (all-at (λ b. Member b (j .blocks)) s c (run .sequence .blocks) m) in
+      let p = place-member c bs (ok .distinct) (all-at (λ b. Member b bs) s c (run .sequence .blocks) m) in
       (p .0, subst (λ b. Member b s) (sym (p .1)) m, p .1)
 
-  pub back : Beside OnRun (graphOf (j .blocks) .size) (graphOf (j .blocks) .predecessors)
+  pub back : Beside OnRun (graphOf bs .size) (graphOf bs .predecessors)
   unfolding graphOf predecessorsOf
-  back = record { inGraph = predecessors-inside (j .blocks) ok; beside = λ b on. go b (starts-or-before s (blockAt (j .blocks) b) (run .sequence .linked) (run .starts) on) }
+  back = record { inGraph = predecessors-inside bs ok; beside = λ b on. go b (starts-or-before s (blockAt bs b) (run .sequence .linked) (run .starts) on) }
     where
-      go : (b : ℕ) → NoPredecessor (blockAt (j .blocks) b) ⊎ ((c : Block) × Member c s × Precedes c (blockAt (j .blocks) b)) → (predecessorsOf (j .blocks) b ≡ []) ⊎ Some OnRun (predecessorsOf (j .blocks) b)
-      go b (inl e) = inl (ap (map (placeOf (j .blocks))) e)
+      go : (b : ℕ) → NoPredecessor (blockAt bs b) ⊎ ((c : Block) × Member c s × Precedes c (blockAt bs b)) → (predecessorsOf bs b ≡ []) ⊎ Some OnRun (predecessorsOf bs b)
+      go b (inl e) = inl (ap (map (placeOf bs)) e)
       go b (inr h) =
           let c = h .0 in
-          inr (some-of OnRun (predecessorsOf (j .blocks) b) (placeOf (j .blocks) (c .id)) (on-place c (h .1) .1)
-          (precedes-predecessor (j .blocks) ok c b (all-at (λ d. Member d (j .blocks)) s c (run .sequence .blocks) (h .1)) (h .2)))
+          inr (some-of OnRun (predecessorsOf bs b) (placeOf bs (c .id)) (on-place c (h .1) .1)
+          (precedes-predecessor bs ok c b (all-at (λ d. Member d bs) s c (run .sequence .blocks) (h .1)) (h .2)))
 
-  pub onward : Beside OnRun (graphOf (j .blocks) .size) (graphOf (j .blocks) .successors)
+  pub onward : Beside OnRun (graphOf bs .size) (graphOf bs .successors)
   unfolding graphOf
-  onward = record { inGraph = successors-inside (j .blocks) ok; beside = λ b m. go b (ends-or-after (NoSuccessor (j .blocks)) s (blockAt (j .blocks) b) (run .sequence .linked) (run .ends) m) }
+  onward = record { inGraph = successors-inside bs ok; beside = λ b m. go b (ends-or-after (NoSuccessor bs) s (blockAt bs b) (run .sequence .linked) (run .ends) m) }
     where
-      go : (b : ℕ) → NoSuccessor (j .blocks) (blockAt (j .blocks) b) ⊎ ((c : Block) × Member c s × Precedes (blockAt (j .blocks) b) c) → (successorsOf (j .blocks) b ≡ []) ⊎ Some OnRun (successorsOf (j .blocks) b)
-      go b (inl none) = inl (no-successor (j .blocks) ok b none)
+      go : (b : ℕ) → NoSuccessor bs (blockAt bs b) ⊎ ((c : Block) × Member c s × Precedes (blockAt bs b) c) → (successorsOf bs b ≡ []) ⊎ Some OnRun (successorsOf bs b)
+      go b (inl none) = inl (no-successor bs ok b none)
       go b (inr h) =
           let c = h .0 in
           let p = on-place c (h .1) in
-          inr (precedes-successor (j .blocks) ok b OnRun (placeOf (j .blocks) (c .id)) (p .0) (p .1) (subst (Precedes (blockAt (j .blocks) b)) (sym (p .2)) (h .2)))
+          inr (precedes-successor bs ok b OnRun (placeOf bs (c .id)) (p .0) (p .1) (subst (Precedes (blockAt bs b)) (sym (p .2)) (h .2)))
 
-  pub on-scope : OnRun (placeOf (j .blocks) (j .scope))
-  on-scope = go s (run .scope) (λ c m. on-place c m .1)
+  pub on-via : OnRun (placeOf bs via)
+  on-via = go s (run .passes) (λ c m. on-place c m .1)
     where
-      go : (t : List Block) → Some (λ b. b .id ≡ j .scope) t → ((c : Block) → Member c t → OnRun (placeOf (j .blocks) (c .id))) → OnRun (placeOf (j .blocks) (j .scope))
-      go (c ∷ t) (inl e) f = subst (λ i. OnRun (placeOf (j .blocks) i)) e (f c (inl refl))
+      go : (t : List Block) → Some (λ b. b .id ≡ via) t → ((c : Block) → Member c t → OnRun (placeOf bs (c .id))) → OnRun (placeOf bs via)
+      go (c ∷ t) (inl e) f = subst (λ i. OnRun (placeOf bs i)) e (f c (inl refl))
       go (c ∷ t) (inr r) f = go t r (λ d m. f d (inr m))

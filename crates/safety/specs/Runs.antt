@@ -1,10 +1,11 @@
 -- Document 01, "Reading a path": control sequences, loops, and the runs of control that demand 3 speaks of. Blocks are the job's records.
 use mathlib.Core.Path.{_≡_}
 use mathlib.Core.List.{List, [], _∷_, _++_}
+use Rattle.entries.specs.declared.BlockId.{BlockId}
 use Rattle.model.specs.Job.{Block, Job}
 use Rattle.model.specs.Reading.{Store, read, NonNullish}
 use Rattle.model.specs.ListLaws.{All}
-use Rattle.safety.specs.Lists.{Some, Member}
+use Rattle.laws.specs.Membership.{Some, Member}
 
 -- the first block is a predecessor of the second
 abbrev pub Precedes : Block → Block → Type 0
@@ -50,12 +51,17 @@ LastHas P [] = ⊥
 LastHas P (a ∷ []) = P a
 LastHas P (a ∷ (b ∷ s)) = LastHas P (b ∷ s)
 
--- Demand 3: a run of control from a block with no predecessor, by way of the scope block, to a block with no successor.
-pub record Run (j : Job) (s : List Block) : Type 0 where
-  pub sequence : ControlSequence (j .blocks) s
+-- Demand 3: a run of control from a block with no predecessor, by way of a block, to a block with no
+-- successor, among the blocks `bs`.
+pub record RunVia (bs : List Block) (via : BlockId) (s : List Block) : Type 0 where
+  pub sequence : ControlSequence bs s
   pub starts : FirstHas NoPredecessor s
-  pub ends : LastHas (NoSuccessor (j .blocks)) s
-  pub scope : Some (λ b. b .id ≡ j .scope) s
+  pub ends : LastHas (NoSuccessor bs) s
+  pub passes : Some (λ b. b .id ≡ via) s
+
+-- Demand 3: "by way of the scope block", among the job's blocks.
+abbrev pub Run : Job → List Block → Type 0
+Run j s = RunVia (j .blocks) (j .scope) s
 
 -- Demand 3: each assumed path of each block on it reads to a value neither null nor undefined.
 abbrev pub AssumedHold : {X : Type 0} → Store X → List Block → Type 0

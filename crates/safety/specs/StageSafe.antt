@@ -8,21 +8,21 @@ use Rattle.entries.specs.Path.{ReactiveScopeDependency}
 use Rattle.model.specs.Reading.{Store}
 use Rattle.model.specs.Sets.{NodeSet, insert}
 use Rattle.model.specs.Registry.{PropertyPathRegistry, ownMark, getOrCreateProperty, fullPathOf}
-use Rattle.model.specs.Propagation.{Work, JoiningRule, setOf, unchanged, doneNeighbours, propagateNonNull}
+use Rattle.model.specs.Propagation.{Work, JoiningRule, setOf, roundStart, doneNeighbours, propagateNonNull}
 use Rattle.model.specs.Job.{Block, Job}
 use Rattle.model.specs.Stage.{blockAt, placeOf, graphOf, enterPaths, enterBlock, enterBlocks, propagated, hoistablePaths}
 use Rattle.model.specs.ListLaws.{All, all-map}
 use Rattle.model.specs.SetLaws.{insert-all}
 use Rattle.model.specs.RegistryLaws.{Sound, sound-empty, path-proper, path-extends}
 use Rattle.model.specs.PropagationLaws.{members-empty, paths-filled, blocks-begun}
-use Rattle.safety.specs.Lists.{Member, all-at, all-of-map}
+use Rattle.laws.specs.Membership.{Member, all-at, all-of-map}
 use Rattle.safety.specs.Runs.{WithoutLoops, Run, AssumedHold}
-use Rattle.safety.specs.ReadingLaws.{NonNull}
+use Rattle.laws.specs.ReadingLaws.{NonNull}
 use Rattle.safety.specs.RegistrySafe.{NonNullNode, NonNullSet, set-extends, path-safe}
 use Rattle.safety.specs.JoinSafe.{NonNullOn}
 use Rattle.safety.specs.PropagationSafe.{propagation-safe, forward-done, backward-done}
-use Rattle.safety.specs.GraphLaws.{ProperBlocks}
-use Rattle.safety.specs.RunLaws.{no-loop-back, no-loop-onward, OnRun, back, onward, on-scope}
+use Rattle.laws.specs.GraphLaws.{ProperBlocks}
+use Rattle.safety.specs.RunLaws.{no-loop-back, no-loop-onward, OnRun, back, onward, on-via}
 
 module _ {X : Type 0} (S : Store X) where
   paths-safe : (reg : PropertyPathRegistry) (s : NodeSet) (ds : List ReactiveScopeDependency) → Sound reg → NonNullSet S reg s → All (NonNull S) ds
@@ -47,7 +47,7 @@ module _ {X : Type 0} (S : Store X) where
   -- under any rule under which propagation keeps the run's sets non-nullish
   module _ (rule : JoiningRule) (j : Job) (ok : ProperBlocks (j .blocks)) (s : List Block) (run : Run j s) (assumed : AssumedHold S s) where
     abbrev pub Keeps : Type 0
-    Keeps = (reg : PropertyPathRegistry) (sets : List NodeSet) → NonNullOn S (OnRun j ok s run) (unchanged reg sets) → NonNullOn S (OnRun j ok s run) (propagateNonNull rule (graphOf (j .blocks)) reg sets .work)
+    Keeps = (reg : PropertyPathRegistry) (sets : List NodeSet) → NonNullOn S (OnRun (j .blocks) (j .scope) ok s run) (roundStart reg sets) → NonNullOn S (OnRun (j .blocks) (j .scope) ok s run) (propagateNonNull rule (graphOf (j .blocks)) reg sets .work)
 
     pub hoistable-by : Keeps → All (NonNull S) (hoistablePaths j (propagated rule (j .blocks) .work))
     unfolding propagated hoistablePaths
@@ -60,7 +60,7 @@ module _ {X : Type 0} (S : Store X) where
           safe = λ c m. blocks-safe [] (j .blocks) c sound-empty (all-at (λ b. All (NonNull S) (b .assumed)) s (blockAt (j .blocks) c) assumed m);
         }) in
         all-of-map (NonNull S) (fullPathOf (w .registry)) (setOf (w .sets) place)
-        (all-map (NonNullNode S (w .registry)) (λ k. NonNull S (fullPathOf (w .registry) k)) (λ k n. n .safe) (setOf (w .sets) place) (end .safe place (on-scope j ok s run)))
+        (all-map (NonNullNode S (w .registry)) (λ k. NonNull S (fullPathOf (w .registry) k)) (λ k n. n .safe) (setOf (w .sets) place) (end .safe place (on-via (j .blocks) (j .scope) ok s run)))
 
   -- under the rule of Done neighbours, where there are no loops
   pub hoistable-safe : (j : Job) → ProperBlocks (j .blocks) → WithoutLoops (j .blocks) → (s : List Block) → Run j s → AssumedHold S s → All (NonNull S) (hoistablePaths j (propagated doneNeighbours (j .blocks) .work))
@@ -68,6 +68,6 @@ module _ {X : Type 0} (S : Store X) where
   hoistable-safe j ok free s run assumed =
       let g = graphOf (j .blocks) in
       hoistable-by doneNeighbours j ok s run assumed
-      (propagation-safe S (OnRun j ok s run) doneNeighbours g
-      (forward-done S (OnRun j ok s run) g (back j ok s run) (onward j ok s run) (no-loop-back (j .blocks) ok free))
-      (backward-done S (OnRun j ok s run) g (back j ok s run) (onward j ok s run) (no-loop-onward (j .blocks) ok free)))
+      (propagation-safe S (OnRun (j .blocks) (j .scope) ok s run) doneNeighbours g
+      (forward-done S (OnRun (j .blocks) (j .scope) ok s run) g (back (j .blocks) (j .scope) ok s run) (onward (j .blocks) (j .scope) ok s run) (no-loop-back (j .blocks) ok free))
+      (backward-done S (OnRun (j .blocks) (j .scope) ok s run) g (back (j .blocks) (j .scope) ok s run) (onward (j .blocks) (j .scope) ok s run) (no-loop-onward (j .blocks) ok free)))

@@ -10,7 +10,7 @@ use Rattle.model.specs.ListLaws.{All}
 use Rattle.model.specs.Reading.{Store, read, Throws}
 use Rattle.model.specs.Read.{got}
 use Rattle.model.specs.Job.{Block, Job, HD, readJob}
-use Rattle.model.specs.Answer.{writes, spanWidth, answerOf, Answered, readAnswer}
+use Rattle.model.specs.Answer.{Verdict, writes, spanWidth, answerOf, Answered, readAnswer}
 use Rattle.safety.specs.Runs.{WithoutLoops, Run, AssumedHold}
 
 -- Exactness: for each candidate exactly one place in the list of returned paths holds a path with its identifier and a prefix of its property names; and
@@ -24,21 +24,29 @@ pub record Exact (candidates returned : List ReactiveScopeDependency) : Type 0 w
 abbrev pub Safety : Job → List ReactiveScopeDependency → Type 1
 Safety j returned = (X : Type 0) (S : Store X) (s : List Block) → Run j s → AssumedHold S s → All (λ d. Throws (read S d) → ⊥) returned
 
--- Safety for a job without loops, and exactness with or without loops.
-pub record Demand3 (j : Job) (returned : List ReactiveScopeDependency) : Type 1 where
-  pub safety : WithoutLoops (j .blocks) → Safety j returned
+-- Safety where the job's blocks meet a hypothesis (`WithoutLoops`: "Without loops: ..", which another
+-- joining rule may not need), and exactness for every job ("With or without loops").
+pub record Demand3 (Hypothesis : List Block → Type 0) (j : Job) (returned : List ReactiveScopeDependency) : Type 1 where
+  pub safety : Hypothesis (j .blocks) → Safety j returned
   pub exactness : Exact (j .candidates) returned
 
--- Of the bytes of a job and of its answer: the one is read as a job, the other, by the reader of a job's own paths, as what it returns, and demand 3 holds of
--- the two.
-pub record AnswerMeetsDemand3 (job answer : List ℕ) : Type 1 where
+-- Of the bytes of a job, with a header of this mark and spans of so many bytes, and of its answer: the
+-- one is read as a job, the other, by the reader of a job's own paths, as what it returns, and demand 3
+-- holds of the two.
+pub record AnswerMeetsDemand3 (head spanBytes : ℕ) (Hypothesis : List Block → Type 0) (job answer : List ℕ) : Type 1 where
   pub j : Job
   pub end : ℕ
-  pub readsJob : readJob HD spanWidth job ≡ got j end
+  pub readsJob : readJob head spanBytes job ≡ got j end
   pub answered : Answered
-  pub readsAnswer : readAnswer spanWidth answer 0 ≡ got answered (length answer)
-  pub holds : Demand3 j (answered .paths)
+  pub readsAnswer : readAnswer spanBytes answer 0 ≡ got answered (length answer)
+  pub holds : Demand3 Hypothesis j (answered .paths)
+
+-- Of an operation: whatever job it does not refuse, with whatever out buffer, what it writes meets demand 3.
+abbrev pub AnswersMeetDemand3 : ℕ → ℕ → (List Block → Type 0) → (List ℕ → List ℕ → Verdict) → Type 1
+AnswersMeetDemand3 head spanBytes Hypothesis operation =
+    (job out answer : List ℕ) → All (λ b. b < 256) job → operation job out ≡ writes answer
+    → AnswerMeetsDemand3 head spanBytes Hypothesis job answer
 
 -- The claim: of the bytes of any job that `answer` does not refuse, with any out buffer.
 abbrev pub EveryAnswerMeetsDemand3 : Type 1
-EveryAnswerMeetsDemand3 = (job out answer : List ℕ) → All (λ b. b < 256) job → answerOf job out ≡ writes answer → AnswerMeetsDemand3 job answer
+EveryAnswerMeetsDemand3 = AnswersMeetDemand3 HD spanWidth WithoutLoops answerOf

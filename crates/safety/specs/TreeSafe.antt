@@ -13,10 +13,10 @@ use Rattle.model.specs.Reading.{Value, null, undefined, value, Store, throws, r
 use Rattle.entries.specs.Access.{isOptionalAccess}
 use Rattle.model.specs.Forest.{Key, identifierKey, propertyKey, sameKey, Forest, empty, position, Found, findKey, childByKey, addAll, firsts}
 use Rattle.model.specs.Tree.{startsOptional, ordered, HoistablePosition, hoistableKey, hoistableEntries, hoistablePath, firstMade, hoistableTree, DependencyPosition, dependencyKey, isDependency, mergePosition, ended, atNonNull, stepAccess, stepTo, walkEntries, rootPosition, walkCandidate, dependencyTree, keyIdentifier, keyProperty, entryOf, dependencyOf, deriveMinimalDependencies}
-use Rattle.safety.specs.Lists.{all-of, all-of-map}
-use Rattle.safety.specs.ReadingLaws.{NonNull, NoThrow, nullish-not}
-use Rattle.safety.specs.ForestLaws.{key-true, Along, WayAlong, firsts-along, along-addAll}
-use Rattle.safety.specs.TreeExact.{optional-of, Properties, Rooted, ways-rooted}
+use Rattle.laws.specs.Membership.{all-of, all-of-map}
+use Rattle.laws.specs.ReadingLaws.{NonNull, NoThrow, nullish-not}
+use Rattle.laws.specs.ForestLaws.{key-true, Along, WayAlong, firsts-along, along-addAll}
+use Rattle.laws.specs.TreeLaws.{optional-of, Properties, Rooted, ways-rooted}
 
 both-false : {A : Type 0} (a b : Bool) → (a ≡ false → A) → (b ≡ false → A) → a && b ≡ false → A
 both-false true b f g h = g h

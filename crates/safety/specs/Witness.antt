@@ -12,11 +12,12 @@ use Rattle.model.specs.Reading.{null, value, Store, read, Throws}
 use Rattle.model.specs.Read.{got}
 use Rattle.model.specs.Job.{Block, Job, HD, readJob}
 use Rattle.model.specs.Answer.{writes, spanWidth, answerOf, Answered, readAnswer}
-use Rattle.safety.specs.Lists.{Member, all-at}
+use Rattle.laws.specs.Membership.{Member, all-at}
 use Rattle.safety.specs.Runs.{Precedes, Linked, WithoutLoops, Run, AssumedHold}
 use Rattle.safety.specs.Statement.{AnswerMeetsDemand3}
 use Rattle.safety.specs.Demand3.{demand-3}
-use Rattle.safety.specs.Notation.{path5, path5-10, block, jobOf, jobBytes, buffer, all-bytes, not-named}
+use Rattle.model.specs.JobBytes.{jobBytes}
+use Rattle.safety.specs.Notation.{path5, path5-10, block, jobOf, bytesOf, buffer, all-bytes, not-named}
 
 -- Where each block's predecessors have smaller ids than it has, there is no loop.
 module _ (bs : List Block) (smaller : All (λ b. All (λ i. i .0 < b .id .0) (b .predecessors)) bs) where
@@ -58,15 +59,15 @@ p1-answer =
     0x41 ∷ 0x4E ∷ 1 ∷ 0 ∷ 2 ∷ 1
     ∷ 0x44 ∷ 0x45 ∷ 5 ∷ 0 ∷ 0 ∷ 0 ∷ 1 ∷ 0 ∷ 0 ∷ 0 ∷ 0 ∷ 1 ∷ 0 ∷ 0 ∷ 10 ∷ 0 ∷ 0 ∷ 0 ∷ 0 ∷ 0 ∷ 0 ∷ 0 ∷ 0 ∷ 0 ∷ 0 ∷ 0 ∷ []
 
-p1-bytes : All (λ b. b < 256) (jobBytes p1)
+p1-bytes : All (λ b. b < 256) (bytesOf p1)
 unfolding jobBytes
-p1-bytes = all-bytes (jobBytes p1) refl
+p1-bytes = all-bytes (bytesOf p1) refl
 
-p1-reads : readJob HD spanWidth (jobBytes p1) ≡ got p1 (length (jobBytes p1))
+p1-reads : readJob HD spanWidth (bytesOf p1) ≡ got p1 (length (bytesOf p1))
 unfolding readJob jobBytes
 p1-reads = refl
 
-pub p1-answered : answerOf (jobBytes p1) buffer ≡ writes p1-answer
+pub p1-answered : answerOf (bytesOf p1) buffer ≡ writes p1-answer
 unfolding answerOf jobBytes
 p1-answered = refl
 
@@ -86,7 +87,7 @@ p1-run = record {
   sequence = record { blocks = (inl refl, (inr (inl refl), (inr (inr (inr (inl refl))), tt))); some = tt; linked = (inl refl, (inl refl, tt)) };
   starts = refl;
   ends = not-named (p1 .blocks) (block 3 (1 ∷ 2 ∷ []) []) refl;
-  scope = inr (inr (inl refl));
+  passes = inr (inr (inl refl));
 }
 
 pub p1-assumed : AssumedHold store run
@@ -94,11 +95,11 @@ p1-assumed = (tt, ((tt, tt), (tt, tt)))
 
 -- So the theorem speaks of this job, this store and this run, and of the path 5.10.
 
-pub met : AnswerMeetsDemand3 (jobBytes p1) p1-answer
-met = demand-3 (jobBytes p1) buffer p1-answer p1-bytes p1-answered
+pub met : AnswerMeetsDemand3 HD spanWidth WithoutLoops (bytesOf p1) p1-answer
+met = demand-3 (bytesOf p1) buffer p1-answer p1-bytes p1-answered
 
 met-job : met .j ≡ p1
-met-job = let e : got (met .j) (met .end) ≡ got p1 (length (jobBytes p1)) = sym (met .readsJob) ∙ p1-reads in cc
+met-job = let e : got (met .j) (met .end) ≡ got p1 (length (bytesOf p1)) = sym (met .readsJob) ∙ p1-reads in cc
 
 pub met-paths : met .answered .paths ≡ path5-10 ∷ []
 unfolding readAnswer

@@ -7,14 +7,14 @@ use mathlib.Core.Bool.{true, false, cond}
 use mathlib.Core.List.{List, [], _++_}
 use lib.ListN.{length, drop}
 use lib.Seq.{sets, sets-eq}
-use lib.Dec.{ltb, lt→ltb}
+use lib.Dec.{ltb}
 use Rattle.entries.specs.declared.Refusal.{Refusal}
 use Rattle.entries.specs.declared.Refusal.the-variants.{ShortBuffer, LongJob, ManyNodes}
-use Rattle.model.specs.Tests.{decide, passes-test, ltb-true}
+use Rattle.model.specs.Tests.{ltb-less, ltb-not-less}
 use Rattle.model.specs.Read.{Read, got, refused}
 use Rattle.model.specs.Registry.{nodeLimit}
 use Rattle.model.specs.Rounds.{Rounds}
-use Rattle.model.specs.Propagation.{Work, doneNeighbours}
+use Rattle.model.specs.Propagation.{Work, JoiningRule, doneNeighbours}
 use Rattle.model.specs.Job.{HD, Job, readJob}
 use Rattle.model.specs.Stage.{propagated}
 use Rattle.model.specs.Answer.{Verdict, writes, turnsBack, withinNodes, onJob, leastBuffer, longestJob, spanWidth, verdict, answerBytes, answerOf, sheetBytes, sheetOf, bufferAfter}
@@ -34,12 +34,6 @@ use Rattle.stage.specs.Jobs.{operationBytes, outcomeOf, Meets, verdictOf
 pub refuses : {v : Verdict} {r : Refusal} {out : List ℕ} → v ≡ turnsBack r → Meets v (Refused r) out out
 refuses {out = out} e = record { outcome = sym (ap outcomeOf e); buffer = sym (ap (λ v. bufferAfter v out) e) }
 
-less : (a b : ℕ) → a < b → ltb a b ≡ true
-less a b h = passes-test (lt→ltb a b h)
-
-not-less : (a b : ℕ) → b ≤ a → ltb a b ≡ false
-not-less a b h = decide (ltb a b) (λ e. let l = ltb-true a b e in absurd (omega arith)) (λ e. e)
-
 -- bytes that stand in the buffer from its start on are written before the rest of it
 pub stands-written : {v : Verdict} {bytes before after : List ℕ} {next : ℕ} → v ≡ writes bytes → Writes before after 0 bytes next → length bytes ≤ length before → Meets v (Written next) before after
 stands-written {v} {bytes} {before} {after} {next} e w fits = record {
@@ -49,49 +43,49 @@ stands-written {v} {bytes} {before} {after} {next} e w fits = record {
 
 -- A job that was read.
 
-module _ (op : Operation) (s : List ℕ) (j : Job) (end : ℕ) (reads : readJob HD spanWidth s ≡ got j end) where
+module _ (rule : JoiningRule) (op : Operation) (s : List ℕ) (j : Job) (end : ℕ) (reads : readJob HD spanWidth s ≡ got j end) where
   abbrev p : Rounds Work
-  p = propagated doneNeighbours (j .blocks)
+  p = propagated rule (j .blocks)
 
-  read-verdict : jobVerdict op s ≡ withinNodes p (operationBytes op spanWidth j p)
+  read-verdict : jobVerdict rule op s ≡ withinNodes p (operationBytes op spanWidth j p)
   unfolding jobVerdict
-  read-verdict = ap (onJob doneNeighbours (operationBytes op spanWidth)) reads
+  read-verdict = ap (onJob rule (operationBytes op spanWidth)) reads
 
-  pub full-refused : nodeLimit < length (p .work .registry) → jobVerdict op s ≡ turnsBack ManyNodes
-  full-refused h = read-verdict ∙ ap (λ b. cond b (turnsBack ManyNodes) (writes (operationBytes op spanWidth j p))) (less nodeLimit (length (p .work .registry)) h)
+  pub full-refused : nodeLimit < length (p .work .registry) → jobVerdict rule op s ≡ turnsBack ManyNodes
+  full-refused h = read-verdict ∙ ap (λ b. cond b (turnsBack ManyNodes) (writes (operationBytes op spanWidth j p))) (ltb-less nodeLimit (length (p .work .registry)) h)
 
-  pub room-written : {n : ℕ} {run : Run} {sets ws os : List ℕ} → HoldsRounds p n run sets ws os → jobVerdict op s ≡ writes (operationBytes op spanWidth j p)
+  pub room-written : {n : ℕ} {run : Run} {sets ws os : List ℕ} → HoldsRounds p n run sets ws os → jobVerdict rule op s ≡ writes (operationBytes op spanWidth j p)
   room-written {ws = ws} x =
       let size = ap length (propagated-registry x) ∙ registry-length ws in
       let room = x .stands .held .sized .room in
-      read-verdict ∙ ap (λ b. cond b (turnsBack ManyNodes) (writes (operationBytes op spanWidth j p))) (not-less nodeLimit (length (p .work .registry)) (omega arith))
+      read-verdict ∙ ap (λ b. cond b (turnsBack ManyNodes) (writes (operationBytes op spanWidth j p))) (ltb-not-less nodeLimit (length (p .work .registry)) (omega arith))
 
 -- Any bytes and any buffer.
 
-module _ (op : Operation) (s out : List ℕ) where
-  pub short-refused : length out < leastBuffer → verdictOf op s out ≡ turnsBack ShortBuffer
+module _ (rule : JoiningRule) (op : Operation) (s out : List ℕ) where
+  pub short-refused : length out < leastBuffer → verdictOf rule op s out ≡ turnsBack ShortBuffer
   unfolding verdictOf
-  short-refused h = rw (less (length out) leastBuffer h)
+  short-refused h = rw (ltb-less (length out) leastBuffer h)
 
   module _ (wide : leastBuffer ≤ length out) where
-    pub long-refused : longestJob < length s → verdictOf op s out ≡ turnsBack LongJob
+    pub long-refused : longestJob < length s → verdictOf rule op s out ≡ turnsBack LongJob
     unfolding verdictOf
-    long-refused h = rw (not-less (length out) leastBuffer wide, less longestJob (length s) h)
+    long-refused h = rw (ltb-not-less (length out) leastBuffer wide, ltb-less longestJob (length s) h)
 
-    pub by-job : length s ≤ longestJob → verdictOf op s out ≡ jobVerdict op s
+    pub by-job : length s ≤ longestJob → verdictOf rule op s out ≡ jobVerdict rule op s
     unfolding verdictOf jobVerdict
-    by-job h = rw (not-less (length out) leastBuffer wide, not-less longestJob (length s) h)
+    by-job h = rw (ltb-not-less (length out) leastBuffer wide, ltb-not-less longestJob (length s) h)
 
-pub read-refused : (op : Operation) (s : List ℕ) {r : Refusal} → readJob HD spanWidth s ≡ refused r → jobVerdict op s ≡ turnsBack r
+pub read-refused : (rule : JoiningRule) (op : Operation) (s : List ℕ) {r : Refusal} → readJob HD spanWidth s ≡ refused r → jobVerdict rule op s ≡ turnsBack r
 unfolding jobVerdict
-read-refused op s e = ap (onJob doneNeighbours (operationBytes op spanWidth)) e
+read-refused rule op s e = ap (onJob rule (operationBytes op spanWidth)) e
 
 -- The two operations.
 
-pub answer-verdict : (s out : List ℕ) → verdictOf operation.Answer s out ≡ answerOf s out
+pub answer-verdict : (s out : List ℕ) → verdictOf doneNeighbours operation.Answer s out ≡ answerOf s out
 unfolding verdictOf answerOf
 answer-verdict s out = refl
 
-pub sheet-verdict : (s out : List ℕ) → verdictOf operation.Sheet s out ≡ sheetOf s out
+pub sheet-verdict : (s out : List ℕ) → verdictOf doneNeighbours operation.Sheet s out ≡ sheetOf s out
 unfolding verdictOf sheetOf
 sheet-verdict s out = refl

@@ -11,7 +11,7 @@ use Rattle.model.specs.Registry.{nodeLimit, PropertyPathRegistry}
 use Rattle.model.specs.RegistryLaws.{extends-length}
 use Rattle.model.specs.ReductionLaws.{Members}
 use Rattle.model.specs.Rounds.{Rounds}
-use Rattle.model.specs.Propagation.{Work, Graph, doneNeighbours, propagateNonNull, unchanged}
+use Rattle.model.specs.Propagation.{Work, Graph, JoiningRule, propagateNonNull, roundStart}
 use Rattle.model.specs.PropagationLaws.{propagation-extends, start-proper}
 use Rattle.model.specs.Job.{Block}
 use Rattle.model.specs.Stage.{Started, graphOf, enterBlocks, propagated}
@@ -23,7 +23,7 @@ use Rattle.assumed.specs.declared.Entered.{Entered}
 use Rattle.assumed.specs.declared.Entered.the-variants as entered
 use Rattle.assumed.specs.Start.{StartHeld, Starts}
 use Rattle.graph.specs.Bytes.{sizeIn, graphIn}
-use Rattle.graph.proofs.Agree.{Agree, propagation-agrees}
+use Rattle.laws.specs.GraphsAgree.{Agree, propagation-agrees}
 use Rattle.edges.specs.Fills.{NotedJob, HoldsGraph}
 use Rattle.propagation.specs.Joins.{Stands, Ready}
 use Rattle.propagation.specs.Propagates.{Propagates}
@@ -31,11 +31,11 @@ use Rattle.propagation.specs.declared.Propagated.{Propagated}
 use Rattle.propagation.specs.declared.Propagated.the-variants.{Full}
 
 -- a registry that has passed the limit before propagation stays beyond it
-pub full-start : (bs : List Block) → nodeLimit < length (enterBlocks [] bs .registry) → nodeLimit < length (propagated doneNeighbours bs .work .registry)
+pub full-start : (rule : JoiningRule) (bs : List Block) → nodeLimit < length (enterBlocks [] bs .registry) → nodeLimit < length (propagated rule bs .work .registry)
 unfolding propagated
-full-start bs h =
+full-start rule bs h =
     let start = enterBlocks [] bs in
-    let longer = extends-length (propagation-extends doneNeighbours (graphOf bs) (start .registry) (start .sets)) in
+    let longer = extends-length (propagation-extends rule (graphOf bs) (start .registry) (start .sets)) in
     omega arith
 
 module _ {bs : List Block} {n : ℕ} {ws os sets g : List ℕ} (count : length bs ≡ n) (x : StartHeld (enterBlocks [] bs) n ws os sets) (y : HoldsGraph bs g) where
@@ -56,17 +56,17 @@ module _ {bs : List Block} {n : ℕ} {ws os sets g : List ℕ} (count : length b
   unfolding graphIn graphOf
   agrees = record { size = y .size; predecessors = λ b l. y .predecessors b (let s = y .size in omega arith); successors = λ b l. y .successors b (let s = y .size in omega arith) }
 
-  want-same : propagateNonNull doneNeighbours (graphIn g) (registryOf ws) (rowsOf sets (sizeIn g)) ≡ propagated doneNeighbours bs
+  want-same : (rule : JoiningRule) → propagateNonNull rule (graphIn g) (registryOf ws) (rowsOf sets (sizeIn g)) ≡ propagated rule bs
   unfolding propagated
-  want-same =
-      ap (λ m. propagateNonNull doneNeighbours (graphIn g) (registryOf ws) (rowsOf sets m)) size-same
-      ∙ propagation-agrees doneNeighbours agrees (registryOf ws) (rowsOf sets n)
-      ∙ ap (λ (st : Started). propagateNonNull doneNeighbours (graphOf bs) (st .registry) (st .sets)) (sym (x .same))
+  want-same rule =
+      ap (λ m. propagateNonNull rule (graphIn g) (registryOf ws) (rowsOf sets m)) size-same
+      ∙ propagation-agrees rule agrees (registryOf ws) (rowsOf sets n)
+      ∙ ap (λ (st : Started). propagateNonNull rule (graphOf bs) (st .registry) (st .sets)) (sym (x .same))
 
-  pub propagates : (r : Propagated) (sets′ ws′ os′ : List ℕ) → Propagates (propagateNonNull doneNeighbours (graphIn g) (registryOf ws) (rowsOf sets (sizeIn g))) (sizeIn g) r sets′ ws′ os′
-      → Propagates (propagated doneNeighbours bs) n r sets′ ws′ os′
-  propagates r sets′ ws′ os′ h =
-      subst (λ m. Propagates (propagated doneNeighbours bs) m r sets′ ws′ os′) size-same (subst (λ (w : Rounds Work). Propagates w (sizeIn g) r sets′ ws′ os′) want-same h)
+  pub propagates : (rule : JoiningRule) (r : Propagated) (sets′ ws′ os′ : List ℕ) → Propagates (propagateNonNull rule (graphIn g) (registryOf ws) (rowsOf sets (sizeIn g))) (sizeIn g) r sets′ ws′ os′
+      → Propagates (propagated rule bs) n r sets′ ws′ os′
+  propagates rule r sets′ ws′ os′ h =
+      subst (λ m. Propagates (propagated rule bs) m r sets′ ws′ os′) size-same (subst (λ (w : Rounds Work). Propagates w (sizeIn g) r sets′ ws′ os′) (want-same rule) h)
 
 -- the answer of `enter_blocks` by its case
 module _ (want : Started) (n : ℕ) (r : Entered) (ws os sets : List ℕ) (h : Starts want n r ws os sets) where
@@ -81,5 +81,5 @@ module _ {s ids places : List ℕ} {n : ℕ} (noted : NotedJob s ids places n) w
   pub blocks-count : length (blocksOf s) ≡ n
   blocks-count = ap length (blocks-read (noted .job) (noted .blocks)) ∙ noted .blocks .count
 
-  pub job-propagated : (r : Propagated) (sets ws os : List ℕ) → Propagates (propagated doneNeighbours (blocksOf s)) n r sets ws os → Propagates (propagated doneNeighbours (noted .job .blocks)) n r sets ws os
-  job-propagated r sets ws os = subst (λ (bs : List Block). Propagates (propagated doneNeighbours bs) n r sets ws os) (blocks-read (noted .job) (noted .blocks))
+  pub job-propagated : (rule : JoiningRule) (r : Propagated) (sets ws os : List ℕ) → Propagates (propagated rule (blocksOf s)) n r sets ws os → Propagates (propagated rule (noted .job .blocks)) n r sets ws os
+  job-propagated rule r sets ws os = subst (λ (bs : List Block). Propagates (propagated rule bs) n r sets ws os) (blocks-read (noted .job) (noted .blocks))

@@ -28,8 +28,8 @@ use Rattle.writer.proofs.Bytes.{writes-as}
 use Rattle.job.specs.Kept.{BlocksAt, headOf}
 use Rattle.job.specs.declared.JobHead.{JobHead}
 use Rattle.job.proofs.BlocksAt.{job-accepted, same-job}
-use Rattle.safety.specs.Lists.{Member, neither}
-use Rattle.safety.specs.GraphLaws.{contains-member, place-known}
+use Rattle.laws.specs.Membership.{Member, neither}
+use Rattle.laws.specs.GraphLaws.{contains-member, place-known}
 use Rattle.edges.specs.Rows.{idsNoted, placeAmong}
 use Rattle.edges.proofs.Jobs.{place-is}
 use Rattle.propagation.specs.declared.Run.{Run}

@@ -11,7 +11,7 @@ use Rattle.model.specs.Job.{HD, Job, idsOf, readJob}
 use Rattle.model.specs.RegistryLaws.{Sound}
 use Rattle.model.specs.ReductionLaws.{Members}
 use Rattle.model.specs.Rounds.{Rounds}
-use Rattle.model.specs.Propagation.{Work, doneNeighbours}
+use Rattle.model.specs.Propagation.{Work, JoiningRule}
 use Rattle.model.specs.Stage.{propagated}
 use Rattle.model.specs.Answer.{Verdict, writes, turnsBack, onJob, verdict, spanWidth, longestJob, answerBytes, sheetBytes, bufferAfter}
 use Rattle.rows.specs.Rows.{rowsOf}
@@ -55,15 +55,15 @@ pub record Meets (v : Verdict) (r : Outcome) (before after : List ℕ) : Type 0 
   pub outcome : r ≡ outcomeOf v
   pub buffer : after ≡ bufferAfter v before
 
--- The verdict of an operation on any bytes and any buffer (`answerOf`, `sheetOf`).
-unfoldable pub verdictOf : Operation → List ℕ → List ℕ → Verdict
+-- The verdict of an operation under a joining rule, on any bytes and any buffer (`answerOf`, `sheetOf`).
+unfoldable pub verdictOf : JoiningRule → Operation → List ℕ → List ℕ → Verdict
 unfolding verdict
-verdictOf op s out = verdict doneNeighbours (operationBytes op) s out
+verdictOf rule op s out = verdict HD spanWidth rule (operationBytes op) s out
 
 -- 3 to 9: the verdict where 1 and 2 turn nothing back.
-unfoldable pub jobVerdict : Operation → List ℕ → Verdict
+unfoldable pub jobVerdict : JoiningRule → Operation → List ℕ → Verdict
 unfolding readJob propagated
-jobVerdict op s = onJob doneNeighbours (operationBytes op spanWidth) (readJob HD spanWidth s)
+jobVerdict rule op s = onJob rule (operationBytes op spanWidth) (readJob HD spanWidth s)
 
 -- What the reader kept of a job that it accepted.
 pub record AcceptedJob (s ids places : List ℕ) (head : JobHead) : Type 0 where
@@ -78,9 +78,9 @@ pub record Standing (n : ℕ) (sets ws : List ℕ) : Type 0 where
   pub sound : Sound (registryOf ws)
   pub members : All (Members (registryOf ws)) (rowsOf sets n)
 
--- The job that is read is propagated.
-abbrev pub PropagatesJob : List ℕ → ℕ → Propagated → List ℕ → List ℕ → List ℕ → Type 0
-PropagatesJob s n r sets ws os = Propagates (propagated doneNeighbours (blocksOf s)) n r sets ws os
+-- The job that is read is propagated, under a joining rule.
+abbrev pub PropagatesJob : JoiningRule → List ℕ → ℕ → Propagated → List ℕ → List ℕ → List ℕ → Type 0
+PropagatesJob rule s n r sets ws os = Propagates (propagated rule (blocksOf s)) n r sets ws os
 
 -- The operation's bytes of the job that is read, where its propagation left these words after this run, stand in the buffer from its start on, and have
 -- their room there.

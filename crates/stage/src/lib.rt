@@ -7,6 +7,7 @@ ghost use Rattle.rows.specs.Rows.{Lent};
 ghost use Rattle.registry.specs.Words.{HoldsNone};
 ghost use Rattle.stage.specs.declared.Operation.the-variants.{Answer};
 ghost use Rattle.edges.specs.Fills.{NotedJob};
+ghost use Rattle.model.specs.Propagation.{doneNeighbours};
 ghost use Rattle.stage.specs.Jobs.{AcceptedJob, Standing, PropagatesJob, PutsJob, verdictOf, jobVerdict, Meets, FitsNumber, outcomeNumber};
 use entries::Refusal;
 use job::JobHead;
@@ -37,7 +38,7 @@ fn propagate(
     sets: &mut [u64; 1024],
 ) -> Propagated
     requires { ⌜ NotedJob (now s) (now ids) (now places) blocks × HoldsNone (now ws) (now optional) × Lent (now sets) ⌝ }
-    ensures { λ r. ⌜ PropagatesJob (now (s .entry)) blocks r (now (sets .exit)) (now (ws .exit)) (now (optional .exit)) ⌝ }
+    ensures { λ r. ⌜ PropagatesJob doneNeighbours (now (s .entry)) blocks r (now (sets .exit)) (now (ws .exit)) (now (optional .exit)) ⌝ }
 {
     let entered = assumed::enter_blocks(s, places, blocks, ws, optional, sets);
     let assumed::Entered::All = entered else {
@@ -116,7 +117,7 @@ fn perform_read(
     out: &mut [u8],
 ) -> Outcome
     requires { ⌜ AcceptedJob (now s) (now ids) (now places) head × (leastBuffer ≤ length (now out)) ⌝ }
-    ensures { λ r. ⌜ Meets (jobVerdict operation (now (s .entry))) r (now (out .entry)) (now (out .exit)) ⌝ }
+    ensures { λ r. ⌜ Meets (jobVerdict doneNeighbours operation (now (s .entry))) r (now (out .entry)) (now (out .exit)) ⌝ }
 {
     let mut ws = [0u64; 1665];
     let mut optional = [0u64; 8];
@@ -139,7 +140,7 @@ fn perform_read(
 
 // The operation on any bytes and any buffer.
 pub fn perform(operation: Operation, s: &[u8], out: &mut [u8]) -> Outcome
-    ensures { λ r. ⌜ Meets (verdictOf operation (now (s .entry)) (now (out .entry))) r (now (out .entry)) (now (out .exit)) ⌝ }
+    ensures { λ r. ⌜ Meets (verdictOf doneNeighbours operation (now (s .entry)) (now (out .entry))) r (now (out .entry)) (now (out .exit)) ⌝ }
 {
     if out.len() < 24576 {
         return Outcome::Refused(Refusal::ShortBuffer);

@@ -31,10 +31,10 @@ pub others-lower : (c r n : ℕ) → cond (leb (suc c) r) r (suc c) ≤ n → r 
 others-lower c r n h = decide (leb (suc c) r) (λ e. let l = rw e at h in omega arith) (λ e. let l = rw e at h in omega (arith, leb-false (suc c) r e))
 
 module _ {P : Type 0} (key : P → Key) (merge : P → P → P) where
-  chain-height : (ss : List P) (n : ℕ) → length ss ≤ n → height (chain key merge ss) ≤ n
+  chain-height : (ss : List P) (n : ℕ) → length ss ≤ n → height (chain ss) ≤ n
   chain-height [] n h = omega arith
   chain-height (s ∷ ss) zero h = absurd (omega arith)
-  chain-height (s ∷ ss) (suc n) h = let l = chain-height ss n (omega arith) in taller (height (chain key merge ss)) 0 (suc n) (omega arith) (omega arith)
+  chain-height (s ∷ ss) (suc n) h = let l = chain-height ss n (omega arith) in taller (height (chain ss)) 0 (suc n) (omega arith) (omega arith)
 
   add-height : (f : Forest P) (ss : List P) (n : ℕ) → height f ≤ n → length ss ≤ n → height (add key merge f ss) ≤ n
   add-height empty ss n h k = chain-height ss n k

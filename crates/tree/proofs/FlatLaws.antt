@@ -34,7 +34,7 @@ module _ {P : Type 0} (key : P → Key) (merge : P → P → P) where
   add-nil empty = refl
   add-nil (position n c r) = refl
 
-  grow-fresh : (i p : ℕ) (ss : List P) → p ≤ i → grow (fresh i p ss) i p ≡ chain key merge ss
+  grow-fresh : (i p : ℕ) (ss : List P) → p ≤ i → grow (fresh i p ss) i p ≡ chain ss
   grow-fresh i p [] h = refl
   grow-fresh i p (s ∷ ss) h =
       rw (eqb-same p, grow-fresh (suc i) (suc i) ss (omega arith), fresh-frame (suc i) p (suc i) ss (omega arith) (λ e. omega arith))

@@ -9,11 +9,9 @@ use mathlib.Core.List.{List, [], _∷_, _++_}
 use lib.ListN.{length, set, length-append}
 use lib.Seq.{sets, length-sets}
 use Rattle.entries.specs.declared.IdentifierId.{IdentifierId}
-use Rattle.entries.specs.declared.PropertyLiteral.{PropertyLiteral}
-use Rattle.entries.specs.declared.PropertyLiteral.the-variants.{String, Number}
 use Rattle.entries.specs.declared.DependencyPathEntry.{DependencyPathEntry}
 use Rattle.entries.specs.Property.{isNumber, valueOf}
-use Rattle.model.specs.Answer.{numberBytes, flag, kindOf, stepBytes, entryBytes}
+use Rattle.model.specs.Answer.{numberBytes, flag, stepBytes, entryBytes}
 use Rattle.writer.specs.Writes.{Writes, pathHeadBytes}
 
 pub number-length : (bytes x : ℕ) → length (numberBytes bytes x) ≡ bytes
@@ -56,18 +54,14 @@ room-after n k x e h = let l = writes-length x in let f = x .ends in omega arith
 pub writes-as : {a b : List ℕ} {at m : ℕ} {xs ys : List ℕ} → xs ≡ ys → Writes a b at xs m → Writes a b at ys m
 writes-as {a} {b} {at} {m} e x = subst (λ (l : List ℕ). Writes a b at l m) e x
 
-kind-flag : (p : PropertyLiteral) → flag (isNumber p) ≡ kindOf p
-kind-flag (String v) = refl
-kind-flag (Number v) = refl
-
 -- the three numbers of an entry, as the code has them
 pub step-bytes : (e : DependencyPathEntry) (o n v : ℕ) → o ≡ flag (e .optional) → n ≡ flag (isNumber (e .property)) → v ≡ valueOf (e .property) → numberBytes 1 o ++ numberBytes 1 n ++ numberBytes 8 v ≡ stepBytes e
-step-bytes e o n v eo en ev = rw (eo, en, ev, kind-flag (e .property))
+step-bytes e o n v eo en ev = rw (eo, en, ev)
 
 pub step-length : (e : DependencyPathEntry) → length (stepBytes e) ≡ 10
 step-length e =
-    length-append (numberBytes 1 (flag (e .optional)) ++ numberBytes 1 (kindOf (e .property))) (numberBytes 8 (valueOf (e .property)))
-    ∙ rw (length-append (numberBytes 1 (flag (e .optional))) (numberBytes 1 (kindOf (e .property))), number-length 1 (flag (e .optional)), number-length 1 (kindOf (e .property)), number-length 8 (valueOf (e .property)))
+    length-append (numberBytes 1 (flag (e .optional)) ++ numberBytes 1 (flag (isNumber (e .property)))) (numberBytes 8 (valueOf (e .property)))
+    ∙ rw (length-append (numberBytes 1 (flag (e .optional))) (numberBytes 1 (flag (isNumber (e .property)))), number-length 1 (flag (e .optional)), number-length 1 (flag (isNumber (e .property))), number-length 8 (valueOf (e .property)))
 
 pub entry-length : (e : DependencyPathEntry) → length (entryBytes 4 e) ≡ 14
 entry-length e = length-append (stepBytes e) (numberBytes 4 (e .span)) ∙ rw (step-length e, number-length 4 (e .span))

@@ -3,6 +3,7 @@
 use native.Mathlib.Omega.{arith}
 use mathlib.Core.Path.{refl, sym, _∙_}
 use borrow.Author.Needs.{needs}
+use Rattle.model.specs.Propagation.{doneNeighbours}
 use Rattle.propagation.proofs.Joining.{Made, join-members, join-known, join-still, join-full, join-holds}
 use Rattle.propagation.proofs.join.Statement.{statement}
 use Rattle.propagation.proofs.join.Tie as tie
@@ -14,7 +15,7 @@ abbrev reduced : tie.After-reduce-maybe-optional-chains → tie.After-union
 reduced r = r .before .before .before .before
 
 made : (u : tie.After-union) → let a = entry u .args in
-    Made (a .graph .now) (a .backward) (a .b) (a .marks .now) (a .sets .now) (a .ws .now) (a .optional .now) (u .before .before .before .row .result .words) (u .before .intersection-of-done .result .words) (u .union .result .words)
+    Made doneNeighbours (a .graph .now) (a .backward) (a .b) (a .marks .now) (a .sets .now) (a .ws .now) (a .optional .now) (u .before .before .before .row .result .words) (u .before .intersection-of-done .result .words) (u .union .result .words)
 made u = record { ready = entry u .pre .0; inside = entry u .pre .2; own-is = u .before .before .before .row .ensures; found-is = u .before .intersection-of-done .ensures; all-is = u .union .ensures }
 
 row-requires : tie.Need-row-requires

@@ -1,5 +1,6 @@
 -- `leave` meets its contract: what the join leaves, with the block's mark stored.
 use native.Mathlib.Omega.{arith}
+use Rattle.model.specs.Propagation.{doneNeighbours}
 use Rattle.propagation.proofs.Joining.{leaves}
 use Rattle.propagation.proofs.leave.Statement.{statement}
 use Rattle.propagation.proofs.leave.Tie as tie
@@ -15,7 +16,7 @@ returns c =
     let s = c .before .before .before .before .before in
     let a = s .args in
     let j = c .join in
-    leaves (a .graph .now) (a .backward) (a .b) (a .marks .now) (a .sets .now) (a .ws .now) (a .changed) (j .result) _ _ _ (s .pre .2) (s .pre .3) (j .ensures)
+    leaves doneNeighbours (a .graph .now) (a .backward) (a .b) (a .marks .now) (a .sets .now) (a .ws .now) (a .changed) (j .result) _ _ _ (s .pre .2) (s .pre .3) (j .ensures)
 
 pub leave-spec : {M : Type 1} → statement M
 leave-spec = tie.close (tie.spec join-requires element-write-marks returns)

@@ -13,7 +13,7 @@ use Rattle.propagation.proofs.propagate_non_null.Tie as tie
 
 abbrev Inv-loop : tie.InvT-loop
 Inv-loop graph sets₀ ws₀ optional₀ marks₀ rounds₀ sets ws optional marks rounds =
-    Rounding graph (propagateNonNull doneNeighbours (graphIn graph) (registryOf ws₀) (rowsOf sets₀ (sizeIn graph))) sets ws optional rounds
+    Rounding doneNeighbours graph (propagateNonNull doneNeighbours (graphIn graph) (registryOf ws₀) (rowsOf sets₀ (sizeIn graph))) sets ws optional rounds
 
 abbrev μ-loop : tie.MeasureT-loop
 μ-loop graph sets₀ ws₀ optional₀ marks₀ rounds₀ sets ws optional marks rounds = 100 - rounds
@@ -22,7 +22,7 @@ abbrev to-round : tie.After-round-arg3 Inv-loop μ-loop → tie.In-loop Inv-loop
 to-round a = a .before .before .before .before
 
 loop-holds : tie.Need-loop-holds Inv-loop μ-loop
-loop-holds c = let a = c .args in rounds-start (a .graph .now) (a .sets .now) (a .ws .now) (a .optional .now) (c .pre .stands)
+loop-holds c = let a = c .args in rounds-start doneNeighbours (a .graph .now) (a .sets .now) (a .ws .now) (a .optional .now) (c .pre .stands)
 
 round-requires : tie.Need-round-requires Inv-loop μ-loop
 round-requires c κs = let l = to-round c .before in (record { fits = l .before .pre .fits; stands = l .loop .inv .stands }, l .loop .inv .before)

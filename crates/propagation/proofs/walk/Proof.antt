@@ -4,6 +4,7 @@ use Prim.Native.Nat.{_+_, _-_, _<_}
 use native.Mathlib.Omega.{arith}
 use mathlib.Core.List.{_∷_}
 use borrow.Author.Needs.{needs}
+use Rattle.model.specs.Propagation.{doneNeighbours}
 use Rattle.graph.specs.Bytes.{sizeIn}
 use Rattle.propagation.specs.Joins.{workOf}
 use Rattle.propagation.proofs.Along.{Along, along-by, along-marked, along-more, along-full}
@@ -13,7 +14,7 @@ use Rattle.propagation.proofs.walk.Tie as tie
 
 abbrev Inv-loop : tie.InvT-loop
 Inv-loop graph backward marks₀ sets₀ ws₀ optional₀ later changed n so-far₀ i₀ marks sets ws optional so-far i =
-    Along graph backward later (orderFrom backward n i) (walkEnd graph backward (workOf (sizeIn graph) sets₀ ws₀ so-far₀)) marks sets ws optional so-far
+    Along doneNeighbours graph backward later (orderFrom backward n i) (walkEnd doneNeighbours graph backward (workOf (sizeIn graph) sets₀ ws₀ so-far₀)) marks sets ws optional so-far
 
 abbrev μ-loop : tie.MeasureT-loop
 μ-loop graph backward marks₀ sets₀ ws₀ optional₀ later changed n so-far₀ i₀ marks sets ws optional so-far i = n - i
@@ -31,8 +32,8 @@ of-visit a = to-visit a .before .before
 
 -- the block that is visited next is the first of those to come
 next : (o : tie.After-in-order Inv-loop μ-loop) → let l = o .before .before in let a = entry l .args in
-    Along (a .graph .now) (a .backward) (a .later) (o .in-order .result ∷ orderFrom (a .backward) (l .before .before .size .result) (l .loop .i + 1))
-    (walkEnd (a .graph .now) (a .backward) (workOf (sizeIn (a .graph .now)) (a .sets .now) (a .ws .now) (a .changed)))
+    Along doneNeighbours (a .graph .now) (a .backward) (a .later) (o .in-order .result ∷ orderFrom (a .backward) (l .before .before .size .result) (l .loop .i + 1))
+    (walkEnd doneNeighbours (a .graph .now) (a .backward) (workOf (sizeIn (a .graph .now)) (a .sets .now) (a .ws .now) (a .changed)))
     (l .loop .marks) (l .loop .sets) (l .loop .ws) (l .loop .optional) (l .loop .so-far)
 next o = let l = o .before .before in walk-next (l .before .before .size .result) (l .loop .i) (l .loop .inv) (o .before .loop-test .taken) (o .in-order .ensures .0)
 
@@ -41,7 +42,7 @@ inside : (o : tie.After-in-order Inv-loop μ-loop) → o .in-order .result < siz
 inside o = let below = o .in-order .ensures .1 in let n = o .before .before .before .before .size .ensures in omega arith
 
 loop-holds : tie.Need-loop-holds Inv-loop μ-loop
-loop-holds c = let s = c .before .before in walk-start (s .pre .0) (s .args .backward) (s .args .later) (s .pre .1) (c .before .size .result) (c .before .size .ensures) (s .args .changed)
+loop-holds c = let s = c .before .before in walk-start doneNeighbours (s .pre .0) (s .args .backward) (s .args .later) (s .pre .1) (c .before .size .result) (c .before .size .ensures) (s .args .changed)
 
 element-copy-out-if1 : tie.Need-element-copy-out-if1 Inv-loop μ-loop
 element-copy-out-if1 c = let few = entry (c .before .before) .pre .0 .fits .size in let here = inside c in omega arith
@@ -56,7 +57,7 @@ returns : tie.Need-returns Inv-loop μ-loop
 returns c =
     let v = c .before .before in
     let o = of-visit (v .before) in
-    walk-full _ _ _ (along-full (next o) (v .visit .result) _ _ _ _ (v .visit .ensures) (c .enum-told .given .1))
+    walk-full _ _ _ _ (along-full (next o) (v .visit .result) _ _ _ _ (v .visit .ensures) (c .enum-told .given .1))
 
 loop-again : tie.Need-loop-again Inv-loop μ-loop
 loop-again c =
@@ -70,7 +71,7 @@ loop-again-2 c = let o = c .before .before in along-marked (next o) (inside o) (
 returns-2 : tie.Need-returns-2 Inv-loop μ-loop
 returns-2 c =
     let l = c .before in
-    walk-end _ _ _ (along-by (order-end (entry l .args .backward) (l .before .before .size .result) (l .loop .i) (c .loop-test .left)) (l .loop .inv))
+    walk-end _ _ _ _ (along-by (order-end (entry l .args .backward) (l .before .before .size .result) (l .loop .i) (c .loop-test .left)) (l .loop .inv))
 
 pub walk-spec : {M : Type 1} → statement M
 walk-spec =

@@ -30,7 +30,7 @@ returns : tie.Need-returns Inv-loop μ-loop
 returns c =
     let p = c .before in
     let t = p .before .before .before in
-    repeating-full (t .before .loop .inv .0) (t .loop-test .taken) (p .pass .result) (p .pass .last .0) (p .pass .last .1 .0) (c .if1 .taken) (p .pass .ensures)
+    repeating-full (t .before .loop .inv .0) (t .loop-test .taken) (p .pass .result) (p .pass .last .0) (p .pass .last .1 .0) (c .if1 .taken) (p .pass .ensures) (t .before .before .args .before)
 
 returns-2 : tie.Need-returns-2 Inv-loop μ-loop
 returns-2 c =
@@ -57,7 +57,7 @@ loop-again c =
     )
 
 returns-3 : tie.Need-returns-3 Inv-loop μ-loop
-returns-3 c = repeating-end (c .before .loop .inv .0) (c .loop-test .left)
+returns-3 c = let l = c .before in repeating-end (l .before .loop .inv .0) (l .loop-test .left)
 
 pub reduce-maybe-optional-chains-spec : {M : Type 1} → statement M
 reduce-maybe-optional-chains-spec = tie.close (tie.spec Inv-loop μ-loop loop-holds pass-requires returns (λ c κs. search needs) returns-2 loop-less loop-again returns-3)

@@ -2,12 +2,13 @@
 use lib.ListN.{length-replicate}
 use Prim.Native.Nat.{ℕ}
 use borrow.Author.Needs.{needs}
+use Rattle.model.specs.Propagation.{doneNeighbours}
 use Rattle.stage.proofs.Propagating.{full-start, ready, propagates, entered-all, entered-full, blocks-count}
 use Rattle.stage.proofs.propagate.Statement.{statement}
 use Rattle.stage.proofs.propagate.Tie as tie
 
 returns : tie.Need-returns
-returns c = let e = c .before .before in full-start _ (entered-full _ _ _ _ _ _ (e .enter-blocks .ensures) (c .enum-told2 .given .1))
+returns c = let e = c .before .before in full-start _ _ (entered-full _ _ _ _ _ _ (e .enter-blocks .ensures) (c .enum-told2 .given .1))
 
 enter-blocks-requires : tie.Need-enter-blocks-requires
 enter-blocks-requires c κs =
@@ -33,7 +34,7 @@ returns-2 c =
     let t = f .before .before in
     let e = t .before .before in
     let a = e .before .before .before .before .before in
-    propagates (blocks-count (a .pre .0)) (entered-all _ _ _ _ _ _ (e .enter-blocks .ensures) (t .enum-told .given .1)) (f .fill-graph .ensures) (r .result) (r .last .1 .0) (r .last .1 .1 .0) (r .last .1 .1 .1 .0) (r .ensures)
+    propagates (blocks-count (a .pre .0)) (entered-all _ _ _ _ _ _ (e .enter-blocks .ensures) (t .enum-told .given .1)) (f .fill-graph .ensures) doneNeighbours (r .result) (r .last .1 .0) (r .last .1 .1 .0) (r .last .1 .1 .1 .0) (r .ensures)
 
 pub propagate-spec : {M : Type 1} → statement M
 propagate-spec =

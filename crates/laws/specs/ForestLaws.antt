@@ -10,8 +10,8 @@ use Rattle.model.specs.Tests.{by-cond, decide, never, eqb-same, eqb-true}
 use Rattle.model.specs.ListLaws.{All, all-map, all-append}
 use Rattle.model.specs.RegistryLaws.{property-same, property-true}
 use Rattle.model.specs.Forest.{Key, identifierKey, propertyKey, sameKey, Forest, empty, position, chain, add, addAll, firsts}
-use Rattle.safety.specs.Lists.{all-of-map}
-use Rattle.safety.specs.CountLaws.{count-append, count-none, count-map}
+use Rattle.laws.specs.Membership.{all-of-map}
+use Rattle.laws.specs.CountLaws.{count-append, count-none, count-map}
 
 -- Keys.
 
@@ -146,7 +146,7 @@ module _ {P : Type 0} (key : P → Key) where
     apart-add k (position n c r) s ss a e =
         by-cond (Apart k) (sameKey (key n) (key s)) (λ _. (rw key-merge (a .0), a .1)) (λ _. (a .0, apart-add k r s ss (a .1) e))
 
-    distinct-chain : (ss : List P) → Distinct (chain key merge ss)
+    distinct-chain : (ss : List P) → Distinct (chain ss)
     distinct-chain [] = tt
     distinct-chain (s ∷ ss) = (tt, distinct-chain ss, tt)
 
@@ -161,7 +161,7 @@ module _ {P : Type 0} (key : P → Key) where
     distinct-addAll f [] d = d
     distinct-addAll f (w ∷ ws) d = distinct-addAll (add key merge f w) ws (distinct-add f w d)
 
-    within-chain : (ss : List P) (W : List Key → Type 0) → Beginnings (map key ss) W → Within (chain key merge ss) W
+    within-chain : (ss : List P) (W : List Key → Type 0) → Beginnings (map key ss) W → Within (chain ss) W
     within-chain [] W h = tt
     within-chain (s ∷ ss) W h = (h .0, within-chain ss (λ ks. W (key s ∷ ks)) (h .1), tt)
 
@@ -188,7 +188,7 @@ module _ {P : Type 0} (key : P → Key) where
           (λ _. rw (key-merge, test-merge) (cond-onto (sameKey (key n) k) (λ g. or-add (test n) (test s) _ (or-onto (test n) _ _ (covered-add c ss ks) g)) (λ g. g) h))
           (λ _. cond-onto (sameKey (key n) k) (λ g. g) (covered-add r (s ∷ ss) (k ∷ ks)) h)
 
-      covered-chain : (ss : List P) (ks : List Key) → anyOf test ss ≡ true → covered test (chain key merge ss) (map key ss ++ ks) ≡ true
+      covered-chain : (ss : List P) (ks : List Key) → anyOf test ss ≡ true → covered test (chain ss) (map key ss ++ ks) ≡ true
       covered-chain [] ks t = never t refl
       covered-chain (s ∷ ss) ks t = rw key-same (or-onto (test s) _ _ (covered-chain ss ks) t)
 
@@ -232,7 +232,7 @@ module _ {P B : Type 0} (key : P → Key) (next : B → Key → B) (W : B → P 
       (firsts-along test b r (h .2))
 
   module _ (merge : P → P → P) (key-merge : (a b : P) → key (merge a b) ≡ key a) (merges : (b : B) (n s : P) → W b n → W b s → W b (merge n s)) where
-    along-chain : (b : B) (ss : List P) → WayAlong b ss → Along b (chain key merge ss)
+    along-chain : (b : B) (ss : List P) → WayAlong b ss → Along b (chain ss)
     along-chain b [] h = tt
     along-chain b (s ∷ ss) h = (h .0, along-chain (next b (key s)) ss (h .1), tt)
 

@@ -6,7 +6,7 @@ use lib.Dec.{eqb}
 use Rattle.model.specs.Tests.{decide, eqb-true, eqb-false}
 use Rattle.model.specs.ListLaws.{All, all-map}
 use Rattle.model.specs.Rounds.{placesFrom, jobOrder}
-use Rattle.safety.specs.Lists.{Member}
+use Rattle.laws.specs.Membership.{Member}
 
 places-below : (k n : ℕ) → All (λ b. b < k + n) (placesFrom k n)
 unfolding placesFrom

@@ -17,10 +17,9 @@ use Rattle.model.specs.Rounds.{jobOrder}
 use Rattle.model.specs.Propagation.{Graph}
 use Rattle.model.specs.Job.{Block, Job, sameBlock, containsId, repeats, idsOf, hasRepeat, hasUnknown}
 use Rattle.model.specs.Stage.{blockAt, placeOf, predecessorsOf, insertById, sortById, byAscendingId, successorsOf, graphOf}
-use Rattle.safety.specs.Lists.{Some, Member, neither, all-at, all-of, some-map, some-of, some-both, some-select, all-chosen, select-none, any-some, some-any, none-any, member-getD, all-of-map, some-of-map, some-unmap}
-use Rattle.safety.specs.Runs.{Precedes}
-use Rattle.safety.specs.VisitOrder.{Reach, one, more}
-use Rattle.safety.specs.Places.{order-below, order-member}
+use Rattle.laws.specs.Membership.{Some, Member, neither, all-at, all-of, some-map, some-of, some-both, some-select, all-chosen, select-none, any-some, some-any, none-any, member-getD, all-of-map, some-of-map, some-unmap}
+use Rattle.laws.specs.VisitOrder.{Reach, one, more}
+use Rattle.laws.specs.Places.{order-below, order-member}
 
 -- Ids.
 
@@ -136,7 +135,7 @@ module _ (bs : List Block) (ok : ProperBlocks bs) where
       (all-map (λ i. Member i (idsOf bs)) (λ i. placeOf bs i < length bs) (λ i m. place-known bs i m .0) (blockAt bs b .predecessors) (known-at b))
 
   -- an edge of the graph is one of the job ..
-  pub predecessor-precedes : (c b : ℕ) → Member c (predecessorsOf bs b) → Precedes (blockAt bs c) (blockAt bs b)
+  pub predecessor-precedes : (c b : ℕ) → Member c (predecessorsOf bs b) → Member (blockAt bs c .id) (blockAt bs b .predecessors)
   unfolding predecessorsOf
   predecessor-precedes c b m =
       some-map (λ i. (Member i (idsOf bs)) × (placeOf bs i ≡ c)) (λ i. i ≡ blockAt bs c .id)
@@ -147,7 +146,7 @@ module _ (bs : List Block) (ok : ProperBlocks bs) where
   predecessor-block c b m = names-inside bs b (λ i. i ≡ blockAt bs c .id) (predecessor-precedes c b m)
 
   -- .. and the other way round
-  pub precedes-predecessor : (a : Block) (b : ℕ) → Member a bs → Precedes a (blockAt bs b) → Member (placeOf bs (a .id)) (predecessorsOf bs b)
+  pub precedes-predecessor : (a : Block) (b : ℕ) → Member a bs → Member (a .id) (blockAt bs b .predecessors) → Member (placeOf bs (a .id)) (predecessorsOf bs b)
   unfolding predecessorsOf
   precedes-predecessor a b m p = some-of-map (λ k. k ≡ placeOf bs (a .id)) (placeOf bs) (blockAt bs b .predecessors) (some-map (λ i. i ≡ a .id) (λ i. placeOf bs i ≡ placeOf bs (a .id)) (λ i e. ap (placeOf bs) e) (blockAt bs b .predecessors) p)
 
@@ -158,21 +157,21 @@ module _ (bs : List Block) (ok : ProperBlocks bs) where
       all-select (λ c. c < length bs) (λ c. containsId (blockAt bs c .predecessors) (blockAt bs b .id)) (byAscendingId bs)
       (sort-all (λ c. c < length bs) bs (jobOrder (length bs)) (order-below (length bs)))
 
-  pub successor-precedes : (b c : ℕ) → Member c (successorsOf bs b) → Precedes (blockAt bs b) (blockAt bs c)
+  pub successor-precedes : (b c : ℕ) → Member c (successorsOf bs b) → Member (blockAt bs b .id) (blockAt bs c .predecessors)
   unfolding successorsOf
   successor-precedes b c m =
       contains-member (blockAt bs c .predecessors) (blockAt bs b .id)
       (all-at (λ k. containsId (blockAt bs k .predecessors) (blockAt bs b .id) ≡ true) (successorsOf bs b) c
       (all-chosen (λ k. containsId (blockAt bs k .predecessors) (blockAt bs b .id) ≡ true) (λ k. containsId (blockAt bs k .predecessors) (blockAt bs b .id)) (byAscendingId bs) (all-of _ (byAscendingId bs) (λ k n t. t))) m)
 
-  pub precedes-successor : (b : ℕ) (P : ℕ → Type 0) (c : ℕ) → c < length bs → P c → Precedes (blockAt bs b) (blockAt bs c) → Some P (successorsOf bs b)
+  pub precedes-successor : (b : ℕ) (P : ℕ → Type 0) (c : ℕ) → c < length bs → P c → Member (blockAt bs b .id) (blockAt bs c .predecessors) → Some P (successorsOf bs b)
   unfolding successorsOf byAscendingId
   precedes-successor b P c h p n =
       some-select P (λ k. containsId (blockAt bs k .predecessors) (blockAt bs b .id)) (byAscendingId bs)
       (sort-some (λ k. (containsId (blockAt bs k .predecessors) (blockAt bs b .id) ≡ true) × P k) bs (jobOrder (length bs))
       (some-of (λ k. (containsId (blockAt bs k .predecessors) (blockAt bs b .id) ≡ true) × P k) (jobOrder (length bs)) c (member-contains (blockAt bs c .predecessors) (blockAt bs b .id) n, p) (order-member (length bs) c h)))
 
-  pub no-successor : (b : ℕ) → All (λ c. Precedes (blockAt bs b) c → ⊥) bs → successorsOf bs b ≡ []
+  pub no-successor : (b : ℕ) → All (λ c. Member (blockAt bs b .id) (c .predecessors) → ⊥) bs → successorsOf bs b ≡ []
   unfolding successorsOf byAscendingId
   no-successor b none =
       select-none (λ k. containsId (blockAt bs k .predecessors) (blockAt bs b .id)) (byAscendingId bs)
@@ -181,7 +180,7 @@ module _ (bs : List Block) (ok : ProperBlocks bs) where
       apart : (k : ℕ) → k < length bs → containsId (blockAt bs k .predecessors) (blockAt bs b .id) ≡ false
       apart k h =
           decide (containsId (blockAt bs k .predecessors) (blockAt bs b .id))
-          (λ e. absurd (all-at (λ c. Precedes (blockAt bs b) c → ⊥) bs (blockAt bs k) none (member-getD bs k _ h) (contains-member (blockAt bs k .predecessors) (blockAt bs b .id) e)))
+          (λ e. absurd (all-at (λ c. Member (blockAt bs b .id) (c .predecessors) → ⊥) bs (blockAt bs k) none (member-getD bs k _ h) (contains-member (blockAt bs k .predecessors) (blockAt bs b .id) e)))
           (λ e. e)
 
   -- Going on by successors from a block of the job is going back by predecessors.

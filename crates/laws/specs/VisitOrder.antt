@@ -14,7 +14,7 @@ use Rattle.model.specs.Rounds.{walk}
 use Rattle.model.specs.Tests.{decide, never, eqb-true, eqb-false}
 use Rattle.model.specs.ListLaws.{All, all-map}
 use Rattle.model.specs.VisitLaws.{unmarked-enter, visit-marks, visit-recurs}
-use Rattle.safety.specs.Lists.{Member, all-of}
+use Rattle.laws.specs.Membership.{Member, all-of}
 
 -- a block reached by one step or more
 pub data Reach (near : ℕ → List ℕ) : ℕ → ℕ → Type 0 where
@@ -90,7 +90,6 @@ module _ {W : Type 0} (P : W → Type 0) (n : ℕ) (near : ℕ → List ℕ) (jo
 
   each-orders : (k : ℕ) → Orders k → (bs : List ℕ) (v : Visited W) → unmarkedIn (v .marks) ≤ k → length (v .marks) ≡ n → All (λ b. b < n) bs → P (v .work) → All (Above v) bs
       → Ordered v (each (visit near join) bs v) × All (IsDone (each (visit near join) bs v .marks)) bs
-  unfolding each
   each-orders k orders [] v u h i p a = (ordered-refl v p h, tt)
   each-orders k orders (b ∷ bs) v u h i p a =
       let first = orders b v u h (i .0) p (a .0) in

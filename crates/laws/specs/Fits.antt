@@ -14,6 +14,10 @@ use Rattle.entries.specs.declared.PropertyLiteral.the-variants.{String, Number}
 use Rattle.entries.specs.declared.DependencyPathEntry.{DependencyPathEntry}
 use Rattle.entries.specs.Path.{ReactiveScopeDependency, sameProperty, prefixOfNames, prefixOf}
 use Rattle.model.specs.Lists.{anyOf}
+use Rattle.model.specs.RoundsLaws.{rounds-most}
+use Rattle.model.specs.Reduction.{reduceMaybeOptionalChains}
+use Rattle.model.specs.Propagation.{JoiningRule, hasChanged, roundStart, round, propagateWith, propagateNonNull}
+use Rattle.model.specs.Stage.{graphOf, enterBlocks, propagated}
 use Rattle.model.specs.Tests.{by-cond, decide, never, test-passes, and-first, and-second}
 use Rattle.model.specs.ListLaws.{All, all-map, all-both, all-getD}
 use Rattle.model.specs.Read.{Read, got, refused, Reader, andThen, mapped, both, readMany, readByte, readNumber, readU8, readU16, readU32, readMark, readWithin, readFlag}
@@ -21,11 +25,11 @@ use Rattle.entries.specs.Property.{propertyOf, valueOf}
 use Rattle.model.specs.Job.{readEntry, readPath, Block, readBlock, Header, readHeader, Job, readRecords, hasRepeat, hasUnknown, acceptIds, CA, readBlockId, readJob}
 use Rattle.model.specs.Forest.{Key, identifierKey, propertyKey, Forest, empty, Found, findKey, childByKey, addAll, firsts}
 use Rattle.model.specs.Tree.{HoistablePosition, hoistableKey, hoistableTree, DependencyPosition, dependencyKey, isDependency, mergePosition, ended, atNonNull, stepAccess, stepTo, walkEntries, rootPosition, walkCandidate, dependencyTree, keyIdentifier, keyProperty, entryOf, lastSpan, dependencyOf, deriveMinimalDependencies}
-use Rattle.safety.specs.Lists.{Some, any-some, all-of, all-of-map, all-at}
-use Rattle.safety.specs.CountLaws.{no-more}
-use Rattle.safety.specs.ForestLaws.{Along, WayAlong, firsts-along, along-addAll}
-use Rattle.safety.specs.TreeExact.{exact}
-use Rattle.safety.specs.ReadBack.{EntryFits, PathFits}
+use Rattle.laws.specs.Membership.{Some, any-some, all-of, all-of-map, all-at}
+use Rattle.laws.specs.CountLaws.{no-more}
+use Rattle.laws.specs.ForestLaws.{Along, WayAlong, firsts-along, along-addAll}
+use Rattle.laws.specs.TreeLaws.{returned-one, returned-some}
+use Rattle.laws.specs.ReadBack.{EntryFits, PathFits}
 
 -- What holds of the value, where one is read.
 abbrev pub Holds : {A : Type 0} → (A → Type 0) → Read A → Type 0
@@ -211,8 +215,16 @@ returned-fit w hs cs fit =
     let returned = deriveMinimalDependencies hs cs in
     all-map (λ d. Fields w d × (anyOf (prefixOf d) cs ≡ true)) (PathFits w)
     (λ d h. record { identifier = h .0 .identifier; span = h .0 .span; few = some-few w d cs fit (any-some (prefixOf d) cs (h .1)); entries = h .0 .entries })
-    returned (all-both (Fields w) (λ d. anyOf (prefixOf d) cs ≡ true) returned (fields w hs cs fit) (exact hs cs .some))
+    returned (all-both (Fields w) (λ d. anyOf (prefixOf d) cs ≡ true) returned (fields w hs cs fit) (returned-some hs cs))
 
 -- there are no more of them than candidates
 pub returned-few : (hs cs : List ReactiveScopeDependency) → length (deriveMinimalDependencies hs cs) ≤ length cs
-returned-few hs cs = let e = exact hs cs in no-more (λ d c. prefixOf d c) (deriveMinimalDependencies hs cs) cs (e .one) (e .some)
+returned-few hs cs = no-more (λ d c. prefixOf d c) (deriveMinimalDependencies hs cs) cs (returned-one hs cs) (returned-some hs cs)
+
+-- The rounds of a job's propagation fit the byte that counts them.
+pub rounds-fit : (rule : JoiningRule) (j : Job) → propagated rule (j .blocks) .rounds < 256
+unfolding propagated propagateNonNull propagateWith
+rounds-fit rule j =
+    let start = enterBlocks [] (j .blocks) in
+    let most = rounds-most hasChanged (round reduceMaybeOptionalChains rule (graphOf (j .blocks))) 100 zero (roundStart (start .registry) (start .sets)) in
+    omega arith

@@ -10,7 +10,8 @@ use Rattle.model.specs.Sets.{NodeSet}
 use Rattle.model.specs.Registry.{PropertyPathRegistry}
 use Rattle.model.specs.Visit.{TraversalState, Unmarked, Done, isMarked, Visited, unmarkedIn, marked, enter, leave, each, visitWithin, visit}
 use Rattle.model.specs.Rounds.{jobOrder, reverseJobOrder, walk, roundsFrom}
-use Rattle.model.specs.Propagation.{Work, JoiningRule, joinWith, join, Graph, unchanged, forward, backward, round, hasChanged, propagateNonNull}
+use Rattle.model.specs.Reduction.{reduceMaybeOptionalChains}
+use Rattle.model.specs.Propagation.{Work, JoiningRule, joinWith, join, Graph, roundStart, forward, backward, round, hasChanged, propagateWith, propagateNonNull}
 
 unmarked-inside : (ms : List TraversalState) (b : ℕ) → isMarked (getD ms b Done) ≡ false → b < length ms
 unmarked-inside [] b e = never refl e
@@ -23,7 +24,6 @@ module _ {W : Type 0} where
   Keeps step = (b : ℕ) (x : Visited W) → length (step b x .marks) ≡ length (x .marks)
 
   each-keeps : (step : ℕ → Visited W → Visited W) → Keeps step → (bs : List ℕ) (x : Visited W) → length (each step bs x .marks) ≡ length (x .marks)
-  unfolding each
   each-keeps step k [] x = refl
   each-keeps step k (b ∷ bs) x = each-keeps step k bs (step b x) ∙ k b x
 
@@ -39,7 +39,6 @@ module _ {W : Type 0} where
 
   each-agrees : (n : ℕ) (u v : ℕ → Visited W → Visited W) → Keeps u → ((b : ℕ) (x : Visited W) → length (x .marks) ≡ n → u b x ≡ v b x)
       → (bs : List ℕ) (x : Visited W) → length (x .marks) ≡ n → each u bs x ≡ each v bs x
-  unfolding each
   each-agrees n u v k s [] x l = refl
   each-agrees n u v k s (b ∷ bs) x l = each-agrees n u v k s bs (u b x) (k b x ∙ l) ∙ ap (each v bs) (s b x l)
 
@@ -74,19 +73,19 @@ pub record Agree (g h : Graph) : Type 0 where
   pub successors : (b : ℕ) → b < g .size → g .successors b ≡ h .successors b
 
 module _ (rule : JoiningRule) {g h : Graph} (a : Agree g h) where
-  round-agrees : (w : Work) → round rule g w ≡ round rule h w
+  round-agrees : (w : Work) → round reduceMaybeOptionalChains rule g w ≡ round reduceMaybeOptionalChains rule h w
   unfolding round forward backward join
   round-agrees w =
-      let start = unchanged (w .registry) (w .sets) in
-      let mid = forward rule g start in
-      walk-agrees (g .size) (g .successors) (h .successors) (join rule (g .successors)) (join rule (h .successors)) (a .successors)
-      (λ b ms u l. ap (λ (bs : List ℕ). joinWith (rule ms bs) b u) (a .successors b l)) (reverseJobOrder (g .size)) mid
-      ∙ ap (λ (n : ℕ). walk n (h .successors) (join rule (h .successors)) (reverseJobOrder n) mid) (a .size)
-      ∙ ap (backward rule h)
-      (walk-agrees (g .size) (g .predecessors) (h .predecessors) (join rule (g .predecessors)) (join rule (h .predecessors)) (a .predecessors)
-      (λ b ms u l. ap (λ (bs : List ℕ). joinWith (rule ms bs) b u) (a .predecessors b l)) (jobOrder (g .size)) start
-      ∙ ap (λ (n : ℕ). walk n (h .predecessors) (join rule (h .predecessors)) (jobOrder n) start) (a .size))
+      let start = roundStart (w .registry) (w .sets) in
+      let mid = forward reduceMaybeOptionalChains rule g start in
+      walk-agrees (g .size) (g .successors) (h .successors) (join reduceMaybeOptionalChains rule (g .successors)) (join reduceMaybeOptionalChains rule (h .successors)) (a .successors)
+      (λ b ms u l. ap (λ (bs : List ℕ). joinWith reduceMaybeOptionalChains (rule ms bs) b u) (a .successors b l)) (reverseJobOrder (g .size)) mid
+      ∙ ap (λ (n : ℕ). walk n (h .successors) (join reduceMaybeOptionalChains rule (h .successors)) (reverseJobOrder n) mid) (a .size)
+      ∙ ap (backward reduceMaybeOptionalChains rule h)
+      (walk-agrees (g .size) (g .predecessors) (h .predecessors) (join reduceMaybeOptionalChains rule (g .predecessors)) (join reduceMaybeOptionalChains rule (h .predecessors)) (a .predecessors)
+      (λ b ms u l. ap (λ (bs : List ℕ). joinWith reduceMaybeOptionalChains (rule ms bs) b u) (a .predecessors b l)) (jobOrder (g .size)) start
+      ∙ ap (λ (n : ℕ). walk n (h .predecessors) (join reduceMaybeOptionalChains rule (h .predecessors)) (jobOrder n) start) (a .size))
 
   pub propagation-agrees : (reg : PropertyPathRegistry) (sets : List NodeSet) → propagateNonNull rule g reg sets ≡ propagateNonNull rule h reg sets
-  unfolding propagateNonNull
-  propagation-agrees reg sets i = roundsFrom hasChanged (λ w. round-agrees w i) 100 zero (unchanged reg sets)
+  unfolding propagateNonNull propagateWith
+  propagation-agrees reg sets i = roundsFrom hasChanged (λ w. round-agrees w i) 100 zero (roundStart reg sets)

@@ -8,8 +8,6 @@ use mathlib.Core.List.{List, [], _∷_, _++_, append-assoc, append-nil}
 use lib.ListN.{length, getD, length-append}
 use lib.Seq.{getD-append-seam}
 use lib.Dec.{T, eqb, ltb, leb, lt→ltb, le→leb}
-use Rattle.entries.specs.declared.PropertyLiteral.{PropertyLiteral}
-use Rattle.entries.specs.declared.PropertyLiteral.the-variants.{String, Number}
 use Rattle.entries.specs.declared.DependencyPathEntry.{DependencyPathEntry}
 use Rattle.entries.specs.Path.{ReactiveScopeDependency}
 use Rattle.model.specs.Lists.{concatMap}
@@ -18,10 +16,10 @@ use Rattle.model.specs.ListLaws.{All, all-map}
 use Rattle.model.specs.Read.{Read, got, refused, Reader, andThen, mapped, both, readMany, readByte, readNumber, readU8, readMark, readWithin, readFlag}
 use Rattle.model.specs.Rounds.{Rounds}
 use Rattle.model.specs.Propagation.{Work}
-use Rattle.entries.specs.Property.{propertyOf, valueOf}
+use Rattle.entries.specs.Property.{propertyOf, isNumber, valueOf, property-back}
 use Rattle.model.specs.Job.{Job, readEntry, readPath}
 use Rattle.model.specs.Stage.{returnedPaths}
-use Rattle.model.specs.Answer.{numberBytes, flag, AN, DE, kindOf, stepBytes, entryBytes, pathBytes, answerBytes, Answered, readAnswer}
+use Rattle.model.specs.Answer.{numberBytes, flag, AN, DE, stepBytes, entryBytes, pathBytes, answerBytes, Answered, readAnswer}
 
 -- the reader gives the value where these bytes begin, whatever stands before and after them
 pub record ReadsBack {A : Type 0} (read : Reader A) (a : A) (bytes : List ℕ) : Type 0 where
@@ -125,14 +123,6 @@ pub record PathFits (spanBytes : ℕ) (d : ReactiveScopeDependency) : Type 0 whe
   pub few : length (d .path) ≤ 16
   pub entries : All (EntryFits spanBytes) (d .path)
 
-kind-back : (p : PropertyLiteral) → ReadsBack readFlag (eqb (kindOf p) 1) (numberBytes 1 (kindOf p))
-kind-back (String v) = flag-back false
-kind-back (Number v) = flag-back true
-
-property-back : (p : PropertyLiteral) → propertyOf (eqb (kindOf p) 1) (valueOf p) ≡ p
-property-back (String v) = refl
-property-back (Number v) = refl
-
 entry-back : (w : ℕ) (e : DependencyPathEntry) → EntryFits w e → ReadsBack (readEntry w) e (entryBytes w e)
 unfolding readEntry
 entry-back w e f = subst (ReadsBack (readEntry w) e) (sym regroup) (then-back readFlag afterOptional (e .optional) e optional-bytes (kind-bytes ++ (value-bytes ++ span-bytes)) (flag-back (e .optional)) kind-on)
@@ -141,7 +131,7 @@ entry-back w e f = subst (ReadsBack (readEntry w) e) (sym regroup) (then-back re
     optional-bytes = numberBytes 1 (flag (e .optional))
 
     kind-bytes : List ℕ
-    kind-bytes = numberBytes 1 (kindOf (e .property))
+    kind-bytes = numberBytes 1 (flag (isNumber (e .property)))
 
     value-bytes : List ℕ
     value-bytes = numberBytes 8 (valueOf (e .property))
@@ -164,20 +154,20 @@ entry-back w e f = subst (ReadsBack (readEntry w) e) (sym regroup) (then-back re
     afterOptional : Bool → Reader DependencyPathEntry
     afterOptional optional s at = andThen (readFlag s at) (λ kind next. afterKind optional kind s next)
 
-    whole : made (e .optional) (eqb (kindOf (e .property)) 1) (valueOf (e .property)) (e .span) ≡ e
+    whole : made (e .optional) (isNumber (e .property)) (valueOf (e .property)) (e .span) ≡ e
     whole = λ i. record { property = property-back (e .property) i; optional = e .optional; span = e .span }
 
-    value-on : ReadsBack (afterKind (e .optional) (eqb (kindOf (e .property)) 1)) (made (e .optional) (eqb (kindOf (e .property)) 1) (valueOf (e .property)) (e .span)) (value-bytes ++ span-bytes)
+    value-on : ReadsBack (afterKind (e .optional) (isNumber (e .property))) (made (e .optional) (isNumber (e .property)) (valueOf (e .property)) (e .span)) (value-bytes ++ span-bytes)
     value-on =
-        then-back (readNumber 8) (afterValue (e .optional) (eqb (kindOf (e .property)) 1)) (valueOf (e .property)) (made (e .optional) (eqb (kindOf (e .property)) 1) (valueOf (e .property)) (e .span)) value-bytes span-bytes
+        then-back (readNumber 8) (afterValue (e .optional) (isNumber (e .property))) (valueOf (e .property)) (made (e .optional) (isNumber (e .property)) (valueOf (e .property)) (e .span)) value-bytes span-bytes
         (number-back 8 (valueOf (e .property)) (f .value))
-        (end-back (readNumber w) (made (e .optional) (eqb (kindOf (e .property)) 1) (valueOf (e .property))) (e .span) span-bytes (number-back w (e .span) (f .span)))
+        (end-back (readNumber w) (made (e .optional) (isNumber (e .property)) (valueOf (e .property))) (e .span) span-bytes (number-back w (e .span) (f .span)))
 
     kind-on : ReadsBack (afterOptional (e .optional)) e (kind-bytes ++ (value-bytes ++ span-bytes))
     kind-on =
         subst (λ x. ReadsBack (afterOptional (e .optional)) x (kind-bytes ++ (value-bytes ++ span-bytes))) whole
-        (then-back readFlag (afterKind (e .optional)) (eqb (kindOf (e .property)) 1) (made (e .optional) (eqb (kindOf (e .property)) 1) (valueOf (e .property)) (e .span)) kind-bytes (value-bytes ++ span-bytes)
-        (kind-back (e .property)) value-on)
+        (then-back readFlag (afterKind (e .optional)) (isNumber (e .property)) (made (e .optional) (isNumber (e .property)) (valueOf (e .property)) (e .span)) kind-bytes (value-bytes ++ span-bytes)
+        (flag-back (isNumber (e .property))) value-on)
 
 pub path-back : (w mark : ℕ) (d : ReactiveScopeDependency) → mark < 256 ^ 2 → PathFits w d → ReadsBack (readPath w mark) d (pathBytes w mark d)
 unfolding readPath pathBytes

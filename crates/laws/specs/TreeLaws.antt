@@ -1,5 +1,6 @@
--- Exactness of the tree, for every list of hoistable paths and every list of candidates: each candidate has exactly one returned path with its identifier
--- and a prefix of its property names, and each returned path is one for some candidate.
+-- What the trees return, for every list of hoistable paths and every list of candidates: each candidate
+-- has exactly one returned path with its identifier and a prefix of its property names, and each
+-- returned path is one for some candidate.
 use Prim.Native.Nat.{ℕ, zero}
 use mathlib.Core.Path.{_≡_, refl, sym, ap, subst, _∙_}
 use mathlib.Core.Bool.{Bool, true, false, _&&_, _||_, cond, or-true}
@@ -14,10 +15,9 @@ use Rattle.model.specs.ListLaws.{All, all-map}
 use Rattle.entries.specs.Access.{isOptionalAccess, isDependencyAccess, accessOf}
 use Rattle.model.specs.Forest.{Key, identifierKey, propertyKey, sameKey, Forest, empty, Found, findKey, childByKey, addAll, firsts}
 use Rattle.model.specs.Tree.{HoistablePosition, hoistableKey, hoistableTree, DependencyPosition, dependencyKey, isDependency, mergePosition, ended, atNonNull, stepAccess, stepTo, walkEntries, rootPosition, walkCandidate, dependencyTree, keyIdentifier, keyProperty, entryOf, dependencyOf, deriveMinimalDependencies}
-use Rattle.safety.specs.Lists.{all-of, all-of-map, all-unmap}
-use Rattle.safety.specs.Statement.{Exact}
-use Rattle.safety.specs.CountLaws.{count-map, count-agree, any-agree, any-own}
-use Rattle.safety.specs.ForestLaws.{begins, Beginnings, beginnings-map, beginnings-both, beginnings-append, beginnings-own, covered, count-firsts, firsts-within, distinct-addAll, within-addAll, covered-each}
+use Rattle.laws.specs.Membership.{all-of, all-of-map, all-unmap}
+use Rattle.laws.specs.CountLaws.{count-map, count-agree, any-agree, any-own}
+use Rattle.laws.specs.ForestLaws.{begins, Beginnings, beginnings-map, beginnings-both, beginnings-append, beginnings-own, covered, count-firsts, firsts-within, distinct-addAll, within-addAll, covered-each}
 
 -- Accesses.
 
@@ -161,15 +161,24 @@ module _ (t : Forest HoistablePosition) (cs : List ReactiveScopeDependency) wher
       ∙ count-firsts dependencyKey isDependency tree (distinct-addAll dependencyKey mergePosition (λ p q. refl) empty (map (walkCandidate t) cs) tt) (wayOf c)
       ∙ ap (λ (b : Bool). cond b 1 0) (rw (w .whole) at (h (w .rest)))
 
-  exact-ways : Exact cs (map dependencyOf ways)
-  exact-ways = record {
-    one = all-map (λ c. (ks : List Key) → covered dependencyKey isDependency tree (map dependencyKey (walkCandidate t c) ++ ks) ≡ true) (λ c. countOf (λ d. prefixOf d c) (map dependencyOf ways) ≡ 1) one-way cs
-        (all-unmap (λ w. (ks : List Key) → covered dependencyKey isDependency tree (map dependencyKey w ++ ks) ≡ true) (walkCandidate t) cs each-covered);
-    some = all-of-map (λ d. anyOf (prefixOf d) cs ≡ true) dependencyOf ways
-        (all-map (λ ps. Proper cs (map dependencyKey ps)) (λ ps. anyOf (prefixOf (dependencyOf ps)) cs ≡ true)
-        (λ ps f. any-agree (prefixOf (dependencyOf ps)) (λ c. begins (map dependencyKey ps) (wayOf c)) (λ c. prefix-begins ps c (f .0)) cs ∙ f .1) ways ways-proper);
-  }
+  ways-one : All (λ c. countOf (λ d. prefixOf d c) (map dependencyOf ways) ≡ 1) cs
+  ways-one =
+      all-map (λ c. (ks : List Key) → covered dependencyKey isDependency tree (map dependencyKey (walkCandidate t c) ++ ks) ≡ true)
+      (λ c. countOf (λ d. prefixOf d c) (map dependencyOf ways) ≡ 1) one-way cs
+      (all-unmap (λ w. (ks : List Key) → covered dependencyKey isDependency tree (map dependencyKey w ++ ks) ≡ true) (walkCandidate t) cs each-covered)
 
-pub exact : (hs cs : List ReactiveScopeDependency) → Exact cs (deriveMinimalDependencies hs cs)
+  ways-some : All (λ d. anyOf (prefixOf d) cs ≡ true) (map dependencyOf ways)
+  ways-some =
+      all-of-map (λ d. anyOf (prefixOf d) cs ≡ true) dependencyOf ways
+      (all-map (λ ps. Proper cs (map dependencyKey ps)) (λ ps. anyOf (prefixOf (dependencyOf ps)) cs ≡ true)
+      (λ ps f. any-agree (prefixOf (dependencyOf ps)) (λ c. begins (map dependencyKey ps) (wayOf c)) (λ c. prefix-begins ps c (f .0)) cs ∙ f .1) ways ways-proper)
+
+-- Each candidate has one returned path with its identifier and a prefix of its names ..
+pub returned-one : (hs cs : List ReactiveScopeDependency) → All (λ c. countOf (λ d. prefixOf d c) (deriveMinimalDependencies hs cs) ≡ 1) cs
 unfolding deriveMinimalDependencies dependencyTree
-exact hs cs = exact-ways (hoistableTree hs) cs
+returned-one hs cs = ways-one (hoistableTree hs) cs
+
+-- .. and each returned path is one for some candidate.
+pub returned-some : (hs cs : List ReactiveScopeDependency) → All (λ d. anyOf (prefixOf d) cs ≡ true) (deriveMinimalDependencies hs cs)
+unfolding deriveMinimalDependencies dependencyTree
+returned-some hs cs = ways-some (hoistableTree hs) cs

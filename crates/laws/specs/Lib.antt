@@ -1,0 +1,15 @@
+-- lists
+pub mod Membership
+pub mod CountLaws
+-- the graph and its walks
+pub mod Places
+pub mod VisitOrder
+pub mod GraphLaws
+pub mod GraphsAgree
+-- the trees
+pub mod ForestLaws
+pub mod TreeLaws
+-- what is written and read
+pub mod ReadingLaws
+pub mod ReadBack
+pub mod Fits
