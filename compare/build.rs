@@ -1,10 +1,12 @@
 //! Cuts the items of the Rust source that the oracle runs, and makes the two
-//! edits that the specification asks for. Links the stage's library where it is.
+//! edits that the specification asks for. Links the stage's library where there is one
+//! that belongs to the sources beside it.
 
 #[path = "src/cutter.rs"]
 mod cutter;
 
 use std::path::{Path, PathBuf};
+use std::process::Command;
 use std::{env, fs};
 
 const VARIABLE: &str = "SCOPE_DEPS_REFERENCE";
@@ -13,7 +15,10 @@ const STAGE: &str = "src/react_compiler_inference/propagate_scope_dependencies_h
 const TYPES: &str = "src/react_compiler_hir/mod.rs";
 
 const LIBRARY_VARIABLE: &str = "SCOPE_DEPS_LIBRARY";
-const DEFAULT_LIBRARY: &str = "../target/staticlib/libstage.a";
+const LIBRARY_SCRIPT: &str = "../bin/library";
+/// The library, and what it is made from.
+const LIBRARY_SOURCES: [&str; 4] =
+    ["../target/staticlib/libstage.a", "../target/staticlib/libstage.a.digest", "../crates", "../crates.txt"];
 
 /// Items of the types file.
 const TYPE_ITEMS: &[&str] = &[
@@ -74,32 +79,44 @@ fn main() {
 /// Links the stage's library, or notes why it cannot be called.
 fn link_library() {
     println!("cargo::rustc-check-cfg=cfg(library)");
-    println!("cargo::rerun-if-env-changed={LIBRARY_VARIABLE}");
-    let (file, place) = match env::var_os(LIBRARY_VARIABLE).filter(|value| !value.is_empty()) {
-        Some(file) => (PathBuf::from(file), format!("where {LIBRARY_VARIABLE} points")),
-        None => {
-            let default = "at target/staticlib/libstage.a (`rt staticlib stage` writes it)";
-            (PathBuf::from(DEFAULT_LIBRARY), format!("{default}, and {LIBRARY_VARIABLE} is not set"))
+    let absent = match library() {
+        Err(why) => why,
+        Ok(_) if env::var("CARGO_CFG_TARGET_ARCH").is_ok_and(|arch| arch != "x86_64") => {
+            "the stage's library is for x86-64".to_string()
+        }
+        Ok(file) => {
+            let copy = out_dir().join("libscope_deps.a");
+            if let Err(why) = fs::copy(&file, &copy) {
+                println!("cargo::error=the stage's library, {}, cannot be read: {why}", file.display());
+                std::process::exit(1)
+            }
+            println!("cargo::rustc-cfg=library");
+            println!("cargo::rustc-link-search=native={}", out_dir().display());
+            println!("cargo::rustc-link-lib=static=scope_deps");
+            println!("cargo::rustc-env=LIBRARY_FILE={}", copy.display());
+            String::new()
         }
     };
-    println!("cargo::rerun-if-changed={}", watched(&file).display());
-    let absent = if !file.is_file() {
-        format!("the stage's library is not {place}")
-    } else if env::var("CARGO_CFG_TARGET_ARCH").is_ok_and(|arch| arch != "x86_64") {
-        "the stage's library is for x86-64".to_string()
-    } else {
-        let copy = out_dir().join("libscope_deps.a");
-        fs::copy(&file, &copy).unwrap_or_else(|why| {
-            println!("cargo::error=the stage's library cannot be read {place}: {why}");
-            std::process::exit(1)
-        });
-        println!("cargo::rustc-cfg=library");
-        println!("cargo::rustc-link-search=native={}", out_dir().display());
-        println!("cargo::rustc-link-lib=static=scope_deps");
-        println!("cargo::rustc-env=LIBRARY_FILE={}", copy.display());
-        String::new()
-    };
     println!("cargo::rustc-env=LIBRARY_ABSENT={absent}");
+}
+
+/// The library's file, or why there is none that belongs to the sources beside it.
+fn library() -> Result<PathBuf, String> {
+    println!("cargo::rerun-if-env-changed={LIBRARY_VARIABLE}");
+    if let Some(file) = env::var_os(LIBRARY_VARIABLE).filter(|value| !value.is_empty()) {
+        let file = PathBuf::from(file);
+        println!("cargo::rerun-if-changed={}", watched(&file).display());
+        let absent = format!("the stage's library is not where {LIBRARY_VARIABLE} points");
+        return if file.is_file() { Ok(file) } else { Err(absent) };
+    }
+    for input in LIBRARY_SOURCES {
+        println!("cargo::rerun-if-changed={}", watched(Path::new(input)).display());
+    }
+    let run = Command::new("bash").args([LIBRARY_SCRIPT, "--check"]).output();
+    let output = run.map_err(|why| format!("{LIBRARY_SCRIPT} cannot be run: {why}"))?;
+    let said = if output.status.success() { output.stdout } else { output.stderr };
+    let said = String::from_utf8_lossy(&said).trim().replace('\n', " ");
+    if output.status.success() { Ok(PathBuf::from(said)) } else { Err(said) }
 }
 
 /// The file, or where it is absent the nearest directory in which it would appear:

@@ -5,7 +5,7 @@
  * and the sheet (all nodes of paths, and each block's set of them). docs/FORMAT.md
  * has the bytes of all three.
  *
- * Link with libstage.a, which `rt staticlib stage` writes to target/staticlib.
+ * Link with libstage.a, which `bin/library` proves and writes to target/staticlib.
  */
 #ifndef SCOPE_DEPS_H
 #define SCOPE_DEPS_H
@@ -23,17 +23,17 @@ extern "C" {
 /* A job of more bytes is refused by 2. */
 #define SCOPE_DEPS_JOB_BYTES 32768
 
-/* The refusals. Each is returned as its negative. */
+/* The refusals, named as in the stage's own code. Each is returned as its negative. */
 enum scope_deps_refusal {
-  SCOPE_DEPS_SHORT_OUT = 1,      /* the out buffer is shorter than 24,576 bytes */
-  SCOPE_DEPS_LONG_JOB = 2,       /* the job is longer than 32,768 bytes */
-  SCOPE_DEPS_PAST_END = 3,       /* a field needs a byte past the job's end */
-  SCOPE_DEPS_WRONG_MARK = 4,     /* a mark is not the one due */
-  SCOPE_DEPS_OUT_OF_RANGE = 5,   /* a field lies outside its range */
-  SCOPE_DEPS_BYTE_LEFT = 6,      /* a byte follows the last candidate */
-  SCOPE_DEPS_TWICE = 7,          /* a block id, or a predecessor within one block, stands twice */
-  SCOPE_DEPS_UNKNOWN_BLOCK = 8,  /* a predecessor or the scope block is no block of the job */
-  SCOPE_DEPS_TOO_MANY_NODES = 9  /* the registry would pass 512 nodes by the end of propagation */
+  SCOPE_DEPS_SHORT_BUFFER = 1,  /* the out buffer is shorter than 24,576 bytes */
+  SCOPE_DEPS_LONG_JOB = 2,      /* the job is longer than 32,768 bytes */
+  SCOPE_DEPS_MISSING_BYTE = 3,  /* a field needs a byte past the job's end */
+  SCOPE_DEPS_WRONG_MARK = 4,    /* a mark is not the one due */
+  SCOPE_DEPS_OUT_OF_RANGE = 5,  /* a field lies outside its range */
+  SCOPE_DEPS_EXTRA_BYTE = 6,    /* a byte follows the last candidate */
+  SCOPE_DEPS_REPEATED_ID = 7,   /* a block id, or a predecessor within one block, stands twice */
+  SCOPE_DEPS_UNKNOWN_BLOCK = 8, /* a predecessor or the scope block is no block of the job */
+  SCOPE_DEPS_MANY_NODES = 9     /* the registry would pass 512 nodes by the end of propagation */
 };
 
 /*

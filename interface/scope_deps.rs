@@ -5,7 +5,7 @@
 //! answers and sheets.
 //!
 //! A package takes this file as a module (`#[path = "…/interface/scope_deps.rs"]`)
-//! and links `libstage.a`, which `rt staticlib stage` writes to `target/staticlib`.
+//! and links `libstage.a`, which `bin/library` proves and writes to `target/staticlib`.
 
 /// An out buffer of fewer bytes is refused by 1. No answer and no sheet is longer.
 pub const OUT_BYTES: usize = 24_576;

@@ -4,7 +4,7 @@ use crate::job::limits;
 use crate::list::Record;
 use crate::oracle::{Oracle, program_bytes};
 use crate::output::{Answer, Sheet, Written, read_answer, read_sheet};
-use crate::reader::{Refusal, TOO_MANY_NODES, read_job};
+use crate::reader::{MANY_NODES, Refusal, read_job};
 
 /// Compares each record with what the Rust says now.
 pub fn with_rust(records: &[Record], oracle: &mut Oracle) -> Result<(), String> {
@@ -59,7 +59,7 @@ fn check_refusals(record: &Record, answer: Option<Refusal>, sheet: Option<Refusa
         return Err("answer and sheet are not refused alike".into());
     }
     let read = read_job(&record.job, record.out_len).err();
-    let stored = answer.filter(|&number| number != TOO_MANY_NODES);
+    let stored = answer.filter(|&number| number != MANY_NODES);
     let name = |refusal: Option<Refusal>| refusal.map_or("none".to_string(), |number| number.to_string());
     if read != stored {
         return Err(format!("the stored refusal is {}, the reader's {}", name(stored), name(read)));

@@ -8,6 +8,7 @@ pub mod check;
 pub mod comparison;
 pub mod cover;
 pub mod cutter;
+pub mod examples;
 pub mod fx;
 pub mod generate;
 pub mod hir;
@@ -16,9 +17,11 @@ pub mod library;
 pub mod list;
 #[cfg(target_arch = "x86_64")]
 pub mod memory;
+pub mod notation;
 pub mod oracle;
 pub mod output;
 pub mod prng;
+pub mod programs;
 pub mod progress;
 pub mod reader;
 #[cfg(reference)]

@@ -73,7 +73,7 @@ impl Oracle {
         self.alloc.reset();
         let prepared = reference::prepare(&job, &self.alloc);
         let propagated = reference::propagate(&prepared, &self.alloc);
-        refuse_too_many_nodes(&propagated)?;
+        refuse_many_nodes(&propagated)?;
         Ok(answer_bytes(prepared, &propagated, &self.alloc))
     }
 
@@ -82,7 +82,7 @@ impl Oracle {
         self.alloc.reset();
         let prepared = reference::prepare(&job, &self.alloc);
         let propagated = reference::propagate(&prepared, &self.alloc);
-        refuse_too_many_nodes(&propagated)?;
+        refuse_many_nodes(&propagated)?;
         Ok(sheet_bytes(&job, &propagated))
     }
 
@@ -101,7 +101,7 @@ impl Oracle {
             entered: propagated.entered,
             nodes: propagated.nodes(),
         });
-        match refuse_too_many_nodes(&propagated) {
+        match refuse_many_nodes(&propagated) {
             Ok(()) => Both {
                 answer: Ok(answer_bytes(prepared, &propagated, &self.alloc)),
                 sheet: Ok(sheet_bytes(&job, &propagated)),
@@ -116,13 +116,13 @@ impl Oracle {
 use crate::{
     arena::Allocator,
     job::{Job, limits},
-    reader::{TOO_MANY_NODES, read_job},
+    reader::{MANY_NODES, read_job},
     reference::{self, Prepared, Propagated},
 };
 
 #[cfg(reference)]
-fn refuse_too_many_nodes(propagated: &Propagated) -> Result<(), Refusal> {
-    if propagated.nodes() > limits::NODES { Err(TOO_MANY_NODES) } else { Ok(()) }
+fn refuse_many_nodes(propagated: &Propagated) -> Result<(), Refusal> {
+    if propagated.nodes() > limits::NODES { Err(MANY_NODES) } else { Ok(()) }
 }
 
 #[cfg(reference)]

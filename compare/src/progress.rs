@@ -1,5 +1,6 @@
 //! Progress of a long run, on standard error.
 
+use std::io::{self, Write};
 use std::time::{Duration, Instant};
 
 pub struct Progress {
@@ -16,7 +17,8 @@ impl Progress {
     /// Says how far the run is, but not more often than every two seconds.
     pub fn show(&mut self, done: usize) {
         if self.last.elapsed() >= Duration::from_secs(2) {
-            eprintln!("{}: {done} of {}", self.what, self.all);
+            // Whether anyone reads it is no matter.
+            let _ = writeln!(io::stderr(), "{}: {done} of {}", self.what, self.all);
             self.last = Instant::now();
         }
     }

@@ -8,20 +8,20 @@ use crate::job::{Block, Entry, Job, Path, Property, limits};
 /// A refusal's number.
 pub type Refusal = u8;
 
-pub const SHORT_OUT: Refusal = 1;
+pub const SHORT_BUFFER: Refusal = 1;
 pub const LONG_JOB: Refusal = 2;
-pub const PAST_END: Refusal = 3;
+pub const MISSING_BYTE: Refusal = 3;
 pub const WRONG_MARK: Refusal = 4;
 pub const OUT_OF_RANGE: Refusal = 5;
-pub const BYTE_LEFT: Refusal = 6;
-pub const TWICE: Refusal = 7;
+pub const EXTRA_BYTE: Refusal = 6;
+pub const REPEATED_ID: Refusal = 7;
 pub const UNKNOWN_BLOCK: Refusal = 8;
-pub const TOO_MANY_NODES: Refusal = 9;
+pub const MANY_NODES: Refusal = 9;
 
 /// The job in `bytes`, for an out buffer of `out_len` bytes.
 pub fn read_job(bytes: &[u8], out_len: usize) -> Result<Job, Refusal> {
     if out_len < limits::OUT_BYTES {
-        return Err(SHORT_OUT);
+        return Err(SHORT_BUFFER);
     }
     if bytes.len() > limits::JOB_BYTES {
         return Err(LONG_JOB);
@@ -29,7 +29,7 @@ pub fn read_job(bytes: &[u8], out_len: usize) -> Result<Job, Refusal> {
     let mut reader = Reader::new(bytes);
     let job = reader.job()?;
     if !reader.at_end() {
-        return Err(BYTE_LEFT);
+        return Err(EXTRA_BYTE);
     }
     refuse_repeats(&job)?;
     refuse_unknown_blocks(&job)?;
@@ -51,7 +51,7 @@ impl<'b> Reader<'b> {
     }
 
     pub fn take<const N: usize>(&mut self) -> Result<[u8; N], Refusal> {
-        let (field, rest) = self.rest.split_first_chunk::<N>().ok_or(PAST_END)?;
+        let (field, rest) = self.rest.split_first_chunk::<N>().ok_or(MISSING_BYTE)?;
         self.rest = rest;
         Ok(*field)
     }
@@ -134,7 +134,7 @@ fn refuse_repeats(job: &Job) -> Result<(), Refusal> {
     let ids = sorted(job.blocks.iter().map(|block| block.id));
     let all_differ = |numbers: &[u32]| numbers.windows(2).all(|pair| pair[0] != pair[1]);
     let predecessors_differ = |block: &Block| all_differ(&sorted(block.predecessors.iter().copied()));
-    if all_differ(&ids) && job.blocks.iter().all(predecessors_differ) { Ok(()) } else { Err(TWICE) }
+    if all_differ(&ids) && job.blocks.iter().all(predecessors_differ) { Ok(()) } else { Err(REPEATED_ID) }
 }
 
 fn sorted(numbers: impl Iterator<Item = u32>) -> Vec<u32> {

@@ -1,7 +1,9 @@
 //! Chooses the jobs of the stored list.
 
 use crate::cover::{Features, features, order_features};
+use crate::examples::{Example, examples};
 use crate::generate::{Generated, generate};
+use crate::job::limits;
 use crate::list::Record;
 use crate::oracle::{Both, Oracle, program_bytes};
 use crate::progress::Progress;
@@ -60,9 +62,24 @@ pub fn record(generated: &Generated, both: &Both) -> Record {
     }
 }
 
+/// The stored list: generated jobs, and then the examples.
+pub fn choose(oracle: &mut Oracle) -> Vec<Chosen> {
+    let mut chosen = choose_generated(oracle);
+    chosen.extend(examples().iter().map(|example| named(example, oracle)));
+    chosen
+}
+
+/// An example. It covers what its name says.
+fn named(example: &Example, oracle: &mut Oracle) -> Chosen {
+    let generated = Generated { class: "example", out_len: limits::OUT_BYTES, job: example.job.to_bytes() };
+    let both = oracle.both(&generated.job, generated.out_len);
+    let covers = Features::from([example.name.to_string()]);
+    Chosen { record: record(&generated, &both), class: generated.class, both, covers }
+}
+
 /// Tries jobs in order of size and keeps one that has a feature, or a pair of
 /// features, of which too few are kept.
-pub fn choose(oracle: &mut Oracle) -> Vec<Chosen> {
+fn choose_generated(oracle: &mut Oracle) -> Vec<Chosen> {
     let mut tried = try_jobs(oracle);
     tried.sort_by_key(|chosen| chosen.record.size());
     let mut chosen: Vec<Chosen> = Vec::new();

@@ -101,9 +101,10 @@ pub fn loaded_ladder(steps: usize, climbs: usize, count: usize, length: usize) -
     job
 }
 
-/// A ladder of `steps` steps in which the first `kinds` of the four kinds of its blocks (by place modulo 4) have a root and
-/// its child of their own, and all other blocks the child by an optional entry. At each visit that entry joins the set and is
-/// reduced to the child that is there, so the reduction is run although it changes nothing.
+/// A ladder of `steps` steps in which the first `kinds` of the four kinds of its blocks (by place
+/// modulo 4) have a root and its child of their own, and all other blocks the child by an optional
+/// entry. At each visit that entry joins the set and is reduced to the child that is there, so the
+/// reduction is run although it changes nothing.
 pub fn joined_anew(mut job: Job, steps: usize, kinds: usize) -> Job {
     let (ladder, source) = (2 * steps, job.blocks.len() - 2);
     for kind in 0..kinds {

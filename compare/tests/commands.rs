@@ -2,7 +2,11 @@
 
 mod common;
 
+use std::collections::BTreeSet;
+use std::fs::{self, Permissions};
 use std::io::Write;
+use std::os::unix::fs::PermissionsExt;
+use std::path::PathBuf;
 use std::process::{Command, Output, Stdio};
 
 fn run(words: &[&str], input: &[u8]) -> Output {
@@ -22,29 +26,126 @@ fn misused(words: &[&str], part: &str) {
     let output = run(words, b"");
     let message = String::from_utf8(output.stderr).unwrap();
     assert_eq!(output.status.code(), Some(2), "{words:?}");
-    assert!(message.contains(part) && message.contains("usage:"), "{words:?}: {message}");
+    assert!(message.contains(part) && message.contains("--help"), "{words:?}: {message}");
     assert!(output.stdout.is_empty());
 }
 
 #[test]
-fn bad_words_get_a_message_and_the_usage() {
+fn bad_words_get_a_message_and_a_hint() {
     misused(&[], "a command is missing");
     misused(&["bogus"], "`bogus` is no command");
     misused(&["answer", "more"], "`more` follows");
-    misused(&["generate"], "--seed");
-    misused(&["generate", "--seed", "1"], "--count");
+    misused(&["help", "bogus"], "no help on `bogus`");
+    misused(&["bogus", "--help"], "no help on `bogus`");
+    misused(&["help", "answer", "more"], "`more` follows");
     misused(&["generate", "--seed"], "a value is missing");
     misused(&["generate", "--seed", "x", "--count", "1"], "`x` after --seed");
     misused(&["generate", "--seed", "1", "--count", "-1"], "`-1` after --count");
     misused(&["generate", "--seed", "1", "--count", "1", "--class", "none"], "`none` is no class");
     misused(&["generate", "--bogus", "1"], "`--bogus` is no option");
-    misused(&["compare"], "--seed");
-    misused(&["compare", "--seed", "1"], "--count or --seconds");
+    misused(&["generate", "--job", "1", "--count", "1"], "`--job` is for one job");
+    misused(&["compare", "--job", "1"], "`--job` is no option of `compare`");
+    misused(&["programs", "--bin"], "a value is missing");
     misused(&["compare", "--seed", "1", "--count", "1", "--class", "none"], "`none` is no class");
     misused(&["compare", "--out", "x"], "`--out` is no option of `compare`");
     misused(&["memory", "more"], "`more` follows");
     misused(&["bench", "--count", "1"], "`--count` is no option of `bench`");
     misused(&["bench", "--repeat", "some"], "`some` after --repeat");
+}
+
+/// Standard output where all goes well.
+fn written(words: &[&str]) -> Vec<u8> {
+    let output = run(words, b"");
+    assert!(output.status.success(), "{words:?}: {}", String::from_utf8_lossy(&output.stderr));
+    output.stdout
+}
+
+fn text(words: &[&str]) -> String {
+    String::from_utf8(written(words)).unwrap()
+}
+
+/// The commands that the help lists.
+fn listed_commands(help: &str) -> Vec<&str> {
+    let lines = help.lines().filter_map(|line| line.strip_prefix("  ")?.split_once("  "));
+    lines.map(|(name, _)| name).collect()
+}
+
+#[test]
+fn the_readme_has_each_command() {
+    let readme = fs::read_to_string(PathBuf::from(env!("CARGO_MANIFEST_DIR")).join("README.md")).unwrap();
+    let rows = readme.lines().filter_map(|line| line.strip_prefix("| `compare/oracle "));
+    let named: BTreeSet<&str> = rows.filter_map(|row| row.split([' ', '`']).next()).collect();
+    assert_eq!(named, BTreeSet::from_iter(listed_commands(&text(&["help"]))));
+}
+
+#[test]
+fn help_is_there_for_every_command() {
+    let all = text(&["--help"]);
+    assert_eq!(all, text(&["help"]));
+    assert_eq!(all, text(&["-h"]));
+    let commands = listed_commands(&all);
+    assert_eq!(
+        commands,
+        ["answer", "sheet", "check", "compare", "programs", "memory", "bench", "generate", "store", "help"]
+    );
+    for command in commands.into_iter().filter(|command| *command != "help") {
+        let own = text(&[command, "--help"]);
+        assert!(own.starts_with(&format!("usage: compare/oracle {command}")), "{own}");
+        assert_eq!(own, text(&["help", command]));
+    }
+    assert!(text(&["compare", "--count", "5", "-h"]).contains("Classes: no-loops, "));
+}
+
+#[test]
+fn a_reader_that_closes_the_pipe_gets_no_message() {
+    for words in
+        [&["help", "compare"][..], &["check"], &["compare", "--count", "10"], &["generate", "--job", "1"]]
+    {
+        let (reader, writer) = std::io::pipe().unwrap();
+        drop(reader);
+        let output = Command::new(env!("CARGO_BIN_EXE_compare")).args(words).stdout(writer).output().unwrap();
+        assert!(output.stderr.is_empty(), "{words:?}: {output:?}");
+        assert_eq!(output.status.code(), Some(1), "{words:?}");
+    }
+}
+
+#[test]
+fn one_job_is_written_by_its_number() {
+    let due = |seed, class| compare::generate::generate(seed, 17, class).job;
+    assert_eq!(written(&["generate", "--job", "17"]), due(20_261_115, None));
+    assert_eq!(written(&["generate", "--job", "17", "--seed", "3", "--class", "tree"]), due(3, Some("tree")));
+    let file = scratch("17.job");
+    assert!(written(&["generate", "--job", "17", "--out", file.to_str().unwrap()]).is_empty());
+    assert_eq!(fs::read(file).unwrap(), due(20_261_115, None));
+}
+
+/// A file in a folder of the test's own.
+fn scratch(name: &str) -> PathBuf {
+    let folder = PathBuf::from(env!("CARGO_TARGET_TMPDIR"));
+    fs::create_dir_all(&folder).unwrap();
+    folder.join(name)
+}
+
+#[test]
+fn programs_that_write_something_else_are_named() {
+    let folder = scratch("programs");
+    fs::create_dir_all(&folder).unwrap();
+    let refuses = |number: u8| format!("#!/bin/sh\ncat >/dev/null\nprintf 'RF\\00{number}'\n");
+    let said = |answer: &str, sheet: &str| {
+        for (name, text) in [("answer", answer), ("sheet", sheet)] {
+            fs::write(folder.join(name), text).unwrap();
+            fs::set_permissions(folder.join(name), Permissions::from_mode(0o755)).unwrap();
+        }
+        let output = run(&["programs", "--bin", folder.to_str().unwrap()], b"");
+        assert_eq!(output.status.code(), Some(1));
+        String::from_utf8(output.stderr).unwrap()
+    };
+    // The first stored job is refused by 3.
+    let first = "stored job 0: wrote 3 bytes, Some(04) at byte 2, due are 3 bytes, Some(03) at byte 2";
+    assert!(said(&refuses(4), &refuses(3)).contains(&format!("program answer, {first}")));
+    assert!(said(&refuses(3), &refuses(4)).contains(&format!("program sheet, {first}")));
+    assert!(said(&refuses(3), &refuses(3)).contains("program answer, stored job 1: "));
+    assert!(said("#!/bin/sh\nexit 7\n", "").contains("ended with exit status: 7"));
 }
 
 #[test]
@@ -91,7 +192,7 @@ fn without_the_library_or_the_rust_nothing_is_timed() {
 #[cfg(not(reference))]
 #[test]
 fn without_the_rust_one_line_says_so() {
-    for words in [&["answer"][..], &["sheet"], &["store"], &["generate", "--seed", "1", "--count", "1"]] {
+    for words in [&["answer"][..], &["sheet"], &["store"], &["generate"]] {
         let output = run(words, b"");
         let message = String::from_utf8(output.stderr).unwrap();
         assert_eq!(output.status.code(), Some(3), "{words:?}");
@@ -125,6 +226,15 @@ mod with_the_rust {
         let output = run(&words, b"");
         assert_eq!(output.status.code(), Some(1));
         assert!(String::from_utf8(output.stderr).unwrap().contains("longer than --max-bytes"));
+    }
+
+    #[test]
+    fn a_list_starts_at_the_job_asked_for() {
+        let list = |words: &[&str]| read_list(&run(words, b"").stdout).unwrap();
+        assert_eq!(list(&["generate"]).len(), 100);
+        let four = list(&["generate", "--seed", "5", "--count", "4"]);
+        assert_eq!(list(&["generate", "--seed", "5", "--count", "2", "--first", "2"]), four[2..]);
+        assert_eq!(super::written(&["generate", "--job", "3", "--seed", "5"]), four[3].job);
     }
 
     #[test]

@@ -1,9 +1,10 @@
-//! The examples of the specification, through the oracle.
+//! The examples of the specification and those of src/examples.rs, through the oracle.
 #![cfg(reference)]
 
 mod common;
 
 use common::{answer, block, hex, job, node_text, set_text, sheet, texts};
+use compare::examples::{example, examples};
 use compare::job::{Block, Entry, Job, Path, Property, limits};
 use compare::oracle::{Both, Oracle};
 use compare::output::Sheet;
@@ -133,6 +134,40 @@ fn p3_a_loop() {
     ]);
     assert_eq!(sets(&sheet), ["", "", "5", "5", ""]);
     assert_eq!((sheet.rounds, sheet.settled), (2, true));
+}
+
+/// The sets, rounds and returned paths of the example of this name; its last round changes nothing.
+fn of_example(name: &str) -> (String, u8, String) {
+    let both = run(&example(name));
+    let sheet = sheet(&both.sheet.unwrap());
+    assert!(sheet.settled, "{name}");
+    (sets(&sheet).join("; "), sheet.rounds, texts(&answer(&both.answer.unwrap()).returned))
+}
+
+#[test]
+fn named_examples() {
+    const MINUS_ZERO: &str = "1[0x8000000000000000]";
+    let expected = [
+        ("changed-by-set", "1, 1.10", 2, ""),
+        ("backward-in-reverse", "5; 5", 2, ""),
+        ("successors-ascend", "5; 5; 5", 2, ""),
+        ("predecessors-as-recorded", "; ; 5", 1, ""),
+        ("avoided-in-a-loop", "; ; 5; 5; ", 2, "5.10"),
+        ("optional-ahead", "1.11, 1?.10", 1, "1"),
+        ("plain-order-kept", "1.10, 1.10.11", 2, "1.10.12"),
+        ("plain-order-kept-in-a-reduced-set", "1.10.11, 1.10?.12", 1, "1.10.13"),
+        ("optional-order-kept", "1?.10.11, 1?.10?.12", 1, "1?.10.13"),
+        ("same-zero", "1[0x0]", 1, "1[0x0].11"),
+        ("two-zeros", "1[0x0]", 1, MINUS_ZERO),
+        ("two-zeros-returned", "1", 1, &format!("1[0x0], {MINUS_ZERO}")),
+        ("two-nans", "1[0x7ff8000000000000]", 1, "1[0x7ff8000000000001]"),
+        ("name-and-number", "1.5", 1, "1[0x4014000000000000]"),
+        ("number-and-name", "1[0x4014000000000000]", 1, "1.5"),
+    ];
+    for (name, sets, rounds, returned) in expected {
+        assert_eq!(of_example(name), (sets.to_string(), rounds, returned.to_string()), "{name}");
+    }
+    assert!(examples().iter().map(|example| example.name).eq(expected.map(|(name, ..)| name)));
 }
 
 #[test]

@@ -1,164 +1,143 @@
-//! What keeps parts from making a job.
+//! What keeps parts from making a job: which record, which of its fields, and what is wrong with
+//! it.
 
-use crate::bytes;
 use crate::ids::BlockId;
-use crate::job::Job;
 use crate::limits;
-use std::collections::HashSet;
+use crate::refusal::Record;
 use std::fmt;
 
-/// Why parts make no job. Blocks are told by their place in the job, from 0.
-#[derive(Clone, Copy, Debug, PartialEq, Eq)]
+/// Why parts make no job. It names the block or the path, the field of it, and what is wrong there.
+///
+/// ```
+/// use scope_deps::{Block, BlockId, Field, Job, Record, Wrong};
+///
+/// let unknown = Job::builder(BlockId(7))
+///     .block(Block::new(BlockId(7)).after([BlockId(7), BlockId(9)]))
+///     .build()
+///     .unwrap_err();
+/// assert_eq!((unknown.record(), unknown.block()), (Record::Block(0), Some(BlockId(7))));
+/// assert_eq!(unknown.field(), Field::Predecessor(1));
+/// assert_eq!(unknown.wrong(), Wrong::Unknown(BlockId(9)));
+/// assert_eq!(unknown.to_string(), "predecessor 9 of block 7 is no block of the job");
+/// ```
+#[derive(Clone, Copy, Debug, PartialEq, Eq, Hash)]
+pub struct BuildError {
+    pub(crate) record: Record,
+    pub(crate) block: Option<BlockId>,
+    pub(crate) field: Field,
+    pub(crate) wrong: Wrong,
+}
+
+/// A field of a part of a job. Places are counted from 0.
+#[derive(Clone, Copy, Debug, PartialEq, Eq, Hash)]
 #[non_exhaustive]
-pub enum BuildError {
-    /// There is no block.
-    NoBlocks,
-    /// There are more than 128 blocks.
-    TooManyBlocks,
-    /// There are more than 64 candidates.
-    TooManyCandidates,
-    /// A block has more than 64 predecessors.
-    TooManyPredecessors {
-        /// The block's place.
-        block: usize,
-    },
-    /// A block has more than 255 assumed paths.
-    TooManyAssumed {
-        /// The block's place.
-        block: usize,
-    },
-    /// The stage would refuse an id by 7 or 8.
-    BadId(BadId),
-    /// The job has more than 32,768 bytes.
-    TooLong {
-        /// How many it has.
-        bytes: usize,
-    },
-}
-
-/// An id that stands twice or names no block.
-#[derive(Clone, Copy, Debug, PartialEq, Eq)]
-pub struct BadId {
-    /// The id.
-    pub id: BlockId,
-    /// Where it stands.
-    pub stands: IdPlace,
-    /// Whether it stands there for the second time. Otherwise it names no block.
-    pub repeated: bool,
-}
-
-/// Where an id stands in a job. Places are counted from 0.
-#[derive(Clone, Copy, Debug, PartialEq, Eq)]
-pub enum IdPlace {
-    /// The header's scope block.
+pub enum Field {
+    /// The job's blocks, as many as there are.
+    Blocks,
+    /// The job's candidates.
+    Candidates,
+    /// The job's scope block.
     Scope,
-    /// The id of the block at this place.
-    Block(usize),
-    /// A predecessor.
-    Predecessor {
-        /// The place of the block that names it.
-        block: usize,
-        /// Its place among the block's predecessors.
-        place: usize,
+    /// A block's id.
+    Id,
+    /// A block's predecessors.
+    Predecessors,
+    /// The predecessor at this place.
+    Predecessor(usize),
+    /// A block's assumed paths.
+    Assumed,
+    /// A path's entries.
+    Entries,
+    /// All bytes of the job up to the end of the record.
+    Bytes,
+}
+
+/// What is wrong with a field.
+#[derive(Clone, Copy, Debug, PartialEq, Eq, Hash)]
+#[non_exhaustive]
+pub enum Wrong {
+    /// There is none, and one is needed.
+    Missing,
+    /// There are more than are allowed.
+    TooMany {
+        /// How many there are, in the whole job.
+        count: usize,
+        /// How many are allowed.
+        most: usize,
     },
+    /// The id stands there for the second time.
+    Repeated(BlockId),
+    /// No block of the job has the id.
+    Unknown(BlockId),
+}
+
+impl BuildError {
+    /// The block or the path in which it was found, by its place; the header for what is the job's
+    /// own.
+    #[must_use]
+    pub fn record(&self) -> Record {
+        self.record
+    }
+
+    /// The id of the block that the record is, or belongs to.
+    #[must_use]
+    pub fn block(&self) -> Option<BlockId> {
+        self.block
+    }
+
+    /// The field of that record.
+    #[must_use]
+    pub fn field(&self) -> Field {
+        self.field
+    }
+
+    /// What is wrong with the field.
+    #[must_use]
+    pub fn wrong(&self) -> Wrong {
+        self.wrong
+    }
+
+    /// The record as a person speaks of it.
+    fn part(&self) -> String {
+        match (self.record, self.block) {
+            (Record::Block(_), Some(id)) => format!("block {id}"),
+            (Record::Assumed { path, .. }, Some(id)) => format!("assumed path {} of block {id}", path + 1),
+            (Record::Candidate(place), _) => format!("candidate {}", place + 1),
+            _ => "the job".to_string(),
+        }
+    }
 }
 
 impl fmt::Display for BuildError {
     fn fmt(&self, f: &mut fmt::Formatter<'_>) -> fmt::Result {
-        match self {
-            Self::NoBlocks => write!(f, "a job has at least one block"),
-            Self::TooManyBlocks => write!(f, "a job has at most {} blocks", limits::BLOCKS),
-            Self::TooManyCandidates => write!(f, "a job has at most {} candidates", limits::CANDIDATES),
-            Self::TooManyPredecessors { .. } => {
-                write!(f, "a block has at most {} predecessors", limits::PREDECESSORS)
+        let part = self.part();
+        match (self.wrong, self.field) {
+            (Wrong::Missing, _) => write!(f, "a job has at least one block, and at most {}", limits::BLOCKS),
+            (Wrong::TooMany { count, most }, Field::Bytes) => {
+                write!(f, "the job takes {count} bytes, and at most {most} are allowed; {part} passes them")
             }
-            Self::TooManyAssumed { .. } => write!(f, "a block assumes at most {} paths", limits::ASSUMED),
-            Self::BadId(bad) => bad.fmt(f),
-            Self::TooLong { bytes } => {
-                write!(f, "the job takes {bytes} bytes, and at most {} are allowed", limits::JOB_BYTES)
+            (Wrong::TooMany { count, most }, field) => {
+                write!(f, "{part} has {count} {}, and at most {most} are allowed", plural(field))
             }
+            (Wrong::Repeated(id), Field::Id) => write!(f, "two blocks have the id {id}"),
+            (Wrong::Repeated(id), _) => write!(f, "{part} names predecessor {id} twice"),
+            (Wrong::Unknown(id), Field::Scope) => write!(f, "the scope block {id} is no block of the job"),
+            (Wrong::Unknown(id), _) => write!(f, "predecessor {id} of {part} is no block of the job"),
         }
     }
 }
 
-impl fmt::Display for BadId {
-    fn fmt(&self, f: &mut fmt::Formatter<'_>) -> fmt::Result {
-        let id = self.id;
-        match (self.stands, self.repeated) {
-            (IdPlace::Scope, _) => write!(f, "the scope block {id} is no block of the job"),
-            (IdPlace::Block(_), _) => write!(f, "two blocks have the id {id}"),
-            (IdPlace::Predecessor { .. }, true) => write!(f, "the block names predecessor {id} twice"),
-            (IdPlace::Predecessor { .. }, false) => write!(f, "predecessor {id} is no block of the job"),
-        }
+/// What a field has several of.
+fn plural(field: Field) -> &'static str {
+    match field {
+        Field::Blocks => "blocks",
+        Field::Candidates => "candidates",
+        Field::Predecessors => "predecessors",
+        Field::Assumed => "assumed paths",
+        Field::Entries => "entries",
+        Field::Scope | Field::Id | Field::Predecessor(_) => "ids",
+        Field::Bytes => "bytes",
     }
 }
 
 impl std::error::Error for BuildError {}
-
-impl From<BadId> for BuildError {
-    fn from(bad: BadId) -> Self {
-        Self::BadId(bad)
-    }
-}
-
-pub(crate) fn check_counts(job: &Job) -> Result<(), BuildError> {
-    if job.blocks().is_empty() {
-        return Err(BuildError::NoBlocks);
-    }
-    if job.blocks().len() > limits::BLOCKS {
-        return Err(BuildError::TooManyBlocks);
-    }
-    if job.candidates().len() > limits::CANDIDATES {
-        return Err(BuildError::TooManyCandidates);
-    }
-    for (place, block) in job.blocks().iter().enumerate() {
-        if block.predecessors().len() > limits::PREDECESSORS {
-            return Err(BuildError::TooManyPredecessors { block: place });
-        }
-        if block.assumed().len() > limits::ASSUMED {
-            return Err(BuildError::TooManyAssumed { block: place });
-        }
-    }
-    Ok(())
-}
-
-pub(crate) fn check_length(job: &Job) -> Result<(), BuildError> {
-    let bytes = bytes::write_job(job).len();
-    if bytes > limits::JOB_BYTES {
-        return Err(BuildError::TooLong { bytes });
-    }
-    Ok(())
-}
-
-/// Looks for ids that stand twice, then for ids that name no block: refusal 7 comes before 8.
-pub(crate) fn check_ids(job: &Job) -> Result<(), BadId> {
-    let mut ids = HashSet::new();
-    for (place, block) in job.blocks().iter().enumerate() {
-        if !ids.insert(block.id()) {
-            return Err(BadId { id: block.id(), stands: IdPlace::Block(place), repeated: true });
-        }
-    }
-    let mut of_one_block = HashSet::new();
-    find_predecessor(job, |block, id| !of_one_block.insert((block, id)), true)?;
-    find_predecessor(job, |_, id| !ids.contains(&id), false)?;
-    if !ids.contains(&job.scope()) {
-        return Err(BadId { id: job.scope(), stands: IdPlace::Scope, repeated: false });
-    }
-    Ok(())
-}
-
-/// The first predecessor that is bad, if one is.
-fn find_predecessor(
-    job: &Job,
-    mut bad: impl FnMut(usize, BlockId) -> bool,
-    repeated: bool,
-) -> Result<(), BadId> {
-    for (block, record) in job.blocks().iter().enumerate() {
-        for (place, &id) in record.predecessors().iter().enumerate() {
-            if bad(block, id) {
-                return Err(BadId { id, stands: IdPlace::Predecessor { block, place }, repeated });
-            }
-        }
-    }
-    Ok(())
-}

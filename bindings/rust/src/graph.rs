@@ -26,26 +26,4 @@ impl Graph {
     pub(crate) fn len(&self) -> usize {
         self.successors.len()
     }
-
-    /// Whether the two lie on a loop.
-    pub(crate) fn on_a_loop(&self, one: usize, other: usize) -> bool {
-        self.leads(one, other) && self.leads(other, one)
-    }
-
-    /// Whether control can go from one block to the other, by one step or more.
-    fn leads(&self, from: usize, to: usize) -> bool {
-        let mut seen = vec![false; self.len()];
-        let mut open = vec![from];
-        while let Some(block) = open.pop() {
-            for &next in &self.successors[block] {
-                if next == to {
-                    return true;
-                }
-                if !std::mem::replace(&mut seen[next], true) {
-                    open.push(next);
-                }
-            }
-        }
-        false
-    }
 }

@@ -23,6 +23,7 @@ impl Span {
     pub const NONE: Self = Self(0);
 
     /// Whether this stands for no place.
+    #[must_use]
     pub fn is_none(self) -> bool {
         self == Self::NONE
     }
@@ -38,4 +39,4 @@ macro_rules! shown_as_its_number {
     )*};
 }
 
-shown_as_its_number! { IdentifierId BlockId NodeId Span }
+shown_as_its_number! { BlockId NodeId Span }

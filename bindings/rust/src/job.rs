@@ -1,13 +1,16 @@
-//! Jobs, and the builder that makes no malformed one.
+//! Jobs and their blocks.
 
-use crate::build_error::{check_counts, check_ids, check_length, BuildError};
+use crate::builder::JobBuilder;
 use crate::bytes;
 use crate::ids::BlockId;
+use crate::names::Names;
 use crate::path::Path;
 use crate::refusal::Refusal;
+use std::fmt;
+use std::hash::{Hash, Hasher};
 
 /// A block: its id, its predecessors in order, and the paths assumed to be there when it runs.
-#[derive(Clone, Debug, PartialEq, Eq)]
+#[derive(Clone, Debug, PartialEq, Eq, Hash)]
 pub struct Block {
     id: BlockId,
     predecessors: Vec<BlockId>,
@@ -16,33 +19,39 @@ pub struct Block {
 
 impl Block {
     /// A block with no predecessor and no assumed path.
+    #[must_use]
     pub fn new(id: BlockId) -> Self {
         Self { id, predecessors: Vec::new(), assumed: Vec::new() }
     }
 
     /// The block with these predecessors after those that it has.
+    #[must_use]
     pub fn after(mut self, predecessors: impl IntoIterator<Item = BlockId>) -> Self {
         self.predecessors.extend(predecessors);
         self
     }
 
-    /// The block with one more assumed path.
-    pub fn assuming(mut self, path: Path) -> Self {
-        self.assumed.push(path);
+    /// The block with these assumed paths after those that it has.
+    #[must_use]
+    pub fn assuming(mut self, paths: impl IntoIterator<Item = Path>) -> Self {
+        self.assumed.extend(paths);
         self
     }
 
     /// The block's id.
+    #[must_use]
     pub fn id(&self) -> BlockId {
         self.id
     }
 
     /// The predecessors, in the job's order.
+    #[must_use]
     pub fn predecessors(&self) -> &[BlockId] {
         &self.predecessors
     }
 
     /// The assumed paths, in the job's order.
+    #[must_use]
     pub fn assumed(&self) -> &[Path] {
         &self.assumed
     }
@@ -50,13 +59,15 @@ impl Block {
 
 /// A well-formed job. The stage refuses it at most by 9, [`Refusal::ManyNodes`].
 ///
-/// It is shown in the notation of `docs/NOTATION.md` and read from it.
+/// It is shown in the notation of `docs/NOTATION.md` and read from it. It keeps its bytes, which
+/// are written once, when it is built; two jobs are equal where their bytes are. Names that a text
+/// gives are kept beside them, and play no part in equality.
 ///
 /// ```
 /// use scope_deps::{Block, BlockId, Job};
 ///
 /// let job = Job::builder(BlockId(7))
-///     .block(Block::new(BlockId(7)).assuming("reactive 1".parse()?))
+///     .block(Block::new(BlockId(7)).assuming(["reactive 1".parse()?]))
 ///     .candidate("reactive 1@5.10@6".parse()?)
 ///     .build()?;
 /// let text = "
@@ -64,14 +75,17 @@ impl Block {
 ///     block 7 assumes reactive 1
 ///     candidate reactive 1@5.10@6";
 /// assert_eq!(text.parse::<Job>()?, job);
-/// assert_eq!(Job::from_bytes(&job.to_bytes())?, job);
+/// assert_eq!(Job::from_bytes(job.as_bytes())?, job);
 /// # Ok::<(), Box<dyn std::error::Error>>(())
 /// ```
-#[derive(Clone, Debug, PartialEq, Eq)]
+#[derive(Clone)]
 pub struct Job {
     scope: BlockId,
     blocks: Vec<Block>,
     candidates: Vec<Path>,
+    /// They say all of the above.
+    bytes: Vec<u8>,
+    names: Names,
 }
 
 impl Job {
@@ -80,69 +94,97 @@ impl Job {
         JobBuilder { scope, blocks: Vec::new(), candidates: Vec::new() }
     }
 
-    /// The job in these bytes, or the refusal from 2 to 8 that the stage gives them.
+    /// The job of parts that were checked.
+    pub(crate) fn of_checked(scope: BlockId, blocks: Vec<Block>, candidates: Vec<Path>) -> Self {
+        let bytes = bytes::write_job(scope, &blocks, &candidates);
+        Self { scope, blocks, candidates, bytes, names: Names::new() }
+    }
+
+    /// The job in these bytes.
+    ///
+    /// # Errors
+    ///
+    /// The refusal from 2 to 8 that the stage gives these bytes, with its place.
     pub fn from_bytes(bytes: &[u8]) -> Result<Self, Refusal> {
-        bytes::read_job(bytes)
+        let JobBuilder { scope, blocks, candidates } = bytes::read_job(bytes)?;
+        Ok(Self { scope, blocks, candidates, bytes: bytes.to_vec(), names: Names::new() })
     }
 
     /// The job's bytes, in the format of `docs/FORMAT.md`.
+    #[must_use]
+    pub fn as_bytes(&self) -> &[u8] {
+        &self.bytes
+    }
+
+    /// A copy of the job's bytes.
+    #[must_use]
     pub fn to_bytes(&self) -> Vec<u8> {
-        bytes::write_job(self)
+        self.bytes.clone()
+    }
+
+    /// The job's bytes, without a copy.
+    #[must_use]
+    pub fn into_bytes(self) -> Vec<u8> {
+        self.bytes
+    }
+
+    /// The same job with these names in place of those that it has.
+    #[must_use]
+    pub fn with_names(self, names: Names) -> Self {
+        Self { names, ..self }
+    }
+
+    /// The names of the job's variables and properties, for people. The bytes do not have them.
+    #[must_use]
+    pub fn names(&self) -> &Names {
+        &self.names
     }
 
     /// The scope block's id.
+    #[must_use]
     pub fn scope(&self) -> BlockId {
         self.scope
     }
 
     /// The blocks, in the job's order.
+    #[must_use]
     pub fn blocks(&self) -> &[Block] {
         &self.blocks
     }
 
     /// The candidates, in the job's order.
+    #[must_use]
     pub fn candidates(&self) -> &[Path] {
         &self.candidates
     }
 
     /// The place of a block in the job's order, from 0.
+    #[must_use]
     pub fn place_of(&self, id: BlockId) -> Option<usize> {
         self.blocks.iter().position(|block| block.id == id)
     }
 }
 
-/// Collects the parts of a job and checks them together at the end.
-#[derive(Clone, Debug)]
-pub struct JobBuilder {
-    scope: BlockId,
-    blocks: Vec<Block>,
-    candidates: Vec<Path>,
+impl PartialEq for Job {
+    fn eq(&self, other: &Self) -> bool {
+        self.bytes == other.bytes
+    }
 }
 
-impl JobBuilder {
-    /// Adds a block after those that are there.
-    pub fn block(mut self, block: Block) -> Self {
-        self.blocks.push(block);
-        self
-    }
+impl Eq for Job {}
 
-    /// Adds a candidate after those that are there.
-    pub fn candidate(mut self, path: Path) -> Self {
-        self.candidates.push(path);
-        self
+impl Hash for Job {
+    fn hash<H: Hasher>(&self, state: &mut H) {
+        self.bytes.hash(state);
     }
+}
 
-    /// The job, or the first reason why these parts make none.
-    pub fn build(self) -> Result<Job, BuildError> {
-        let job = self.unchecked();
-        check_counts(&job)?;
-        check_ids(&job)?;
-        check_length(&job)?;
-        Ok(job)
-    }
-
-    /// The parts as they are, for those who check them next.
-    pub(crate) fn unchecked(self) -> Job {
-        Job { scope: self.scope, blocks: self.blocks, candidates: self.candidates }
+/// Without the bytes, which say the same again.
+impl fmt::Debug for Job {
+    fn fmt(&self, f: &mut fmt::Formatter<'_>) -> fmt::Result {
+        let Self { scope, blocks, candidates, bytes: _, names } = self;
+        let mut shown = f.debug_struct("Job");
+        shown.field("scope", scope).field("blocks", blocks).field("candidates", candidates);
+        shown.field("names", names).finish()
     }
 }

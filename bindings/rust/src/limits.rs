@@ -1,7 +1,9 @@
 //! The limits of a job. One beyond them is refused by the stage, and cannot be built here.
 
-pub use crate::interface::{JOB_BYTES, OUT_BYTES};
-
+/// The most bytes of a job.
+pub const JOB_BYTES: usize = 32_768;
+/// The fewest bytes of an out buffer. No answer and no sheet is longer.
+pub const OUT_BYTES: usize = 24_576;
 /// The most blocks of a job, which has at least one.
 pub const BLOCKS: usize = 128;
 /// The most candidates of a job.
@@ -14,3 +16,9 @@ pub const ASSUMED: usize = 255;
 pub const ENTRIES: usize = 16;
 /// The most nodes of the registry when propagation ends.
 pub const NODES: usize = 512;
+
+#[cfg(feature = "library")]
+const _: () = {
+    assert!(JOB_BYTES == crate::interface::JOB_BYTES);
+    assert!(OUT_BYTES == crate::interface::OUT_BYTES);
+};

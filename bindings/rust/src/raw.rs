@@ -9,6 +9,10 @@ use crate::refusal::Refusal;
 
 /// The answer's bytes for a job's bytes.
 ///
+/// # Errors
+///
+/// The refusal from 2 to 9 that the stage gives these bytes.
+///
 /// ```
 /// let refusal = scope_deps::raw::answer(b"HD\x01\x00\x41\x00").unwrap_err();
 /// assert_eq!(refusal.number(), 5);
@@ -23,18 +27,32 @@ pub fn answer(job: &[u8]) -> Result<Vec<u8>, Refusal> {
 }
 
 /// The sheet's bytes for a job's bytes.
+///
+/// # Errors
+///
+/// As for [`answer`].
 pub fn sheet(job: &[u8]) -> Result<Vec<u8>, Refusal> {
     written(|out| sheet_into(job, out))
 }
 
-/// Writes the answer to the start of `out` and gives its length. Bytes beyond it stay as they were; at a refusal all do.
+/// Writes the answer to the start of `out` and gives its length. Bytes beyond it stay as they were;
+/// at a refusal all do.
 ///
-/// A buffer of fewer than [`limits::OUT_BYTES`] bytes is refused. The call itself takes no memory but stack.
+/// The stage itself takes no memory but stack.
+///
+/// # Errors
+///
+/// The refusal from 1 to 9 that the stage gives these bytes. A buffer of fewer than
+/// [`limits::OUT_BYTES`] bytes is refused by 1.
 pub fn answer_into(job: &[u8], out: &mut [u8]) -> Result<usize, Refusal> {
     interface::answer(job, out).map_err(|number| refusal(number, job))
 }
 
 /// Writes the sheet to the start of `out`, on the same terms.
+///
+/// # Errors
+///
+/// As for [`answer_into`].
 pub fn sheet_into(job: &[u8], out: &mut [u8]) -> Result<usize, Refusal> {
     interface::sheet(job, out).map_err(|number| refusal(number, job))
 }

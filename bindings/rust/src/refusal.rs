@@ -4,19 +4,21 @@ use std::fmt;
 
 /// Why the stage turned a job back. The names are those of the stage's own code.
 ///
-/// The stage gives a number. For 3 to 8 this crate's reader finds the place, for display only; it is `None` where that
-/// reader would not refuse by the same number.
+/// The stage gives a number. For 3 to 8 this crate's reader finds the place, for display only; it
+/// is `None` where that reader would not refuse by the same number.
 ///
 /// ```
 /// use scope_deps::{Job, Record, Refusal};
 ///
 /// // A header of one block and no candidate, and then another mark than `BL`.
 /// match Job::from_bytes(b"HD\x01\0\0\0\x07\0\0\0CA") {
-///     Err(Refusal::WrongMark(Some(place))) => assert_eq!((place.byte, place.record), (10, Record::Block(0))),
+///     Err(Refusal::WrongMark(Some(place))) => {
+///         assert_eq!((place.byte, place.record), (10, Record::Block(0)));
+///     }
 ///     other => panic!("{other:?}"),
 /// }
 /// ```
-#[derive(Clone, Copy, Debug, PartialEq, Eq)]
+#[derive(Clone, Copy, Debug, PartialEq, Eq, Hash)]
 pub enum Refusal {
     /// 1: the out buffer has fewer than 24,576 bytes.
     ShortBuffer,
@@ -40,6 +42,7 @@ pub enum Refusal {
 
 impl Refusal {
     /// The number in the specification.
+    #[must_use]
     pub fn number(&self) -> u8 {
         match self {
             Self::ShortBuffer => 1,
@@ -55,6 +58,7 @@ impl Refusal {
     }
 
     /// The place at which it was met, for 3 to 8.
+    #[must_use]
     pub fn place(&self) -> Option<Place> {
         match self {
             Self::MissingByte(place)
@@ -68,6 +72,7 @@ impl Refusal {
     }
 
     /// The refusal of a number, without a place, if it is a number of one.
+    #[must_use]
     pub fn from_number(number: u8) -> Option<Self> {
         Some(match number {
             1 => Self::ShortBuffer,
@@ -83,29 +88,42 @@ impl Refusal {
         })
     }
 
-    fn meaning(&self) -> (&'static str, &'static str) {
+    /// The name, which is the same in `docs/FORMAT.md`, in the stage's code and here.
+    #[must_use]
+    pub fn name(&self) -> &'static str {
         match self {
-            Self::ShortBuffer => ("ShortBuffer", "the out buffer has fewer than 24,576 bytes"),
-            Self::LongJob => ("LongJob", "the job has more than 32,768 bytes"),
-            Self::MissingByte(_) => ("MissingByte", "a field needs a byte past the job's end"),
-            Self::WrongMark(_) => ("WrongMark", "another mark stands where one is due"),
-            Self::OutOfRange(_) => ("OutOfRange", "a field's value is outside its range"),
-            Self::ExtraByte(_) => ("ExtraByte", "a byte follows the last candidate"),
-            Self::RepeatedId(_) => {
-                ("RepeatedId", "two blocks have one id, or one block names a predecessor twice")
-            }
-            Self::UnknownBlock(_) => {
-                ("UnknownBlock", "a predecessor, or the scope block, is no block of the job")
-            }
-            Self::ManyNodes => ("ManyNodes", "the registry has more than 512 nodes when propagation ends"),
+            Self::ShortBuffer => "ShortBuffer",
+            Self::LongJob => "LongJob",
+            Self::MissingByte(_) => "MissingByte",
+            Self::WrongMark(_) => "WrongMark",
+            Self::OutOfRange(_) => "OutOfRange",
+            Self::ExtraByte(_) => "ExtraByte",
+            Self::RepeatedId(_) => "RepeatedId",
+            Self::UnknownBlock(_) => "UnknownBlock",
+            Self::ManyNodes => "ManyNodes",
+        }
+    }
+
+    /// What the name stands for, in the words of `docs/FORMAT.md`.
+    #[must_use]
+    pub fn meaning(&self) -> &'static str {
+        match self {
+            Self::ShortBuffer => "the out buffer has fewer than 24,576 bytes",
+            Self::LongJob => "the job has more than 32,768 bytes",
+            Self::MissingByte(_) => "a field needs a byte past the job's end",
+            Self::WrongMark(_) => "another mark stands where one is due",
+            Self::OutOfRange(_) => "a field's value is outside its range",
+            Self::ExtraByte(_) => "a byte follows the last candidate",
+            Self::RepeatedId(_) => "two blocks have one id, or one block names a predecessor twice",
+            Self::UnknownBlock(_) => "a predecessor, or the scope block, is no block of the job",
+            Self::ManyNodes => "the registry has more than 512 nodes when propagation ends",
         }
     }
 }
 
 impl fmt::Display for Refusal {
     fn fmt(&self, f: &mut fmt::Formatter<'_>) -> fmt::Result {
-        let (name, meaning) = self.meaning();
-        write!(f, "refusal {}, {name}: {meaning}", self.number())?;
+        write!(f, "refusal {}, {}: {}", self.number(), self.name(), self.meaning())?;
         match self.place() {
             Some(place) => write!(f, "; {place}"),
             None => Ok(()),
@@ -115,8 +133,31 @@ impl fmt::Display for Refusal {
 
 impl std::error::Error for Refusal {}
 
+/// Refusal 9, the only one that a [`Job`](crate::Job) can meet.
+#[derive(Clone, Copy, Debug, PartialEq, Eq, Hash)]
+pub struct ManyNodes;
+
+impl ManyNodes {
+    /// Its number in the specification.
+    pub const NUMBER: u8 = 9;
+}
+
+impl From<ManyNodes> for Refusal {
+    fn from(_: ManyNodes) -> Self {
+        Self::ManyNodes
+    }
+}
+
+impl fmt::Display for ManyNodes {
+    fn fmt(&self, f: &mut fmt::Formatter<'_>) -> fmt::Result {
+        Refusal::from(*self).fmt(f)
+    }
+}
+
+impl std::error::Error for ManyNodes {}
+
 /// Where in a job's bytes a refusal was met.
-#[derive(Clone, Copy, Debug, PartialEq, Eq)]
+#[derive(Clone, Copy, Debug, PartialEq, Eq, Hash)]
 pub struct Place {
     /// The first byte of the field, from 0.
     pub byte: usize,
@@ -133,7 +174,7 @@ impl fmt::Display for Place {
 }
 
 /// A record of a job. Places are counted from 0, and shown counted from 1.
-#[derive(Clone, Copy, Debug, PartialEq, Eq)]
+#[derive(Clone, Copy, Debug, PartialEq, Eq, Hash)]
 pub enum Record {
     /// `HD`.
     Header,

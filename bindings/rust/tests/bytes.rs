@@ -3,7 +3,7 @@
 mod common;
 
 use common::{all_bytes, has_usual_buffer, hex, jobs, stored};
-use scope_deps::{limits, raw, Answer, Job, Record, Refusal, Sheet};
+use scope_deps::{limits, raw, Answer, Job, ManyNodes, Record, Refusal, Sheet};
 
 const EXAMPLE: &str = "4844 0100 0100 07000000 / 424C 07000000 00 01 / 5041 01000000 01 00000000 00 /
     4341 01000000 01 05000000 01 00 00 0A00000000000000 06000000";
@@ -29,7 +29,7 @@ fn a_job_that_is_read_is_written_back_and_refused_at_most_by_9() {
         read += 1;
         assert_eq!(job.to_bytes(), bytes);
         match (scope_deps::answer(&job), scope_deps::sheet(&job)) {
-            (Err(answer), Err(sheet)) => assert_eq!([answer, sheet], [Refusal::ManyNodes; 2]),
+            (Err(answer), Err(sheet)) => assert_eq!([answer, sheet], [ManyNodes; 2]),
             (answer, sheet) => assert_eq!(answer.unwrap().rounds(), sheet.unwrap().rounds()),
         }
     }

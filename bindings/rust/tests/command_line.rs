@@ -89,10 +89,156 @@ fn files_are_read_and_written() {
 }
 
 #[test]
+fn options_are_taken_as_other_tools_take_them() {
+    let (job, bytes) = (scratch("options.txt"), scratch("options.bin"));
+    fs::write(&job, TEXT).unwrap();
+    let (job, output) = (job.to_str().unwrap(), bytes.to_str().unwrap());
+    let forms =
+        [vec![format!("-o{output}")], vec![format!("--output={output}")], vec!["-o".into(), output.into()]];
+    for words in forms {
+        let _ = fs::remove_file(&bytes);
+        let words: Vec<&str> = words.iter().map(String::as_str).collect();
+        assert_eq!(text(&[&["encode"], &words[..], &["--", job]].concat(), ""), "");
+        assert_eq!(fs::read(&bytes).unwrap(), hex(BYTES), "{words:?}");
+    }
+    assert_eq!(text(&["answer", "--from=hex", "--", "-"], BYTES), text(&["answer"], TEXT));
+    let folder = scratch("folder");
+    fs::create_dir_all(&folder).unwrap();
+    fs::write(folder.join("--help"), TEXT).unwrap();
+    let answer = Command::new(env!("CARGO_BIN_EXE_scope-deps"))
+        .args(["answer", "--", "--help"])
+        .current_dir(&folder)
+        .output()
+        .unwrap();
+    assert_eq!(String::from_utf8(answer.stdout).unwrap(), text(&["answer"], TEXT));
+}
+
+#[test]
+fn a_file_that_is_read_is_not_written() {
+    let (job, link) = (scratch("read.txt"), scratch("read.link"));
+    fs::write(&job, TEXT).unwrap();
+    let _ = fs::remove_file(&link);
+    std::os::unix::fs::symlink(&job, &link).unwrap();
+    let (file, link) = (job.to_str().unwrap(), link.to_str().unwrap());
+    for words in [
+        &["encode", "-o", file, file][..],
+        &["encode", "-o", link, file],
+        &["encode", "-o", file, link],
+        &["answer", "--names", file, "-o", file],
+    ] {
+        assert!(message(words, TEXT, 2).contains("is read, and would be written over"), "{words:?}");
+    }
+    let from_input = Command::new(env!("CARGO_BIN_EXE_scope-deps"))
+        .args(["encode", "-o", file])
+        .stdin(fs::File::open(&job).unwrap())
+        .output()
+        .unwrap();
+    assert_eq!(from_input.status.code(), Some(2));
+    assert_eq!(fs::read_to_string(&job).unwrap(), TEXT);
+    assert_eq!(text(&["encode", "-o", "/dev/null"], TEXT), "");
+}
+
+/// What a program prints of these bytes, or nothing where there is no such program.
+fn dumped(program: &str, words: &[&str], bytes: &[u8]) -> Option<String> {
+    let file = scratch("dumped.bin");
+    fs::write(&file, bytes).unwrap();
+    let output = Command::new(program).args(words).arg(file).output().ok()?;
+    output.status.success().then(|| String::from_utf8(output.stdout).unwrap())
+}
+
+#[test]
+fn dumps_are_read() {
+    let zeros = format!("scope 7 block 7 assumes {} candidate 1", vec!["0"; 40].join(", "));
+    let spaces = "scope 538976288 block 538976288 candidate 538976288@538976288, 2088533116";
+    for job in [TEXT, &zeros, spaces] {
+        let (bytes, back) = (written(&["encode"], job), job.parse::<Job>().unwrap().to_string());
+        let dumps = [
+            ("xxd", &[][..]),
+            ("xxd", &["-p"]),
+            ("xxd", &["-g1", "-u"]),
+            ("xxd", &["-c", "7"]),
+            ("hexdump", &["-C"]),
+        ];
+        for (program, words) in dumps {
+            let Some(dump) = dumped(program, words, &bytes) else { continue };
+            assert_eq!(text(&["decode", "--from", "hex"], &dump), back, "{program} {words:?}\n{dump}");
+        }
+    }
+}
+
+#[test]
+fn dumps_as_they_are_printed() {
+    let bytes = "scope 7 block 7 assumes 0, 0, 0, 0, 0 candidate 1";
+    let xxd = "00000000: 4844 0100 0000 7c7c 2020 424c 7c7c 2020  HD....||  BL||  \n\
+               00000010: 0000                                     ..\n";
+    let back = "scope 538999932\nblock 538999932\n";
+    assert_eq!(text(&["decode", "--from", "hex"], xxd), back);
+    assert_eq!(text(&["decode", "--from", "hex"], "48440100 00007c7c\n2020424c 7c7c2020/0000"), back);
+    let hexdump = "00000000  48 44 01 00 00 00 7c 7c  20 20 42 4c 7c 7c 20 20  |HD....||  BL||  |\n\
+                   00000010  00 00                                             |..|\n00000012\n";
+    assert_eq!(text(&["decode", "--from", "hex"], hexdump), back);
+    // A line that is like the one before is left out, and `*` stands for it.
+    let encoded = written(&["encode"], bytes);
+    let line = |at: usize, from: &[u8]| {
+        let digits: String = from.iter().map(|byte| format!("{byte:02x} ")).collect();
+        format!("{at:08x}  {digits} |{}|\n", ".".repeat(from.len()))
+    };
+    let (head, path) = (&encoded[..18], &encoded[18..30]);
+    let dump =
+        [line(0, head), line(18, path), "*\n".into(), line(78, &encoded[78..]), "0000005a\n".into()].concat();
+    assert_eq!(written(&["encode"], text(&["decode", "--from", "hex"], dump)), encoded);
+}
+
+#[test]
+fn a_dump_that_is_none_is_told_with_its_line() {
+    let said = |dump: &str| message(&["decode", "--from", "hex"], dump, 1);
+    assert!(said("48 44\n0").contains("line 2: `0` has an odd number of hexadecimal digits"));
+    assert!(said("48\nzz").contains("line 2: `z` is no hexadecimal digit"));
+    assert!(said("00000000: 4844  HD\n00000010: 00")
+        .contains("line 2 has the offset 00000010, but the lines before it come to 00000002"));
+    assert!(said("00000000: 4844  HD\nBL").contains("line 2 has no offset"));
+    assert!(
+        said("00000000  48 44  |HD|\n*\nffffffff\n").contains("line 3 has an offset of more than 16777216")
+    );
+    assert!(said(&"00".repeat(limits::JOB_BYTES + 1))
+        .contains("refusal 2, LongJob: the job has more than 32,768"));
+    let octal = "0000000 110 104 001 000\n";
+    assert!(said(octal).contains("`0000000` has an odd number"));
+}
+
+#[test]
+fn names_of_a_file_are_used_for_bytes() {
+    let names = scratch("names.txt");
+    fs::write(&names, "# of the page\nname 1 athlete\nname .10 lastSession\n").unwrap();
+    let names = names.to_str().unwrap();
+    let named = "name 1 athlete\nname .10 lastSession\nscope 7\nblock 7\n  assumes reactive athlete\n\
+                 candidate reactive athlete@5.lastSession@6\n";
+    assert_eq!(text(&["decode", "--names", names], hex(BYTES)), named);
+    assert_eq!(text(&["decode", "--from", "text"], named), named);
+    assert_eq!(written(&["encode"], named), hex(BYTES));
+    let answer = "rounds 1, settled\nreturned reactive athlete@6.lastSession@6\n";
+    for (words, input) in
+        [(vec!["answer"], named.as_bytes().to_vec()), (vec!["answer", "--names", names], hex(BYTES))]
+    {
+        assert_eq!(text(&words, input), answer);
+    }
+    let sheet = text(&["sheet", &format!("--names={names}")], hex(BYTES));
+    assert_eq!(sheet, "rounds 1, settled\nnode 0 reactive athlete\nblock 7 holds athlete\n");
+    let short = "scope 7 block 7 candidate athlete.lastSession";
+    assert_eq!(
+        written(&["encode", "--names", names], short),
+        written(&["encode"], "scope 7 block 7 candidate 1.10")
+    );
+    fs::write(scratch("clash.txt"), "name 1 a\nname 1 b").unwrap();
+    let said = message(&["answer", "--names", scratch("clash.txt").to_str().unwrap()], hex(BYTES), 1);
+    assert!(said.contains("clash.txt:2:6: variable 1 has the name `a` already"), "{said}");
+}
+
+#[test]
 fn a_bad_text_is_shown_with_line_column_and_excerpt() {
     assert_eq!(
         message(&["encode"], "scope 7\nblock 7 after 9\n", 1),
-        "scope-deps: standard input:2:15: predecessor 9 is no block of the job\n\
+        "scope-deps: standard input:2:15: predecessor 9 of block 7 is no block of the job\n\
          2 | block 7 after 9\n  |               ^\n"
     );
     let job = scratch("bad.txt");
@@ -100,7 +246,33 @@ fn a_bad_text_is_shown_with_line_column_and_excerpt() {
     let said = message(&["explain", job.to_str().unwrap()], "", 1);
     assert!(said.contains("bad.txt:2:19: after `?` there is a `.`"), "{said}");
     assert!(said.ends_with("2 | \tblock 7 assumes 1?10\n  | \t                 ^\n"), "{said}");
-    assert!(message(&["encode", "--from", "text"], [0xff], 1).contains("no text"));
+}
+
+#[test]
+fn what_is_no_text_is_named() {
+    let latin = b"scope 7\n# caf\xe9\nblock 7";
+    for words in [&["encode"][..], &["answer"], &["draw", "--from", "text"]] {
+        let said = message(words, latin, 1);
+        assert_eq!(said, "scope-deps: standard input: this is not UTF-8: byte 13, in line 2, is 0xe9\n");
+    }
+    let utf_16: Vec<u8> = "\u{feff}scope 7".encode_utf16().flat_map(u16::to_le_bytes).collect();
+    assert!(message(&["answer"], utf_16, 1).contains("not UTF-8, but UTF-16, as its byte-order mark says"));
+    let marked = message(&["answer"], format!("\u{feff}{TEXT}"), 1);
+    assert!(marked.contains("standard input:1:1: ") && marked.contains("not a byte-order mark"), "{marked}");
+    for command in ["encode", "decode", "answer", "sheet", "explain", "draw"] {
+        let said = message(&[command], "", 1);
+        assert_eq!(said, "scope-deps: standard input: this is empty, and holds no job\n");
+    }
+    assert!(message(&["decode", "--from", "hex"], "", 1).contains("this is empty"));
+}
+
+#[test]
+fn an_excerpt_of_a_long_line_is_short() {
+    let text = format!("scope 7 block 7 {}oops {}", "assumes 1 ".repeat(10), "# ".repeat(1 << 20));
+    let said = message(&["answer"], &text, 1);
+    assert!(said.len() < 400 && said.contains("oops"), "{said}");
+    let long = vec![b' '; (16 << 20) + 1];
+    assert!(message(&["answer"], long, 1).contains("more than 16777216 bytes, the most that are read"));
 }
 
 #[test]
@@ -113,8 +285,7 @@ fn a_refused_job_says_its_number_and_place() {
     let unknown = [&b"XX"[..], &hex(BYTES)[2..]].concat();
     assert!(message(&["answer"], unknown, 1).contains("refusal 4, WrongMark"));
     assert!(message(&["decode"], vec![0; limits::JOB_BYTES + 1], 1).contains("refusal 2, LongJob"));
-    assert!(message(&["decode", "--from", "hex"], "4844 0", 1).contains("odd number"));
-    assert!(message(&["decode", "--from", "hex"], "48 zz", 1).contains("other characters"));
+    assert!(message(&["decode"], b"HD\x01\x00\x41\x00", 1).contains("how many candidates (0 to 64)"));
 }
 
 #[test]
@@ -122,7 +293,6 @@ fn the_wrong_one_of_encode_and_decode_is_told() {
     assert!(message(&["encode"], hex(BYTES), 1).contains("`decode` takes"));
     assert!(message(&["decode"], TEXT, 1).contains("this is text"));
     assert!(message(&["decode"], BYTES, 1).contains("`--from hex`"));
-    assert!(message(&["decode"], "", 1).contains("refusal 3, MissingByte"));
 }
 
 #[test]
@@ -153,7 +323,11 @@ fn a_wrong_command_line_is_told_from_a_wrong_job() {
         (&["bogus"], "`bogus` is no command"),
         (&["answer", "--bogus"], "`--bogus` is no option"),
         (&["encode", "--bytes"], "`--bytes` is no option"),
+        (&["answer", "--all"], "`--all` is no option"),
         (&["answer", "-o"], "a value is missing after `-o`"),
+        (&["answer", "--output="], "a value is missing after `--output`"),
+        (&["answer", "--bytes=1"], "`--bytes=1` is no option"),
+        (&["answer", "--", "one", "-two"], "`-two` follows another"),
         (&["answer", "--from", "jpeg"], "`jpeg` is no form"),
         (&["answer", "one", "two"], "`two` follows another"),
         (&["help", "bogus"], "there is no help on `bogus`"),

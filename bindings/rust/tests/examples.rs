@@ -33,7 +33,8 @@ fn each_example_has_the_answer_beside_it() {
     assert_eq!(names, ["diamond", "loop", "no-last-session", "optional-chain"]);
     for name in names {
         let expected = read(repository(&format!("examples/{name}.answer")));
-        assert_eq!(answer(&job(&name)).unwrap().to_string(), expected, "{name}");
+        let job = job(&name);
+        assert_eq!(answer(&job).unwrap().with_names(job.names()).to_string(), expected, "{name}");
     }
 }
 
@@ -62,13 +63,14 @@ fn jobs_of(document: &str) -> Vec<String> {
     let lines: Vec<&str> = document.lines().collect();
     let parts = lines.split(|line| !line.starts_with("    ") && !line.is_empty());
     let texts = parts.map(|part| part.join("\n"));
-    texts.filter(|text| text.trim_start().starts_with("scope ")).collect()
+    let starts_job = |text: &str| text.starts_with("scope ") || text.starts_with("name ");
+    texts.filter(|text| starts_job(text.trim_start())).collect()
 }
 
 #[test]
 fn the_jobs_in_the_document_on_the_notation_are_jobs() {
     let jobs = jobs_of(&read(repository("docs/NOTATION.md")));
-    assert!(!jobs.is_empty());
+    assert_eq!(jobs.len(), 2);
     for text in jobs {
         let job: Job = text.parse().unwrap_or_else(|why| panic!("{why}\n{text}"));
         assert!(answer(&job).is_ok());

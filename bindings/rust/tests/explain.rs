@@ -1,230 +1,330 @@
-//! Explanations hold together, and say what happened.
+//! Explanations: what they say of jobs that show one thing each, and where nothing is explained.
 
 mod common;
 
-use common::jobs;
-use scope_deps::explain::{explain, Base, End, Explanation, How, Mismatch, Origin, Side};
-use scope_deps::{answer, limits, sheet, BlockId, Entry, Job, JobBuilder, Path, Property, Sheet};
+use common::{jobs, repository};
+use scope_deps::explain::{blocks_that_matter, explain, Elsewhere, End, Explanation, Mismatch};
+use scope_deps::{answer, raw, sheet, BlockId, Job, Sheet};
+use std::collections::BTreeSet;
+use std::process::Command;
 
 fn explained(job: &Job) -> Option<Explanation> {
     let (sheet, answer) = (sheet(job).ok()?, answer(job).ok()?);
     Some(explain(job, &sheet, &answer).unwrap_or_else(|why| panic!("{why}:\n{job}")))
 }
 
-fn text(job: &str) -> String {
-    explained(&job.parse().unwrap()).unwrap().to_string()
+fn explained_text(job: &str) -> Explanation {
+    explained(&job.parse().unwrap()).unwrap()
 }
 
-/// The neighbours of a block on one side, but not itself.
-fn neighbours(job: &Job, id: BlockId, side: Side) -> Vec<BlockId> {
-    let block = &job.blocks()[job.place_of(id).unwrap()];
-    let after =
-        job.blocks().iter().filter(|other| other.predecessors().contains(&id)).map(|other| other.id());
-    let all: Vec<BlockId> = match side {
-        Side::Predecessors => block.predecessors().to_vec(),
-        Side::Successors => after.collect(),
-    };
-    all.into_iter().filter(|&near| near != id).collect()
+/// The explanation in short.
+fn short(job: &str) -> String {
+    explained_text(job).to_string()
 }
 
-/// That each step rests on earlier ones and on the sheet, and the last is the scope block's.
-fn check_origin(job: &Job, origin: &Origin) {
-    let sheet = sheet(job).unwrap();
-    let mut told: Vec<(BlockId, &Path)> = Vec::new();
-    for step in &origin.steps {
-        let had = |block: BlockId, path: &Path| told.iter().any(|&(b, p)| b == block && p.same_entries(path));
-        assert!(step.path.same_names(&origin.path));
-        match &step.how {
-            How::Assumed => {
-                let record = &job.blocks()[job.place_of(step.block).unwrap()];
-                assert!(record.assumed().iter().any(|path| path.same_entries(&step.path)));
-            }
-            How::Reduced { from, bases } => {
-                assert!(had(step.block, from), "{job}");
-                let marks = step.path.entries().iter().zip(from.entries());
-                let made_plain = marks.filter(|(now, before)| before.optional && !now.optional).count();
-                let holds = |path: &Path| sheet.paths(step.block).any(|held| held.same_entries(path));
-                assert!(!holds(&step.path) || bases.len() == made_plain, "{job}");
-                assert!(bases.iter().all(holds), "{job}");
-            }
-            How::Joined { side, from, passed_over } => {
-                assert!(!from.is_empty() && from.iter().all(|&near| had(near, &step.path)), "{job}");
-                let mut told = [&from[..], passed_over].concat();
-                let mut all = neighbours(job, step.block, *side);
-                told.sort();
-                all.sort();
-                assert_eq!(told, all, "{job}");
-            }
-        }
-        assert_eq!(step.kept, sheet.paths(step.block).any(|held| held.same_entries(&step.path)));
-        told.push((step.block, &step.path));
-    }
-    let last = origin.steps.last().unwrap();
-    assert!(last.block == job.scope() && last.path.same_entries(&origin.path), "{job}");
+/// The explanation in full.
+fn full(job: &str) -> String {
+    explained_text(job).in_full().to_string()
+}
+
+/// What is said of why the last entry of the last candidate is cut.
+fn cut(job: &str) -> Vec<String> {
+    let said = short(job);
+    let lines = said.lines().skip_while(|line| !line.contains("  is cut: ")).skip(1);
+    lines.map(|line| line.trim().to_string()).collect()
 }
 
 #[test]
-fn every_job_is_explained_step_by_step() {
-    let (mut known, mut cut, mut covered, mut joined) = (0, 0, 0, 0);
-    for job in jobs(6, 6_000) {
-        let Some(explanation) = explained(&job) else { continue };
-        assert_eq!(explanation.reasons.len(), job.candidates().len());
-        explanation.origins.iter().for_each(|origin| check_origin(&job, origin));
-        joined += explanation.origins.iter().filter(|origin| origin.steps.len() > 2).count();
-        for reason in &explanation.reasons {
-            known += reason.bases.iter().filter(|base| matches!(base, Base::Known { .. })).count();
-            cut += usize::from(matches!(reason.end, End::Cut { .. }));
-            covered += usize::from(matches!(reason.end, End::Covered { .. }));
-        }
-    }
-    assert!(
-        [known, cut, covered, joined].iter().all(|&count| count > 100),
-        "{known} {cut} {covered} {joined}"
-    );
-}
-
-/// The job with this scope block, and a candidate for each path that the block holds, one entry longer.
-fn with_scope(job: &Job, sheet: &Sheet, scope: BlockId) -> Option<Job> {
-    let blocks = job.blocks().iter().cloned().fold(Job::builder(scope), JobBuilder::block);
-    let longer = sheet.paths(scope).filter_map(|path| path.then(Entry::plain(Property::Name(77))).ok());
-    longer.take(limits::CANDIDATES).fold(blocks, JobBuilder::candidate).build().ok()
-}
-
-#[test]
-fn every_path_that_a_block_holds_is_explained() {
-    let mut steps = 0;
-    for job in jobs(9, 2_000).filter(|job| job.to_bytes().len() < 500) {
-        let Ok(sheet) = sheet(&job) else { continue };
-        for job in job.blocks().iter().filter_map(|block| with_scope(&job, &sheet, block.id())) {
-            let Some(explanation) = explained(&job) else { continue };
-            explanation.origins.iter().for_each(|origin| check_origin(&job, origin));
-            steps += explanation.origins.iter().map(|origin| origin.steps.len()).sum::<usize>();
-        }
-    }
-    assert!(steps > 5_000, "{steps}");
-}
-
-#[test]
-fn no_block_is_passed_over_where_there_is_no_loop() {
-    let ascending = |job: &Job| {
-        let before = |at: usize, id: &BlockId| job.place_of(*id).is_some_and(|place| place < at);
-        job.blocks()
-            .iter()
-            .enumerate()
-            .all(|(at, block)| block.predecessors().iter().all(|id| before(at, id)))
-    };
-    let mut steps = 0;
-    for job in jobs(7, 4_000).filter(ascending) {
-        let Some(explanation) = explained(&job) else { continue };
-        for step in explanation.origins.iter().flat_map(|origin| &origin.steps) {
-            if let How::Joined { passed_over, .. } = &step.how {
-                assert!(passed_over.is_empty(), "{job}");
-                steps += 1;
-            }
-        }
-    }
-    assert!(steps > 100, "{steps}");
-}
-
-#[test]
-fn a_cut_and_a_mark_made_plain() {
-    let said = text("scope 7 block 7 assumes 1 candidate 1?.10.11");
+fn the_page_of_an_athlete_without_a_last_session() {
+    let job = std::fs::read_to_string(repository("examples/no-last-session.job")).unwrap();
     assert_eq!(
-        said,
+        short(&job),
         "\
-candidate 1?.10.11
- returned 1.10
-    ?.10  becomes .10: 1 is known in block 7, by the path 1 [1]
-    .11   is cut: 1.10 is not known in block 7, since no path of its set reaches it
+candidate athlete.lastSession.beats
+ returned athlete.lastSession
+    .lastSession  stays plain: athlete is known to be there in block 2; it comes from block 0, which assumes it
+    .beats        is cut: athlete.lastSession is not known to be there in block 2
+                  block 1 assumes athlete.lastSession, but control can also come to block 2 from block 0, which does not have it
+"
+    );
+    assert_eq!(
+        full(&job),
+        "\
+candidate athlete.lastSession.beats
+ returned athlete.lastSession
+    .lastSession  stays plain: athlete is known to be there in block 2 [1]
+    .beats        is cut: athlete.lastSession is not known to be there in block 2
+                  athlete.lastSession is there in block 1 [2]
+                  it stops at block 2: control comes there from block 1, which has it, but also from block 0, which does not
+                  it stops at block 0: control goes on from there to block 1, which has it, but also to block 2, which does not
 
-[1] the path 1 in block 7
-    block 7 assumes it
+[1] how athlete came there
+    block 0 assumes athlete
+    block 1 took athlete over from block 0, the only block that control comes from
+    block 2 took athlete over from blocks 0 and 1, all the blocks that control comes from
+
+[2] how athlete.lastSession came there
+    block 1 assumes athlete.lastSession
 "
     );
 }
 
 #[test]
-fn a_candidate_covered_by_another_and_an_optional_path_that_decides() {
-    let said = text("scope 7 block 7 assumes 1?.10 candidate 1?.10, 1.10, 2");
+fn the_tool_shows_it_in_short_and_with_all_in_full() {
+    let file = repository("examples/no-last-session.job");
+    let job = std::fs::read_to_string(&file).unwrap();
+    for (options, expected) in [(&[][..], short(&job)), (&["--all"], full(&job))] {
+        let tool = env!("CARGO_BIN_EXE_scope-deps");
+        let output = Command::new(tool).arg("explain").args(options).arg(&file).output().unwrap();
+        assert!(output.status.success() && output.stderr.is_empty(), "{output:?}");
+        assert_eq!(String::from_utf8(output.stdout).unwrap(), expected);
+    }
+}
+
+#[test]
+fn a_loop_is_told_as_it_was_walked() {
+    let job =
+        "scope 2 block 2 block 0 after 3, 1, 2 block 3 after 0, 1 block 1 after 0 assumes 2 candidate 2.10";
+    let way = "
+    block 1 assumes 2
+    block 3 took 2 over from block 1, where control comes from, and left out block 0: on a loop with it, and not finished
+    block 0 took 2 over from block 3, where control goes on, and left out block 1: on a loop with it, and not finished
+    block 2 took 2 over from block 0, the only block that control goes on to\n";
+    assert!(full(job).ends_with(way), "{}", full(job));
+}
+
+#[test]
+fn a_block_that_was_left_out_and_does_not_have_the_path_is_told_in_short() {
+    let job = std::fs::read_to_string(repository("examples/loop.job")).unwrap();
+    let told = "
+    .rate  stays plain: beat is known to be there in block 3; it comes from block 2, which assumes it
+           block 3 left out block 1, which does not have it: control comes from there too, but the two are on a loop\n";
+    assert!(short(&job).ends_with(told), "{}", short(&job));
+    // The same with all arrows turned.
+    let turned = short(
+        "scope 3 block 4 block 3 after 1 block 2 after 3 assumes 5 block 1 after 2, 3, 4 block 0 after 1
+         candidate 5.10",
+    );
+    let told = "
+         block 3 left out block 1, which does not have it: control goes on there too, but the two are on a loop\n";
+    assert!(turned.ends_with(told), "{turned}");
+}
+
+#[test]
+fn a_cut_on_the_way_after_the_scope_block_and_aside() {
+    assert_eq!(
+        cut("scope 4 block 0 block 1 after 0 assumes 5 block 2 after 0, 1 block 3 after 2 block 4 after 3 candidate 5.10"),
+        ["block 1 assumes 5, but on the way to block 4 it stops at block 2: \
+          control can also come there from block 0, which does not have it"]
+    );
+    assert_eq!(
+        cut("scope 0 block 0 block 1 after 0 assumes 5 block 2 after 0 candidate 5.10"),
+        ["block 1 assumes 5, but control can also go on from block 0 to block 2, which does not have it"]
+    );
+    assert_eq!(
+        cut("scope 9 block 9 block 0 after 9 block 1 after 0 assumes 5 block 2 after 0 candidate 5.10"),
+        ["block 1 assumes 5, but on the way to block 9 it stops at block 0: \
+          control can also go on from there to block 2, which does not have it"]
+    );
+    assert_eq!(
+        cut("scope 2 block 0 block 1 after 0 assumes 5 block 2 after 0 candidate 5.10"),
+        ["block 1 assumes 5, but it stops at block 0: \
+          control can also go on from there to block 2, which does not have it"]
+    );
+    assert_eq!(
+        cut("scope 2 block 1 assumes 5 block 2 candidate 5.10"),
+        ["block 1 assumes 5, but block 1 and block 2 are not connected"]
+    );
+}
+
+#[test]
+fn a_block_that_has_the_base_from_others() {
+    assert_eq!(
+        cut("scope 3 block 0 assumes 5.6 block 1 after 0 block 2 block 3 after 1, 2 candidate 5.10"),
+        ["block 1 has 5.6 from block 0, which assumes it, and so has 5, \
+          but control can also come to block 3 from block 2, which does not have it"]
+    );
+}
+
+#[test]
+fn different_paths_of_the_same_base() {
+    assert_eq!(
+        cut("scope 3 block 1 assumes 5.6 block 2 assumes 5.7 block 3 after 1, 2 candidate 5.10"),
+        ["block 1 assumes 5.6, and so has 5, but control comes to block 3 from block 1, which has it by 5.6, \
+          and from block 2, which has it by 5.7; only a path that is the same in all is passed on"]
+    );
+}
+
+#[test]
+fn a_loop_from_which_nothing_is_taken_over() {
+    let said = cut("scope 2 block 1 after 2 assumes 5 block 2 after 1 block 3 after 2 candidate 5.10");
     assert_eq!(
         said,
+        ["block 1 assumes 5, but all the blocks that control comes from are on a loop with block 2 \
+          and not finished when it takes over"]
+    );
+}
+
+#[test]
+fn a_base_that_no_block_assumes() {
+    assert_eq!(cut("scope 7 block 7 assumes 1 candidate 1.10.11"), ["no block assumes 1.10"]);
+    assert_eq!(
+        cut("scope 7 block 4 assumes 1?.10 block 7 candidate 1.10"),
+        ["no block assumes 1; block 4 assumes 1?.10, which leaves open whether 1 is there"]
+    );
+}
+
+#[test]
+fn a_path_of_the_scope_block_that_leaves_the_base_open() {
+    assert_eq!(
+        cut("scope 7 block 7 assumes 1?.10 candidate 1.10"),
+        ["block 7 has 1?.10, which leaves open whether 1 is there", "no block assumes 1"]
+    );
+    assert_eq!(
+        cut("scope 7 block 7 assumes 1.11, 1?.10 candidate 1.10"),
+        ["block 7 has 1?.10, which leaves open whether 1 is there; \
+          it has 1.11 too, but the path that comes first counts"]
+    );
+}
+
+#[test]
+fn a_mark_that_becomes_plain_one_that_stays_and_a_covered_candidate() {
+    assert_eq!(
+        short("scope 7 block 7 assumes 1, 2?.10 candidate 1?.10, 2?.10?.11, 2?.10?.11.12, 3"),
         "\
 candidate 1?.10
- returned 1
-    ?.10  is not returned: candidate 1.10 is cut at 1, and depending on that is enough
+ returned 1.10
+    ?.10  becomes .10: 1 is known to be there in block 7; block 7 assumes it
 
-candidate 1.10
- returned 1
-    .10  is cut: 1 is not known in block 7, since 1?.10, the first path of its set to reach it, reads on by `?.`
+candidate 2?.10?.11
+ returned 2?.10.11
+    ?.10  stays optional: 2 is not known to be there in block 7
+          block 7 has 2?.10, which leaves open whether 2 is there
+          no block assumes 2
+    ?.11  becomes .11: 2?.10 is known to be there in block 7; block 7 assumes it
 
-candidate 2
- returned 2
+candidate 2?.10?.11.12
+ returned 2?.10.11
+    ?.10  stays optional: 2 is not known to be there in block 7
+          block 7 has 2?.10, which leaves open whether 2 is there
+          no block assumes 2
+    ?.11  becomes .11: 2?.10 is known to be there in block 7; block 7 assumes it
+    .12   is cut: 2?.10.11 is not known to be there in block 7
+          no block assumes 2?.10.11
+
+candidate 3
+ returned 3
     the variable itself is returned
 "
     );
+    let covered = short("scope 7 block 7 assumes 1?.10 candidate 1?.10, 1.10");
+    assert!(covered
+        .contains("?.10  is not returned: candidate 1.10 is cut at 1, and depending on that is enough\n"));
 }
 
 #[test]
-fn a_reduced_path_and_the_way_it_came() {
-    let said = text("scope 2 block 0 assumes 1, 1?.10 block 1 after 0 block 2 after 1 candidate 1.10.11");
-    assert!(said.contains(".11  stays plain: 1.10 is known in block 2, by the path 1.10 ["), "{said}");
-    let way = "block 0 assumes 1?.10
-    block 0 has it by reduction of 1?.10, since it holds 1
-    block 1 has it from 0, its only predecessor
-    block 2 has it from 1, its only predecessor\n";
-    assert!(said.contains(way), "{said}");
-}
-
-#[test]
-fn a_form_that_a_block_had_for_a_while() {
-    let said = text(
-        "scope 2 block 2 after 1, 5 assumes 1 block 1 after 5 assumes 1.10 block 5 assumes 1?.10
-         block 4 after 2, 5 candidate 1.10.11",
+fn a_path_that_changed_its_form_on_the_way() {
+    let said = full("scope 2 block 0 assumes 1, 1?.10 block 1 after 0 block 2 after 1 candidate 1.10.11");
+    let way = "[2] how 1.10 came there
+    block 0 assumes 1?.10
+    block 0 made 1?.10 into 1.10, since it had 1
+    block 1 took 1.10 over from block 0, the only block that control comes from
+    block 2 took 1.10 over from block 1, the only block that control comes from\n";
+    assert!(said.ends_with(way), "{said}");
+    let said = short("scope 7 block 7 assumes 1, 1?.10 candidate 1.10.11");
+    assert!(said.contains("1.10 is known to be there in block 7; block 7 assumes 1?.10\n"), "{said}");
+    let said = short("scope 2 block 0 assumes 1, 1?.10 block 1 after 0 block 2 after 1 candidate 1.10.11");
+    assert!(
+        said.contains("1.10 is known to be there in block 2; it comes from block 0, which assumes 1?.10\n"),
+        "{said}"
     );
-    let way = "block 5 assumes 1?.10
-    block 1 had 1?.10 for a while from 5, its only predecessor
-    block 2 had 1?.10 for a while, since each of its predecessors had it: 1, 5
-    block 2 has it by reduction of 1?.10, since it holds 1\n";
-    assert!(said.contains(way), "{said}");
 }
 
 #[test]
-fn a_form_that_reduction_made_and_took_away() {
-    let said = text(
-        "scope 2 block 1 assumes 1, 1?.10?.11 block 5 assumes 1.10?.11 block 2 after 1, 5 assumes 1.10
-         block 4 after 5 candidate 1.10.11.12",
-    );
-    let way = "block 1 assumes 1?.10?.11
-    block 5 assumes 1.10?.11
-    block 1 had 1.10?.11 for a while by reduction of 1?.10?.11, since it holds 1
-    block 2 had 1.10?.11 for a while, since each of its predecessors had it: 1, 5
-    block 2 has it by reduction of 1.10?.11, since it holds 1.10\n";
-    assert!(said.contains(way), "{said}");
-}
-
-#[test]
-fn a_reason_without_a_loop_is_preferred() {
-    let said = text(
-        "scope 1 block 0 assumes 5 block 1 after 0, 3 block 2 after 1 assumes 5 block 6 block 3 after 2, 6
-         candidate 5.10",
-    );
-    assert!(said.contains("block 1 has it from 2, its only successor\n"), "{said}");
+fn a_job_that_does_not_settle_says_so_at_each_cut() {
+    let mut cuts = 0;
+    for job in jobs(31, 3_000).filter(|job| sheet(job).is_ok_and(|sheet| !sheet.is_settled())) {
+        let explanation = explained(&job).unwrap();
+        let is_cut = |end: &End| matches!(end, End::Cut { .. });
+        let expected = explanation.reasons.iter().filter(|reason| is_cut(&reason.end)).count();
+        let said = explanation.to_string();
+        let told = said.matches("the stage stopped after 100 rounds, before it had settled\n").count();
+        assert!(told >= expected, "{said}");
+        cuts += expected;
+    }
+    assert!(cuts > 5, "{cuts}");
+    assert!(!short("scope 7 block 7 candidate 1.10").contains("settled"));
 }
 
 #[test]
 fn a_job_without_candidates_is_explained_too() {
-    assert_eq!(text("scope 7 block 7"), "the job has no candidate, so no path is returned\n");
+    assert_eq!(short("scope 7 block 7"), "the job has no candidate, so no path is returned\n");
+    assert_eq!(full("scope 7 block 7"), "the job has no candidate, so no path is returned\n");
 }
 
 #[test]
-fn a_loop_passes_a_block_over() {
-    let said = text(
-        "scope 3 block 0 block 1 after 0, 3 block 2 after 1 assumes 5 block 3 after 1, 2 block 4 after 1
-         candidate 5.10",
+fn no_sentence_has_inner_words_and_a_cut_has_few_lines() {
+    let inner = [
+        "set",
+        "sets",
+        "reaches",
+        "node",
+        "nodes",
+        "joined",
+        "Active",
+        "Done",
+        "reduction",
+        "holds",
+        "reads",
+    ];
+    for job in jobs(32, 1_500) {
+        let Some(explanation) = explained(&job) else { continue };
+        let (short, full) = (explanation.to_string(), explanation.in_full().to_string());
+        for text in [&short, &full] {
+            let words: BTreeSet<&str> = text.split(|c: char| !c.is_alphabetic()).collect();
+            assert!(inner.iter().all(|word| !words.contains(word)), "{text}");
+        }
+        let entries: usize = explanation.reasons.iter().map(|reason| reason.bases.len() + 1).sum();
+        let most = 3 + usize::from(!explanation.settled);
+        assert!(short.lines().count() <= 1 + 4 * explanation.reasons.len() + most * entries, "{short}");
+    }
+}
+
+#[test]
+fn the_blocks_that_matter_are_those_that_the_text_names() {
+    let mut some_left_out = 0;
+    for job in jobs(33, 1_500) {
+        let Some(explanation) = explained(&job) else { continue };
+        let named = blocks_named(&explanation.in_full().to_string());
+        assert_eq!(blocks_that_matter(&explanation), named, "{job}");
+        some_left_out += usize::from(!named.is_empty() && named.len() < job.blocks().len());
+    }
+    assert!(some_left_out > 100, "{some_left_out}");
+}
+
+/// The numbers after `block`, and those of the list after `blocks`.
+fn blocks_named(text: &str) -> BTreeSet<BlockId> {
+    let mut named = BTreeSet::new();
+    let words: Vec<&str> = text.split_whitespace().collect();
+    for (place, _) in words.iter().enumerate().filter(|(_, word)| ["block", "blocks"].contains(word)) {
+        let list = words[place + 1..].iter().map(|word| word.trim_end_matches([',', ';', ':', '.']));
+        let ids = list.filter(|word| *word != "and").map_while(|word| word.parse().ok());
+        named.extend(ids.take(if words[place] == "block" { 1 } else { usize::MAX }).map(BlockId));
+    }
+    named
+}
+
+#[test]
+fn a_base_that_stopped_has_all_its_stops() {
+    let explanation = explained_text(
+        "scope 3 block 0 block 1 after 0 assumes 5 block 2 after 0 block 3 after 1, 2 block 4 after 3 assumes 5
+         block 5 after 3 candidate 5.10",
     );
-    let way = "block 2 assumes it
-    block 3 has it from 2; its predecessor 1 was passed over, being on a loop with 3 and still being visited\n";
-    assert!(said.contains(way), "{said}");
+    let End::Cut { why, .. } = &explanation.reasons[0].end else { panic!("{explanation}") };
+    let Elsewhere::Stopped { blocks, stops } = &why.elsewhere else { panic!("{explanation}") };
+    assert_eq!(blocks, &[BlockId(1), BlockId(4)]);
+    let at: Vec<(u32, u32)> = stops.iter().map(|stop| (stop.at.0, stop.holder.block.0)).collect();
+    assert_eq!(at, [(3, 1), (3, 4), (0, 1)]);
 }
 
 #[test]
@@ -238,4 +338,23 @@ fn sheet_and_answer_of_other_jobs_are_not_explained() {
     assert_eq!(told(&other, &one), Some(Mismatch));
     assert_eq!(told(&one, &other), Some(Mismatch));
     assert_eq!(told(&elsewhere, &one), Some(Mismatch));
+}
+
+#[test]
+fn nothing_is_explained_where_the_library_s_sheet_is_not_the_replay_s() {
+    let job: Job = "scope 1 block 0 assumes 1, 1?.10 block 1 after 0 candidate 1.10.11".parse().unwrap();
+    let (bytes, answer) = (raw::sheet(&job.to_bytes()).unwrap(), answer(&job).unwrap());
+    let sheet = Sheet::from_bytes(&bytes).unwrap();
+    assert!(explain(&job, &sheet, &answer).is_ok());
+    // The last record is the set of block 1. It holds nodes 0 and 2; a faulty library might leave
+    // one out.
+    let set = bytes.len() - 64;
+    assert_eq!(bytes[set], 0b101);
+    for faulty in [0b001, 0b100, 0b111, 0b000] {
+        let mut bytes = bytes.clone();
+        bytes[set] = faulty;
+        let why = explain(&job, &Sheet::from_bytes(&bytes).unwrap(), &answer).unwrap_err();
+        assert!(why.to_string().contains("does not end with this sheet"), "{why}");
+        assert!(why.to_string().contains("nothing is explained"), "{why}");
+    }
 }

@@ -86,7 +86,8 @@ fn the_specifications_reductions_and_graphs() {
 
 #[test]
 fn a_text_is_free_in_its_lines_and_comments() {
-    let wide = "# a job\nscope 7\n\n\tblock 7 # the scope\n  after 7,\n 8\n assumes 1.2, 3\n assumes 4\nblock 8\ncandidate 5,6\r\ncandidate 7";
+    let wide = "# a job\nscope 7\n\n\tblock 7 # the scope\n  after 7,\n 8\n assumes 1.2, 3\n assumes 4\n\
+                block 8\ncandidate 5,6\r\ncandidate 7";
     let job: Job = wide.parse().unwrap();
     let text = "scope 7\nblock 7 after 7, 8\n  assumes 1.2\n  assumes 3\n  assumes 4\nblock 8\n\
                 candidate 5\ncandidate 6\ncandidate 7\n";
@@ -102,29 +103,23 @@ fn wrong(text: &str, line: usize, column: usize, message: &str) {
 
 #[test]
 fn a_text_that_is_no_job_is_refused_where_it_goes_wrong() {
-    wrong("", 1, 1, "`scope` and the scope block's id is due here, not the end of the text");
-    wrong("# no job\n", 2, 1, "`scope` and the scope block's id is due here, not the end of the text");
+    let scope = "`name`, or `scope` and the scope block's id, is due here, not the end of the text";
+    wrong("", 1, 1, scope);
+    wrong("# no job\n", 2, 1, scope);
     wrong("scope\nblok", 2, 1, "the scope block's id is due here, not `blok`");
-    wrong("scope 7 blok 7", 1, 9, "`block` and a block's id is due here, not `blok`");
+    wrong("scope 7 blok 7", 1, 9, "`name`, or `block` and a block's id, is due here, not `blok`");
     wrong("scope 7\nblock 7 after", 2, 14, "a predecessor's id is due here, not the end of the text");
-    wrong(
-        "scope 7\nblock 7 7",
-        2,
-        9,
-        "`,`, `after`, `assumes`, `block`, `candidate` or the end of the job is due here, not `7`",
-    );
-    wrong(
-        "scope 7 block 7\ncandidate 1, 2 3",
-        2,
-        16,
-        "`,`, `candidate` or the end of the job is due here, not `3`",
-    );
     let once = "a block's predecessors stand in one list, right after its id";
     wrong("scope 7\nblock 7 assumes 1 after 7", 2, 19, once);
     wrong("scope 7\nblock 7 after 7 after 8", 2, 17, once);
     wrong("scope 7 block 7 assumes 1?10", 1, 26, "after `?` there is a `.`, as in `1?.10` or `1?.[0]`");
     wrong("scope 7 block 7 assumes 1.[0]", 1, 27, "a number read plainly has no dot before it: `1[0]`");
-    wrong("scope 7 block 7 assumes 1.x", 1, 27, "a name's number is due here, not `x`");
+    wrong(
+        "scope 7 block 7 assumes 1.x",
+        1,
+        27,
+        "a property's name is due here: a number, or a name given before, which `x` is not",
+    );
     wrong("scope 7 block 7 assumes 1[0", 1, 28, "`]` is due here, not the end of the text");
     wrong(
         "scope 7 block 7 assumes 1[1e999]",
@@ -139,25 +134,90 @@ fn a_text_that_is_no_job_is_refused_where_it_goes_wrong() {
 }
 
 #[test]
+fn only_what_may_stand_there_is_offered() {
+    let offered = |text: &str, column, words: &str| {
+        let (found, end) =
+            (&text[column - 1..], "`candidate`, `name` or the end of the job is due here, not");
+        wrong(text, 1, column, &format!("{words}{end} `{found}`"));
+    };
+    offered("scope 3 block 3, 4".strip_suffix(" 4").unwrap(), 16, "`after`, `assumes`, `block`, ");
+    offered("scope 3 block 3 7", 17, "`after`, `assumes`, `block`, ");
+    offered("scope 3 block 3 after 3 7", 25, "`,`, `assumes`, `block`, ");
+    offered("scope 3 block 3 assumes 1 7", 27, "`,`, `assumes`, `block`, ");
+    offered("scope 3 block 3 after 3 assumes 1, 2 7", 38, "`,`, `assumes`, `block`, ");
+    offered("scope 3 block 3 name 1 x 7", 26, "`block`, ");
+    offered("scope 3 block 3 candidate 1 7", 29, "`,`, ");
+    offered("scope 3 block 3 candidate 1 block", 29, "`,`, ");
+    offered("scope 3 block 3 candidate 1 name 1 x assumes", 38, "");
+    wrong("scope 3 block 3 after", 1, 22, "a predecessor's id is due here, not the end of the text");
+    let variable = "a path's variable is due here";
+    wrong("scope 3 block 3 assumes", 1, 24, &format!("{variable}, not the end of the text"));
+    let names = format!("{variable}: a number, or a name given before, which `block` is not");
+    wrong("scope 3 block 3 assumes block 4", 1, 25, &names);
+}
+
+#[test]
+fn long_words_and_lines_are_cut_in_messages() {
+    let word = "x".repeat(1 << 20);
+    let text = format!("scope 3 block 3 {word}");
+    let error = text.parse::<Job>().unwrap_err();
+    assert!(error.message().ends_with(&format!("not `{}..`", "x".repeat(40))), "{error}");
+    let excerpt = error.excerpt(&text);
+    assert_eq!(excerpt, format!("1 | scope 3 block 3 {}..\n  |                 ^", "x".repeat(40)));
+
+    let before = "assumes 1 ".repeat(20);
+    let text = format!("scope 3\nblock 3 {before}oops {}", "é".repeat(300));
+    let error = text.parse::<Job>().unwrap_err();
+    assert_eq!((error.line(), error.column()), (2, 209));
+    let excerpt = error.excerpt(&text);
+    let lines: Vec<&str> = excerpt.lines().collect();
+    assert_eq!(lines[0], format!("2 | ..{}oops {}..", &before[140..], "é".repeat(35)));
+    assert_eq!(lines[1].find('^'), lines[0].find("oops"));
+
+    let digits = "9".repeat(100_000);
+    wrong(
+        &format!("scope {digits}"),
+        1,
+        7,
+        &format!("the scope block's id is at most 4294967295, and {}.. is more", "9".repeat(40)),
+    );
+    assert!(format!("1[{digits}x]").parse::<Path>().unwrap_err().to_string().len() < 100);
+}
+
+#[test]
+fn what_a_terminal_would_obey_is_not_in_an_excerpt() {
+    let text = "scope 3 \u{1b}[31m";
+    let error = text.parse::<Job>().unwrap_err();
+    assert!(error.message().ends_with("not U+001B"), "{error}");
+    assert_eq!(error.excerpt(text), "1 | scope 3 \u{fffd}[31m\n  |         ^");
+}
+
+#[test]
+fn a_byte_order_mark_is_named() {
+    let error = "\u{feff}scope 7 block 7".parse::<Job>().unwrap_err();
+    assert!(error.message().ends_with("not a byte-order mark (U+FEFF); a text has none"), "{error}");
+}
+
+#[test]
 fn parts_that_make_no_job_are_refused_where_they_stand() {
     wrong("scope 7\nblock 8", 1, 7, "the scope block 7 is no block of the job");
     wrong("scope 7\nblock 7\nblock 7", 3, 7, "two blocks have the id 7");
-    wrong("scope 7\nblock 7 after 7, 7", 2, 18, "the block names predecessor 7 twice");
-    wrong("scope 7\nblock 7 after 7,\n  9", 3, 3, "predecessor 9 is no block of the job");
+    wrong("scope 7\nblock 7 after 7, 7", 2, 18, "block 7 names predecessor 7 twice");
+    wrong("scope 7\nblock 7 after 7,\n  9", 3, 3, "predecessor 9 of block 7 is no block of the job");
     let entries = ".1".repeat(17);
     wrong(&format!("scope 7 block 7 assumes 1{entries}"), 1, 58, "a path has at most 16 entries");
     let blocks: String = (0..129).map(|id| format!("block {id}\n")).collect();
-    wrong(&format!("scope 0\n{blocks}"), 130, 7, "a job has at most 128 blocks");
+    wrong(&format!("scope 0\n{blocks}"), 130, 7, "the job has 129 blocks, and at most 128 are allowed");
     wrong(
         &format!("scope 0 block 0{}", "\ncandidate 1".repeat(65)),
         66,
         11,
-        "a job has at most 64 candidates",
+        "the job has 65 candidates, and at most 64 are allowed",
     );
     wrong(
         &format!("scope 0 block 0{}", "\nassumes 1".repeat(256)),
         257,
         9,
-        "a block assumes at most 255 paths",
+        "block 0 has 256 assumed paths, and at most 255 are allowed",
     );
 }

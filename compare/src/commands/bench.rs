@@ -1,14 +1,14 @@
 //! `bench`: the times of the library and of the Rust.
 
-use super::Failure;
+use super::failure::Failure;
 use super::options::Options;
+use super::output::say;
 use compare::{library, oracle};
 
 pub fn run(words: &[&str]) -> Result<(), Failure> {
     let options = Options::read("bench", &["--seed", "--repeat", "--plot"], words)?;
     if let Some(why) = oracle::absent().or(library::absent()) {
-        println!("bench: nothing was timed: {why}");
-        return Ok(());
+        return say!("bench: nothing was timed: {why}");
     }
     #[cfg(all(library, reference))]
     timing::run(&options)?;
@@ -19,8 +19,9 @@ pub fn run(words: &[&str]) -> Result<(), Failure> {
 
 #[cfg(all(library, reference))]
 mod timing {
-    use crate::commands::options::Options;
-    use crate::commands::{Failure, failed};
+    use crate::commands::failure::{Failure, failed};
+    use crate::commands::options::{Options, SEED};
+    use crate::commands::output::say;
     use compare::bench::classes::{classes, slow_jobs, spread};
     use compare::bench::{Timer, Times, geometric_mean, plot};
     use compare::job::limits;
@@ -28,7 +29,6 @@ mod timing {
     use compare::progress::Progress;
     use std::fs;
 
-    const SEED: u64 = 20_261_115;
     const REPEAT: usize = 15;
     const EACH: usize = 60;
     const SPREAD: usize = 300;
@@ -41,23 +41,30 @@ mod timing {
         let mut accepted = |job: &[u8]| oracle.answer(job, limits::OUT_BYTES).is_ok();
         let seed = options.seed.unwrap_or(SEED);
         let mut timer = Timer::new(options.repeat.unwrap_or(REPEAT));
-        println!(
+        say!(
             "{:<22} {:>9} {:>10} {:>10} {:>11} {:>10} {:>7} {:>7}",
-            "microseconds per job", "bytes", "library", "(reading)", "Rust stage", "Rust all", "stage", "all"
-        );
+            "microseconds per job",
+            "bytes",
+            "library",
+            "(reading)",
+            "Rust stage",
+            "Rust all",
+            "stage",
+            "all"
+        )?;
         let (mut ratios, mut all) = (Vec::new(), Vec::new());
         for class in classes(seed, EACH, &mut accepted) {
             let timed = time_jobs(&mut timer, class.name, &class.jobs);
-            ratios.push(row(class.name, &timed));
+            ratios.push(row(class.name, &timed)?);
             all.extend(timed);
         }
         let (name, job, tried) = slowest(&mut timer);
         let timed = time_jobs(&mut timer, "slowest found", &[job]);
-        ratios.push(row("slowest found", &timed));
+        ratios.push(row("slowest found", &timed)?);
         all.extend(timed);
         let mean = |of: fn(&[f64; 2]) -> f64| geometric_mean(ratios.iter().map(of));
-        println!("{:<76} {:>7.1} {:>7.1}", "geometric mean of the classes", mean(|r| r[0]), mean(|r| r[1]));
-        println!("the slowest of {tried} accepted jobs at the limits: {name}");
+        say!("{:<76} {:>7.1} {:>7.1}", "geometric mean of the classes", mean(|r| r[0]), mean(|r| r[1]))?;
+        say!("the slowest of {tried} accepted jobs at the limits: {name}")?;
         if let Some(file) = &options.plot {
             all.extend(time_jobs(
                 &mut timer,
@@ -66,7 +73,7 @@ mod timing {
             ));
             fs::write(file, plot::svg(&all))
                 .map_err(|why| failed(format!("{file} cannot be written: {why}")))?;
-            println!("the plot of {} jobs is in {file}", all.len());
+            say!("the plot of {} jobs is in {file}", all.len())?;
         }
         Ok(())
     }
@@ -81,17 +88,18 @@ mod timing {
     }
 
     /// Prints the mean times of a class, and gives its two ratios.
-    fn row(name: &str, timed: &[Timed]) -> [f64; 2] {
+    fn row(name: &str, timed: &[Timed]) -> Result<[f64; 2], Failure> {
         let bytes = timed.iter().map(|(bytes, _)| bytes).sum::<usize>() / timed.len();
         let times = Times::mean(&timed.iter().map(|(_, times)| *times).collect::<Vec<_>>());
         let ratios = [times.rust_stage / times.library, times.rust() / times.library];
         let [library, reading, stage, all] =
             [times.library, times.library_reading, times.rust_stage, times.rust()].map(|time| time / 1000.0);
-        println!(
+        say!(
             "{name:<22} {bytes:>9} {library:>10.2} {reading:>10.2} {stage:>11.2} {all:>10.2} {:>7.1} {:>7.1}",
-            ratios[0], ratios[1]
-        );
-        ratios
+            ratios[0],
+            ratios[1]
+        )?;
+        Ok(ratios)
     }
 
     /// The job for which the library takes longest, with its name, and how many were tried.

@@ -1,12 +1,12 @@
 //! `memory`: the working memory of the stage's library.
 
-use super::Failure;
+use super::failure::Failure;
+use super::output::say;
 use compare::library;
 
 pub fn run() -> Result<(), Failure> {
     if let Some(why) = library::absent() {
-        println!("library: its memory was not measured: {why}");
-        return Ok(());
+        return say!("library: its memory was not measured: {why}");
     }
     #[cfg(library)]
     measured::run()?;
@@ -15,35 +15,38 @@ pub fn run() -> Result<(), Failure> {
 
 #[cfg(library)]
 mod measured {
-    use crate::commands::{Failure, failed};
+    use crate::commands::failure::{Failure, failed};
+    use crate::commands::options::SEED;
+    use crate::commands::output::say;
     use compare::generate::{class_names, generate};
     use compare::job::limits;
     use compare::library::interface::{scope_deps_answer, scope_deps_sheet};
     use compare::memory::{MOST_BYTES, Stacks};
     use compare::worst;
+    use std::env;
+    use std::ffi::OsString;
     use std::process::Command;
 
     /// Generated jobs of each class that are measured beside the worst ones.
-    const SEED: u64 = 20_261_115;
     const EACH: u64 = 400;
 
     pub fn run() -> Result<(), Failure> {
         let mut stacks = Stacks::default();
         let mut most = [0; 2];
-        println!("bytes of stack below the call, all that it calls included (at most {MOST_BYTES} allowed)");
-        println!("{:>8} {:>8}  job", "answer", "sheet");
+        say!("bytes of stack below the call, all that it calls included (at most {MOST_BYTES} allowed)")?;
+        say!("{:>8} {:>8}  job", "answer", "sheet")?;
         for (name, job) in worst::jobs() {
             let taken = measure(&mut stacks, &job.to_bytes());
-            show(taken, &name);
+            show(taken, &name)?;
             most = larger(most, taken);
         }
         for class in class_names() {
             let jobs = (0..EACH).map(|number| generate(SEED, number, Some(class)).job);
             let taken = jobs.map(|job| measure(&mut stacks, &job)).fold([0; 2], larger);
-            show(taken, &format!("the most of {EACH} generated jobs, class {class}"));
+            show(taken, &format!("the most of {EACH} generated jobs, class {class}"))?;
             most = larger(most, taken);
         }
-        show(most, "the most of all");
+        show(most, "the most of all")?;
         show_symbols()?;
         match most[0].max(most[1]) {
             most if most > MOST_BYTES => {
@@ -64,8 +67,8 @@ mod measured {
         [a[0].max(b[0]), a[1].max(b[1])]
     }
 
-    fn show([answer, sheet]: [usize; 2], what: &str) {
-        println!("{answer:>8} {sheet:>8}  {what}");
+    fn show([answer, sheet]: [usize; 2], what: &str) -> Result<(), Failure> {
+        say!("{answer:>8} {sheet:>8}  {what}")
     }
 
     /// Names by which memory is taken from the heap or from the system.
@@ -74,23 +77,24 @@ mod measured {
 
     /// Shows by the archive's symbols that there is no memory but the stack.
     fn show_symbols() -> Result<(), Failure> {
-        let listed = match Command::new("nm").arg(env!("LIBRARY_FILE")).output() {
+        let listed = match Command::new("nm").arg(library_file()).output() {
             Ok(listed) if listed.status.success() => String::from_utf8_lossy(&listed.stdout).into_owned(),
-            _ => {
-                println!("symbols: not listed, since nm is not here or cannot read the library");
-                return Ok(());
-            }
+            _ => return say!("symbols: not listed, since nm is not here or cannot read the library"),
         };
         let outside = of_kinds(&listed, "Uwv");
         let writable = of_kinds(&listed, "BbCcDdGgSs");
         let text = |names: &[&str]| if names.is_empty() { "none".into() } else { names.join(" ") };
-        println!("symbols (nm): called from outside: {}", text(&outside));
-        println!("symbols (nm): data that can be written: {}", text(&writable));
+        say!("symbols (nm): called from outside: {}", text(&outside))?;
+        say!("symbols (nm): data that can be written: {}", text(&writable))?;
         if !writable.is_empty() || outside.iter().any(|name| ALLOCATORS.contains(name)) {
             return Err(failed("the library has memory beside its stack"));
         }
-        println!("so the library has no heap and no statics: the stack is all of its working memory");
-        Ok(())
+        say!("so the library has no heap and no statics: the stack is all of its working memory")
+    }
+
+    /// The archive: the one that the script found, or else the one that was linked.
+    fn library_file() -> OsString {
+        env::var_os("SCOPE_DEPS_LIBRARY").unwrap_or_else(|| env!("LIBRARY_FILE").into())
     }
 
     /// The names of the symbols whose letter is one of `kinds`.

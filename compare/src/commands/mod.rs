@@ -1,39 +1,51 @@
-//! Parts of the command line.
+//! The commands.
 
-pub mod bench;
-pub mod compare;
-pub mod memory;
-pub mod options;
+mod bench;
+mod compare;
+pub mod failure;
+mod generate;
+mod help;
+mod memory;
+mod one_job;
+mod options;
+mod output;
+mod programs;
+mod stored;
 
-use ::compare::generate::class_names;
+use ::compare::oracle::Oracle;
+use failure::{Failure, misused};
+use std::path::PathBuf;
 
-const USAGE: &str = "\
-usage: compare/oracle answer                a job on standard input; writes its answer
-       compare/oracle sheet                 the same; writes its sheet
-       compare/oracle check                 replays compare/stored/jobs.bin
-       compare/oracle store                 makes compare/stored/jobs.bin and index.txt anew
-       compare/oracle generate --seed S --count N [--class C] [--max-bytes B] [--out FILE]
-                                            writes generated jobs with their answers and sheets
-       compare/oracle compare --seed S --count N [--seconds T] [--class C] [--first F]
-                                            compares the stage's library with the Rust
-       compare/oracle memory                measures the library's working memory
-       compare/oracle bench [--seed S] [--repeat R] [--plot FILE]
-                                            times the library and the Rust on the same jobs";
-
-/// What went wrong, and the exit code for it.
-pub struct Failure {
-    pub code: u8,
-    pub message: String,
+pub fn run(words: &[&str]) -> Result<(), Failure> {
+    let is_help = |word: &&str| matches!(*word, "--help" | "-h");
+    match *words {
+        [] => Err(misused("a command is missing")),
+        ["help" | "--help" | "-h"] => help::show(None),
+        ["help", topic] => help::show(Some(topic)),
+        [command, ref rest @ ..] if rest.iter().any(is_help) => help::show(Some(command)),
+        ["generate", ref options @ ..] => generate::run(options),
+        ["compare", ref options @ ..] => compare::run(options),
+        ["bench", ref options @ ..] => bench::run(options),
+        ["programs", ref options @ ..] => programs::run(options),
+        ["answer"] => one_job::answer(),
+        ["sheet"] => one_job::sheet(),
+        ["check"] => stored::check(),
+        ["store"] => stored::store(),
+        ["memory"] => memory::run(),
+        [command @ ("answer" | "sheet" | "check" | "store" | "memory" | "help"), .., extra] => {
+            Err(misused(format!("`{command}` takes nothing more, but `{extra}` follows")))
+        }
+        [command, ..] => Err(misused(format!("`{command}` is no command"))),
+    }
 }
 
-pub fn failed(message: impl Into<String>) -> Failure {
-    Failure { code: 1, message: message.into() }
+/// The Rust, for a command that cannot do without it.
+fn open(what: &str) -> Result<Oracle, Failure> {
+    Oracle::open().map_err(|why| Failure::NoRust(format!("{what} did not run: {why}")))
 }
 
-pub fn misused(message: impl Into<String>) -> Failure {
-    Failure { code: 2, message: format!("{}\n{}", message.into(), usage()) }
-}
-
-fn usage() -> String {
-    format!("{USAGE}\nclasses: {}", class_names().collect::<Vec<_>>().join(" "))
+/// A file of the repository, of the one that the script names: a built one may have been moved.
+fn repository(file: &str) -> PathBuf {
+    let root = std::env::var_os("SCOPE_DEPS_ROOT").map(PathBuf::from);
+    root.unwrap_or_else(|| PathBuf::from(env!("CARGO_MANIFEST_DIR")).join("..")).join(file)
 }

@@ -1,7 +1,10 @@
 //! Options of the commands: a name and a value each.
 
-use super::{Failure, misused};
+use super::failure::{Failure, misused};
 use compare::generate::class_names;
+
+/// The seed where none is given.
+pub const SEED: u64 = 20_261_115;
 
 #[derive(Default)]
 pub struct Options {
@@ -9,11 +12,13 @@ pub struct Options {
     pub count: Option<usize>,
     pub seconds: Option<u64>,
     pub first: Option<u64>,
+    pub job: Option<u64>,
     pub repeat: Option<usize>,
     pub class: Option<String>,
     pub max_bytes: Option<usize>,
     pub out: Option<String>,
     pub plot: Option<String>,
+    pub bin: Option<String>,
 }
 
 impl Options {
@@ -39,28 +44,17 @@ impl Options {
             "--count" => self.count = Some(number(name, value)? as usize),
             "--seconds" => self.seconds = Some(number(name, value)?),
             "--first" => self.first = Some(number(name, value)?),
+            "--job" => self.job = Some(number(name, value)?),
             "--repeat" => self.repeat = Some(number(name, value)? as usize),
             "--class" => self.class = Some(class(value)?),
             "--max-bytes" => self.max_bytes = Some(number(name, value)? as usize),
             "--out" => self.out = Some(value.to_string()),
             "--plot" => self.plot = Some(value.to_string()),
+            "--bin" => self.bin = Some(value.to_string()),
             _ => unreachable!("no command knows another option"),
         }
         Ok(())
     }
-}
-
-/// The options of `generate`, which needs a seed and a count.
-pub fn generated(words: &[&str]) -> Result<Options, Failure> {
-    let known = ["--seed", "--count", "--class", "--max-bytes", "--out"];
-    let options = Options::read("generate", &known, words)?;
-    if options.seed.is_none() {
-        return Err(misused("`generate` needs --seed"));
-    }
-    if options.count.is_none() {
-        return Err(misused("`generate` needs --count"));
-    }
-    Ok(options)
 }
 
 fn number(name: &str, value: &str) -> Result<u64, Failure> {

@@ -4,6 +4,7 @@ use super::Comparison;
 use super::fixed;
 use crate::generate::generate;
 use std::collections::BTreeMap;
+use std::io::{self, Write};
 use std::time::{Duration, Instant};
 
 /// A job on which the two differ, and a name for a file to keep it in.
@@ -61,7 +62,9 @@ pub fn generated_jobs(comparison: &mut Comparison, asked: &Generated) -> Result<
         }
         if shown.elapsed() >= Duration::from_secs(2) {
             shown = Instant::now();
-            eprintln!("jobs compared: {} in {} s", tally.jobs, started.elapsed().as_secs());
+            // Whether anyone reads it is no matter.
+            let _ =
+                writeln!(io::stderr(), "jobs compared: {} in {} s", tally.jobs, started.elapsed().as_secs());
         }
     }
     Ok(tally)

@@ -3,19 +3,20 @@
 use super::Features;
 use crate::job::limits;
 use crate::reader::{
-    BYTE_LEFT, OUT_OF_RANGE, PAST_END, Reader, Refusal, SHORT_OUT, TWICE, UNKNOWN_BLOCK, WRONG_MARK, read_job,
+    EXTRA_BYTE, MISSING_BYTE, OUT_OF_RANGE, REPEATED_ID, Reader, Refusal, SHORT_BUFFER, UNKNOWN_BLOCK,
+    WRONG_MARK, read_job,
 };
 
 /// Where the refusal is met, and which later ones the job would get without it.
 pub fn refusal_features(number: Refusal, bytes: &[u8], found: &mut Features) {
     let read = |bytes: &[u8]| read_job(bytes, limits::OUT_BYTES).err();
     match number {
-        SHORT_OUT => add_later(found, number, read(bytes)),
-        PAST_END | WRONG_MARK | OUT_OF_RANGE => {
+        SHORT_BUFFER => add_later(found, number, read(bytes)),
+        MISSING_BYTE | WRONG_MARK | OUT_OF_RANGE => {
             found.insert(format!("refusal {number} met {}", place(bytes, needed_bytes(bytes))));
         }
-        BYTE_LEFT => add_later(found, number, read(&bytes[..needed_bytes(bytes)])),
-        TWICE => {
+        EXTRA_BYTE => add_later(found, number, read(&bytes[..needed_bytes(bytes)])),
+        REPEATED_ID => {
             let job = Reader::new(bytes).job().expect("a job with repeats can be read");
             let known = |id: &u32| job.blocks.iter().any(|block| block.id == *id);
             let mut named = job.blocks.iter().flat_map(|block| &block.predecessors).chain([&job.scope]);
@@ -35,7 +36,8 @@ fn add_later(found: &mut Features, number: Refusal, later: Option<Refusal>) {
 /// Every shorter part ends too early as well.
 fn needed_bytes(bytes: &[u8]) -> usize {
     let lengths: Vec<usize> = (0..bytes.len()).collect();
-    lengths.partition_point(|&length| read_job(&bytes[..length], limits::OUT_BYTES).err() == Some(PAST_END))
+    lengths
+        .partition_point(|&length| read_job(&bytes[..length], limits::OUT_BYTES).err() == Some(MISSING_BYTE))
 }
 
 /// Marks, and where the fields of their records end; entries after the first

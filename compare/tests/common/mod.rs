@@ -1,51 +1,13 @@
-//! Jobs written shortly: `1?.10` is identifier 1 with optional name 10.
-#![allow(dead_code)]
+//! Jobs written shortly, and what comes back.
+#![allow(dead_code, unused_imports)]
 
-use compare::job::{Block, Entry, Job, Path, Property};
+pub use compare::notation::{block, job, path, text};
+
+use compare::job::{Entry, Path};
 use compare::output::{Answer, Sheet, Written, read_answer, read_sheet};
-
-pub fn path(text: &str) -> Path {
-    let mut parts = text.split('.');
-    let (root, mut optional) = part(parts.next().unwrap());
-    let mut entries = Vec::new();
-    for text in parts {
-        let (value, next_optional) = part(text);
-        entries.push(Entry { optional, property: Property::Name(value), span: 0 });
-        optional = next_optional;
-    }
-    Path { identifier: root as u32, reactive: false, span: 0, entries }
-}
-
-/// A number, and whether the entry after it is optional.
-fn part(text: &str) -> (u64, bool) {
-    let digits = text.trim_end_matches('?');
-    (digits.parse().unwrap(), digits.len() < text.len())
-}
-
-/// Paths with commas between them.
-pub fn paths(text: &str) -> Vec<Path> {
-    text.split(", ").filter(|text| !text.is_empty()).map(path).collect()
-}
-
-pub fn text(path: &Path) -> String {
-    let mut text = path.identifier.to_string();
-    for entry in &path.entries {
-        text += if entry.optional { "?." } else { "." };
-        text += &entry.property.value().to_string();
-    }
-    text
-}
 
 pub fn texts(paths: &[Path]) -> String {
     paths.iter().map(text).collect::<Vec<_>>().join(", ")
-}
-
-pub fn block(id: u32, predecessors: &[u32], assumed: &str) -> Block {
-    Block { id, predecessors: predecessors.to_vec(), assumed: paths(assumed) }
-}
-
-pub fn job(scope: u32, blocks: Vec<Block>, candidates: &str) -> Job {
-    Job { scope, blocks, candidates: paths(candidates) }
 }
 
 /// Bytes from hex, with white space and slashes left out.
@@ -70,14 +32,17 @@ pub fn sheet(bytes: &[u8]) -> Sheet {
 
 /// The path of a node, written shortly.
 pub fn node_text(sheet: &Sheet, number: usize) -> String {
+    text(&node_path(sheet, number))
+}
+
+fn node_path(sheet: &Sheet, number: usize) -> Path {
     let node = &sheet.nodes[number];
-    match node.parent {
-        None => node.identifier.to_string(),
-        Some(parent) => {
-            let mark = if node.optional { "?." } else { "." };
-            format!("{}{mark}{}", node_text(sheet, parent), node.property.value())
-        }
-    }
+    let Some(parent) = node.parent else {
+        return Path { identifier: node.identifier, reactive: false, span: 0, entries: vec![] };
+    };
+    let mut path = node_path(sheet, parent);
+    path.entries.push(Entry { optional: node.optional, property: node.property, span: node.span });
+    path
 }
 
 /// The set of a block, in the order of node numbers.

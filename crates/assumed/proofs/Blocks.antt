@@ -21,13 +21,12 @@ use Rattle.rows.specs.Rows.{Lent, RowSet, rowOf, rowsFrom, rowsOf}
 use Rattle.rows.proofs.Rows.{row-at, rows-count}
 use Rattle.job.specs.Head.{readBlockHead}
 use Rattle.job.specs.Kept.{blocksOf, PlacedJob}
-use Rattle.job.specs.Passing.{passed, orNone}
+use Rattle.job.specs.Passing.{IsRead, passed, orNone}
 use Rattle.job.specs.declared.BlockHead.{BlockHead}
 use Rattle.job.proofs.Passing.{not-both}
 use Rattle.job.proofs.RecordParts.{BlockParts, block-parts}
 use Rattle.job.proofs.BlocksAt.{blocks-read, block-there}
 use Rattle.assumed.specs.declared.EnteredSet.{EnteredSet}
-use Rattle.paths.specs.Enters.{IsRead}
 use Rattle.assumed.specs.Start.{assumedAt, FillsBy, Fills, StartHeld}
 use Rattle.assumed.proofs.Filling.{paths-extend}
 

@@ -15,11 +15,11 @@ use Rattle.model.specs.Stage.{Entered, enterPaths}
 use Rattle.registry.specs.Words.{registryOf, Held}
 use Rattle.registry.proofs.View.{registry-length}
 use Rattle.rows.specs.Members.{membersOf}
-use Rattle.job.specs.Passing.{orNone}
+use Rattle.job.specs.Passing.{IsRead, orNone}
 use Rattle.job.proofs.Many.{many-first}
 use Rattle.paths.specs.declared.EnteredPath.{EnteredPath}
 use Rattle.paths.specs.declared.EnteredPath.the-variants as path
-use Rattle.paths.specs.Enters.{IsRead, Enters}
+use Rattle.paths.specs.Enters.{Enters}
 use Rattle.assumed.specs.Start.{pathsAt}
 
 -- Entering paths only adds nodes.

@@ -1,4 +1,5 @@
--- Numbers of any width: a number is read where all its bytes are there, and a wide number is two narrow ones.
+-- Numbers of any width: a number is read where all its bytes are there, and a wide number is two
+-- narrow ones.
 use Prim.Native.Nat.{ℕ, zero, suc, _+_, _*_, _-_, _^_, _<_, _≤_}
 use mathlib.Core.Path.{_≡_, ap, _∙_}
 use mathlib.Core.List.{List}

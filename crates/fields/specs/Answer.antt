@@ -47,32 +47,7 @@ abbrev pub gotPlace : Passed → Read Unit
 gotPlace (place.To next) = got tt next
 gotPlace (place.Refused r) = refused r
 
--- the refusal of an answer that is one; of no use at any other
-abbrev pub refusalU8 : ReadU8 → Refusal
-refusalU8 (u8.Value x next) = MissingByte
-refusalU8 (u8.Refused r) = r
-
--- The same for two bytes.
-abbrev pub refusalU16 : ReadU16 → Refusal
-refusalU16 (u16.Value x next) = MissingByte
-refusalU16 (u16.Refused r) = r
-
--- The same for four bytes.
-abbrev pub refusalU32 : ReadU32 → Refusal
-refusalU32 (u32.Value x next) = MissingByte
-refusalU32 (u32.Refused r) = r
-
--- The same for eight bytes.
-abbrev pub refusalU64 : ReadU64 → Refusal
-refusalU64 (u64.Value x next) = MissingByte
-refusalU64 (u64.Refused r) = r
-
--- The same for a flag.
-abbrev pub refusalFlag : ReadFlag → Refusal
-refusalFlag (flag.Value x next) = MissingByte
-refusalFlag (flag.Refused r) = r
-
--- The same where the place alone is kept.
-abbrev pub refusalPlace : Passed → Refusal
-refusalPlace (place.To next) = MissingByte
-refusalPlace (place.Refused r) = r
+-- The refusal of a reading that is one; of no use at any other.
+abbrev pub refusalOf : {A : Type 0} → Read A → Refusal
+refusalOf (got a next) = MissingByte
+refusalOf (refused r) = r

@@ -1,4 +1,5 @@
-// The fields of a job: numbers of one to eight bytes, flags and marks, each read as a value and the place after it, or a refusal.
+// The fields of a job: numbers of one to eight bytes, flags and marks, each read as a value and the
+// place after it, or a refusal.
 use entries::Refusal;
 ghost use mathlib.Core.Path.{_≡_};
 ghost use Prim.Native.Nat.{_+_, _≤_};
@@ -6,8 +7,7 @@ ghost use lib.Dec.{leb};
 ghost use lib.ListN.{length};
 ghost use Rattle.model.specs.Read.{readNumber, readMark, readWithin, readFlag};
 ghost use Rattle.fields.specs.Number.{numberAt};
-ghost use Rattle.fields.specs.Answer.{gotU8, gotU16, gotU32, gotU64, gotFlag, gotPlace};
-ghost use Rattle.fields.specs.Answer.{refusalU8, refusalU16, refusalU32, refusalU64, refusalFlag, refusalPlace};
+ghost use Rattle.fields.specs.Answer.{gotU8, gotU16, gotU32, gotU64, gotFlag, gotPlace, refusalOf};
 
 // A field's value and the place after it, or the refusal.
 pub enum ReadU8 {
@@ -41,10 +41,11 @@ pub enum Passed {
     Refused(Refusal),
 }
 
-// Each answer's `refusal` is asked only where the answer is one.
+// Each answer's `refusal` is asked only where the answer is one. The language has no generics, so
+// each enum has its own.
 impl ReadU8 {
     pub fn refusal(self) -> Refusal
-        ensures { λ r. ⌜ r ≡ refusalU8 self ⌝ }
+        ensures { λ r. ⌜ r ≡ refusalOf (gotU8 self) ⌝ }
     {
         match self {
             ReadU8::Value(_, _) => Refusal::MissingByte,
@@ -55,7 +56,7 @@ impl ReadU8 {
 
 impl ReadU16 {
     pub fn refusal(self) -> Refusal
-        ensures { λ r. ⌜ r ≡ refusalU16 self ⌝ }
+        ensures { λ r. ⌜ r ≡ refusalOf (gotU16 self) ⌝ }
     {
         match self {
             ReadU16::Value(_, _) => Refusal::MissingByte,
@@ -66,7 +67,7 @@ impl ReadU16 {
 
 impl ReadU32 {
     pub fn refusal(self) -> Refusal
-        ensures { λ r. ⌜ r ≡ refusalU32 self ⌝ }
+        ensures { λ r. ⌜ r ≡ refusalOf (gotU32 self) ⌝ }
     {
         match self {
             ReadU32::Value(_, _) => Refusal::MissingByte,
@@ -77,7 +78,7 @@ impl ReadU32 {
 
 impl ReadU64 {
     pub fn refusal(self) -> Refusal
-        ensures { λ r. ⌜ r ≡ refusalU64 self ⌝ }
+        ensures { λ r. ⌜ r ≡ refusalOf (gotU64 self) ⌝ }
     {
         match self {
             ReadU64::Value(_, _) => Refusal::MissingByte,
@@ -88,7 +89,7 @@ impl ReadU64 {
 
 impl ReadFlag {
     pub fn refusal(self) -> Refusal
-        ensures { λ r. ⌜ r ≡ refusalFlag self ⌝ }
+        ensures { λ r. ⌜ r ≡ refusalOf (gotFlag self) ⌝ }
     {
         match self {
             ReadFlag::Value(_, _) => Refusal::MissingByte,
@@ -99,7 +100,7 @@ impl ReadFlag {
 
 impl Passed {
     pub fn refusal(self) -> Refusal
-        ensures { λ r. ⌜ r ≡ refusalPlace self ⌝ }
+        ensures { λ r. ⌜ r ≡ refusalOf (gotPlace self) ⌝ }
     {
         match self {
             Passed::To(_) => Refusal::MissingByte,
@@ -108,7 +109,8 @@ impl Passed {
     }
 }
 
-// Whether so many bytes stand from `at` on. The sum `at + bytes` may not fit, so the difference is compared.
+// Whether so many bytes stand from `at` on. The sum `at + bytes` may not fit, so the difference is
+// compared.
 pub fn reaches(s: &[u8], at: usize, bytes: usize) -> bool
     ensures { λ r. ⌜ r ≡ leb (at + bytes) (length (now (s .entry))) ⌝ }
 {
@@ -231,7 +233,8 @@ pub fn flag_at(s: &[u8], at: usize) -> ReadFlag
     ReadFlag::Value(found == 1, next)
 }
 
-// A mark is compared as the number that its two bytes make: a lone byte, even a wrong one, is a missing byte.
+// A mark is compared as the number that its two bytes make: a lone byte, even a wrong one, is a
+// missing byte.
 pub fn mark_at(s: &[u8], at: usize, mark: u16) -> Passed
     ensures { λ r. ⌜ gotPlace r ≡ readMark mark (now (s .entry)) at ⌝ }
 {

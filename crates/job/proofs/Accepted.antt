@@ -1,4 +1,5 @@
--- What the answer to an accepted job says of the job: where later stages read its blocks, predecessors, paths and candidates again.
+-- What the answer to an accepted job says of the job: where later stages read its blocks,
+-- predecessors, paths and candidates again.
 use Prim.Native.Nat.{ℕ, _<_, _≤_}
 use mathlib.Core.Path.{_≡_, refl, sym, ap, _∙_}
 use mathlib.Core.Bool.{Bool, true, false, cond}
@@ -21,7 +22,8 @@ use Rattle.job.specs.Ids.{blockIds}
 use Rattle.job.proofs.Noted.{ids-are}
 use Rattle.job.proofs.Answers.{job-fields, block-count, note-count}
 
--- the job behind an answer, which keeps the lengths of its lists, its scope and the place of its candidates
+-- the job behind an answer, which keeps the lengths of its lists, its scope and the place of its
+-- candidates
 pub record Accepted (s : List ℕ) (h : JobHead) : Type 0 where
   pub job : Job
   pub accepts : readJob HD 4 s ≡ got job (length s)

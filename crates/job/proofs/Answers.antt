@@ -8,12 +8,12 @@ use lib.Seq.{sets, length-sets}
 use Rattle.entries.specs.declared.Refusal.{Refusal}
 use Rattle.model.specs.Read.{Read, andThen}
 use Rattle.model.specs.Job.{HD, Header, Block, Job, readBlock, readRecords, acceptIds, readJob}
-use Rattle.job.specs.Ids.{checkedBy}
-use Rattle.job.specs.Kept.{blockNotes, blockPlaces, blockNumbers, keptOf}
+use Rattle.job.specs.Ids.{BlocksRead, checkedBy}
+use Rattle.job.specs.Kept.{notePlace, blockNotes, blockPlaces, blockNumbers, keptOf}
 use Rattle.job.specs.declared.JobHead.{JobHead}
 use Rattle.job.specs.declared.ReadJob.the-variants.{Value, Refused}
 use Rattle.job.proofs.Bounds.{held, blocks-most}
-use Rattle.job.proofs.Many.{many-length, notes-length}
+use Rattle.job.proofs.Many.{many-length, notes-length, read-again}
 use Rattle.job.proofs.Stored.{Stored, stored}
 use Rattle.job.proofs.Records.{Parts, parts, answer-value, answer-refused}
 use Rattle.job.proofs.Noted.{checked-is}
@@ -38,6 +38,13 @@ module _ (s : List ℕ) (j : Job) (p : Parts s j) where
   unfolding blockNotes
   note-count f = rw (p .header-read) (notes-length (readBlock 4) s f (p .header .blocks) (p .blocksAt) (p .blocks-read))
 
+  -- a block was read at each place noted
+  pub blocks-read-again : BlocksRead s (blockPlaces s)
+  unfolding blockNotes
+  blocks-read-again k h =
+      let again = read-again (readBlock 4) s (p .header .blocks) (p .blocksAt) (p .blocks-read) k (omega (arith, note-count notePlace)) in
+      rw (p .header-read) (record { value = again .0; next = again .1; read = again .2 })
+
   pub notes-stored : (f : ℕ → Block → ℕ) (l r : List ℕ) → length l ≡ 128 → r ≡ sets l 0 (blockNotes f s) → Stored (blockNotes f s) r (length (j .blocks))
   notes-stored f l r wide =
       stored l (blockNotes f s) r (length (j .blocks)) (omega (arith, note-count f, few, wide)) (block-count ∙ sym (note-count f))
@@ -48,6 +55,11 @@ module _ (s : List ℕ) {h : JobHead} (e : Value h ≡ keptOf s (readRecords HD 
       let v = answer-value s (readRecords HD 4 s) e in
       let p = parts s (v .2) .0 in
       omega (arith, ap (λ (h : JobHead). h .blocks) (v .3), block-count s (v .0) p, few s (v .0) p)
+
+  pub places-read : (places : List ℕ) → places ≡ blockPlaces s → BlocksRead s places
+  places-read places noted =
+      let v = answer-value s (readRecords HD 4 s) e in
+      rw noted (blocks-read-again s (v .0) (parts s (v .2) .0))
 
   -- an array of 128 has room for a note of each block
   pub blocks-stored : (f : ℕ → Block → ℕ) (l r : List ℕ) → length l ≡ 128 → r ≡ sets l 0 (blockNotes f s) → Stored (blockNotes f s) r (h .blocks)

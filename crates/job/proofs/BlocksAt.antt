@@ -1,4 +1,5 @@
--- A job whose blocks are noted at their places: it was accepted, and each block is read again at the place noted.
+-- A job whose blocks are noted at their places: it was accepted, and each block is read again at
+-- the place noted.
 use Prim.Native.Nat.{ℕ, suc, _<_}
 use mathlib.Core.Path.{_≡_, sym, ap, subst, _∙_}
 use mathlib.Core.List.{List, _∷_}
@@ -21,7 +22,8 @@ module _ {s : List ℕ} {n : ℕ} {places : List ℕ} (j : Job) (x : BlocksAt s 
   same-job = let e = sym (job-accepted .accepts) ∙ x .reads in cc
 
   -- block b is read at the place noted
-  pub block-there : (b : ℕ) → b < n → (a : Block) × (next : ℕ) × (readBlock 4 s (getD places b 0) ≡ got a next) × (drop b (j .blocks) ≡ a ∷ drop (suc b) (j .blocks))
+  pub block-there : (b : ℕ) → b < n
+      → (a : Block) × (next : ℕ) × (readBlock 4 s (getD places b 0) ≡ got a next) × (drop b (j .blocks) ≡ a ∷ drop (suc b) (j .blocks))
   block-there b l =
       let again = job-accepted .block-again b (rw (x .count) l) in (
         again .0,

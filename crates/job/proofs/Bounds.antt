@@ -42,7 +42,8 @@ pub within-most : (least most : ℕ) (read : Reader ℕ) (s : List ℕ) (at : �
 within-most least most read s at =
     rw within-fields
     (holds-after (λ x. x ≤ most) (read s at) _ (λ found next.
-    tested (λ x. x ≤ most) (leb least found && leb found most) found next OutOfRange (λ h. leb-true found most (and-second (leb least found) (leb found most) h))))
+    tested (λ x. x ≤ most) (leb least found && leb found most) found next OutOfRange
+    (λ h. leb-true found most (and-second (leb least found) (leb found most) h))))
 
 pub blocks-most : (mark : ℕ) (s : List ℕ) (at : ℕ) → Holds (λ (h : Header). h .blocks ≤ 128) (readHeader mark s at)
 blocks-most mark s at =

@@ -54,7 +54,8 @@ within-ends end least most read s at h =
     rw within-fields (ends-then end end (read s at) _ h (λ found. ends-tested end (leb least found && leb found most) found OutOfRange))
 
 pub flag-ends : (s : List ℕ) (at : ℕ) → EndsAt (at + 1) (readFlag s at)
-flag-ends s at = rw flag-fields (ends-mapped (at + 1) _ (readWithin 0 1 (readNumber 1) s at) (within-ends (at + 1) 0 1 (readNumber 1) s at (number-ends 0 s at)))
+flag-ends s at = rw flag-fields
+    (ends-mapped (at + 1) _ (readWithin 0 1 (readNumber 1) s at) (within-ends (at + 1) 0 1 (readNumber 1) s at (number-ends 0 s at)))
 
 pub id-ends : (s : List ℕ) (at : ℕ) → EndsAt (at + 4) (readBlockId s at)
 id-ends s at = ends-mapped (at + 4) _ (readNumber 4 s at) (number-ends 3 s at)

@@ -1,4 +1,5 @@
--- A path is its mark, its head and its entries; a block is its head, its predecessors and its paths.
+-- A path is its mark, its head and its entries; a block is its head, its predecessors and its
+-- paths.
 use Prim.Native.Nat.{ℕ}
 use mathlib.Core.Path.{_≡_, refl}
 use mathlib.Core.List.{List}

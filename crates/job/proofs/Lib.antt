@@ -12,6 +12,7 @@ pub mod IdLists
 pub mod Stored
 pub mod Records
 pub mod Noted
+pub mod ReadAgain
 pub mod Answers
 -- what later stages go on from
 pub mod Accepted

@@ -1,4 +1,5 @@
--- Records one after the other: what holds of none, and of one more in front, holds of all that were read.
+-- Records one after the other: what holds of none, and of one more in front, holds of all that were
+-- read.
 use Prim.Native.Nat.{ℕ, zero, suc, _-_, _<_}
 use mathlib.Core.Path.{_≡_, refl, ap}
 use mathlib.Core.List.{List, [], _∷_}

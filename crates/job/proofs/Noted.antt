@@ -1,4 +1,5 @@
--- What was noted of the blocks is what the definition asks of them: their ids, and their predecessors, read again at their places.
+-- What was noted of the blocks is what the definition asks of them: their ids, and their
+-- predecessors, read again at their places.
 use Prim.Native.Nat.{ℕ}
 use mathlib.Core.Path.{_≡_, refl, sym, ap}
 use mathlib.Core.Bool.{Bool, true, false, _||_, cond}
@@ -27,7 +28,7 @@ ids-noted s =
     (λ n at next a rest e q. rw e (ap (λ (l : List BlockId). a .id ∷ l) q))
 
 -- the numbers of ids that are read one after the other
-numbers-noted : (s : List ℕ) (n at : ℕ) → Holds (λ all. blockIds (notes noteValue n (readNumber 4) s at) ≡ all) (readMany n readBlockId s at)
+pub numbers-noted : (s : List ℕ) (n at : ℕ) → Holds (λ all. blockIds (notes noteValue n (readNumber 4) s at) ≡ all) (readMany n readBlockId s at)
 numbers-noted s =
     many-holds readBlockId s (λ n at all. blockIds (notes noteValue n (readNumber 4) s at) ≡ all) (λ at. refl)
     (λ n at next a rest e q.
@@ -51,7 +52,8 @@ predecessors-are s at = rw block-by-head (by-head (readBlockHead s at))
     by-head : (x : Read BlockHead)
         → Holds
         (λ (b : Block). blockIds (orNone x (λ (head : BlockHead) idsAt. notes noteValue (head .predecessors) (readNumber 4) s idsAt)) ≡ b .predecessors)
-        (andThen x (λ (head : BlockHead) idsAt. both (blockOf head) (readMany (head .predecessors) readBlockId s idsAt) (readMany (head .assumed) (readPath 4 PA) s)))
+        (andThen x (λ (head : BlockHead) idsAt. both (blockOf head) (readMany (head .predecessors) readBlockId s idsAt)
+        (readMany (head .assumed) (readPath 4 PA) s)))
     by-head (got head idsAt) =
         let ids : List BlockId = blockIds (notes noteValue (head .predecessors) (readNumber 4) s idsAt) in
         holds-both (λ l. ids ≡ l) (λ (b : Block). ids ≡ b .predecessors) (blockOf head) (λ l paths e. e)

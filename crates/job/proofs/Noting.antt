@@ -1,10 +1,10 @@
--- Notes of records: what one step of a loop that counts up says of the notes from there on, of the array that holds them, and of their number.
+-- Notes of records: what one step of a loop that counts up says of the notes from there on and of
+-- the array that holds them, and how many there are.
 use Prim.Native.Nat.{ℕ, zero, suc, _<_, _≤_, _+_, _-_}
 use mathlib.Core.Path.{_≡_}
 use mathlib.Core.List.{List, [], _∷_}
 use native.Mathlib.Omega.{arith}
 use native.Mathlib.Numerals.{add-one}
-use native.Mathlib.Nat.{add-zero}
 use lib.ListN.{length, set}
 use lib.Seq.{sets}
 use Rattle.entries.specs.declared.Refusal.{Refusal}
@@ -38,17 +38,6 @@ module _ {A B : Type 0} (read : Reader A) (s : List ℕ) (f : ℕ → A → B) w
 
   pub notes-stop : (l : List B) (n i at : ℕ) {r : Refusal} → i < n → read s at ≡ refused r → sets l i (notes f (n - i) read s at) ≡ l
   notes-stop l n i at h e = rw (no-more h e)
-
-  -- how many there are with the notes from the i-th record on
-  pub count-end : (n i at : ℕ) → n ≤ i → i + length (notes f (n - i) read s at) ≡ i
-  count-end n i at h = rw (none-left at h) (add-zero i)
-
-  pub count-next : (n i at : ℕ) {a : A} {next : ℕ} → i < n → read s at ≡ got a next
-      → i + length (notes f (n - i) read s at) ≡ i + 1 + length (notes f (n - (i + 1)) read s next)
-  count-next n i at h e = rw (one-more h e) (omega arith)
-
-  pub count-stop : (n i at : ℕ) {r : Refusal} → i < n → read s at ≡ refused r → i + length (notes f (n - i) read s at) ≡ i
-  count-stop n i at h e = rw (no-more h e) (add-zero i)
 
   few : (n at : ℕ) → ((next : ℕ) → length (notes f n read s next) ≤ n) → (x : Read A)
       → length (orNone x (λ a next. f at a ∷ notes f n read s next)) ≤ suc n

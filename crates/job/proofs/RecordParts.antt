@@ -1,4 +1,5 @@
--- Where the parts of a block and of a path stand that were read: their heads, predecessors, paths and entries.
+-- Where the parts of a block and of a path stand that were read: their heads, predecessors, paths
+-- and entries.
 use Prim.Native.Nat.{ℕ, _+_, _*_, _≤_}
 use mathlib.Core.Path.{_≡_, sym, _∙_}
 use mathlib.Core.List.{List}

@@ -12,7 +12,12 @@ use Rattle.entries.specs.declared.Refusal.the-variants.{ExtraByte}
 use Rattle.entries.specs.Path.{ReactiveScopeDependency}
 use Rattle.model.specs.Read.{Read, got, refused, andThen, readMany}
 use Rattle.model.specs.Job.{HD, CA, Header, Block, Job, readHeader, readBlock, readPath, readRecords}
-use Rattle.job.specs.Kept.{candidatesAt, headOf, keptOf}
+use Rattle.fields.proofs.Reading.{seen}
+use Rattle.job.specs.Answer.{headerOf, gotHeader}
+use Rattle.job.specs.Kept.{candidatesAt, headOf, keptOf, afterHeader, BehindHeader}
+use Rattle.job.specs.declared.Header as head
+use Rattle.job.specs.declared.ReadHeader.{ReadHeader}
+use Rattle.job.specs.declared.ReadHeader.the-variants as header
 use Rattle.job.specs.declared.JobHead.{JobHead}
 use Rattle.job.specs.declared.ReadJob.the-variants.{Value, Refused}
 use Rattle.job.specs.Passing.{passed}
@@ -31,6 +36,11 @@ candidates-place : (s : List ℕ) {h : Header} {b : ℕ} {bs : List Block} {c : 
     → readMany (h .blocks) (readBlock 4) s b ≡ got bs c → candidatesAt s ≡ c
 unfolding candidatesAt
 candidates-place s head past = rw (head, past)
+
+-- the header that was read, and the place after it
+pub behind : (s : List ℕ) (at : ℕ) {r : ReadHeader} {h : head.Header} {next : ℕ} → BehindHeader s at r → r ≡ header.Value h next
+    → readHeader HD s 0 ≡ got (headerOf h) at
+behind s at {h = h} p e = seen gotHeader (p .0) e ∙ ap (got (headerOf h)) (sym (p .1 ∙ ap (λ (r : ReadHeader). afterHeader r 0) e))
 
 -- how far the reading goes, by the places that were reached
 module _ (s : List ℕ) {h : Header} {b : ℕ} (head : readHeader HD s 0 ≡ got h b) where
@@ -91,7 +101,8 @@ pub record Parts (s : List ℕ) (j : Job) : Type 0 where
 
 module _ (s : List ℕ) (j : Job) (h : Header) (b : ℕ) (bs : List Block) (c : ℕ) (cs : List ReactiveScopeDependency) (e : ℕ)
     (r₁ : readHeader HD s 0 ≡ got h b) (r₂ : readMany (h .blocks) (readBlock 4) s b ≡ got bs c)
-    (r₃ : readMany (h .candidates) (readPath 4 CA) s c ≡ got cs e) (same : record { scope = h .scope; blocks = bs; candidates = cs } ≡ j) (end : e ≡ length s) where
+    (r₃ : readMany (h .candidates) (readPath 4 CA) s c ≡ got cs e) (same : record { scope = h .scope; blocks = bs; candidates = cs } ≡ j)
+    (end : e ≡ length s) where
   place : candidatesAt s ≡ c
   place = candidates-place s r₁ r₂
 

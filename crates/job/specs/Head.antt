@@ -1,11 +1,13 @@
--- What stands before the repeated parts of a path and of a block. `proofs/Heads.antt` shows that the records are these and what follows.
+-- What stands before the repeated parts of a path and of a block. `proofs/Heads.antt` shows that
+-- the records are these and what follows.
 use Rattle.model.specs.Read.{Reader, got, andThen, readNumber, readMark, readWithin, readFlag}
 use Rattle.model.specs.Job.{BL, readBlockId}
 use Rattle.model.specs.Answer.{spanWidth}
 use Rattle.job.specs.declared.PathHead.{PathHead}
 use Rattle.job.specs.declared.BlockHead.{BlockHead}
 
--- "PA: identifier u32, reactive u8 (0 or 1), span u32, entry count u8 (0 to 16)", after the mark and before the entries.
+-- "PA: identifier u32, reactive u8 (0 or 1), span u32, entry count u8 (0 to 16)", after the mark
+-- and before the entries.
 unfoldable pub readPathHead : Reader PathHead
 readPathHead s at =
     andThen (readNumber 4 s at) (λ identifier reactiveAt.

@@ -1,13 +1,16 @@
--- Refusals 7 and 8 by what was noted of the blocks: their ids, and the places at which their predecessors are read again.
-use Prim.Native.Nat.{ℕ}
+-- Refusals 7 and 8 by what was noted of the blocks: their ids, and the places at which their
+-- predecessors are read again.
+use Prim.Native.Nat.{ℕ, _<_}
 use mathlib.Core.Bool.{Bool, _||_, not, cond}
 use mathlib.Core.List.{List, map}
+use lib.ListN.{length, getD}
 use Rattle.entries.specs.declared.BlockId.{BlockId}
 use Rattle.entries.specs.declared.Refusal.the-variants.{RepeatedId, UnknownBlock}
 use Rattle.model.specs.Lists.{anyOf}
 use Rattle.model.specs.Read.{readNumber}
-use Rattle.model.specs.Job.{containsId, repeats}
-use Rattle.job.specs.Passing.{orNone, notes, noteValue}
+use Rattle.model.specs.Answer.{spanWidth}
+use Rattle.model.specs.Job.{readBlock, containsId, repeats}
+use Rattle.job.specs.Passing.{IsRead, orNone, notes, noteValue}
 use Rattle.job.specs.Head.{readBlockHead}
 use Rattle.job.specs.declared.BlockHead.{BlockHead}
 use Rattle.job.specs.declared.JobHead.{JobHead}
@@ -26,6 +29,10 @@ blockIds ids = map blockId ids
 abbrev pub anyUnknown : List BlockId → List BlockId → Bool
 anyUnknown known ids = anyOf (λ i. not (containsId known i)) ids
 
+-- A block was read at each of these places.
+abbrev pub BlocksRead : List ℕ → List ℕ → Type 0
+BlocksRead s places = (k : ℕ) → k < length places → IsRead (readBlock spanWidth s (getD places k 0))
+
 -- the numbers of the predecessors of the block at a place
 unfoldable pub predecessorsAt : List ℕ → ℕ → List ℕ
 predecessorsAt s at = orNone (readBlockHead s at) (λ (head : BlockHead) idsAt. notes noteValue (head .predecessors) (readNumber 4) s idsAt)
@@ -38,11 +45,13 @@ repeatsAt s at = repeats (blockIds (predecessorsAt s at))
 abbrev pub anyUnknownAt : List ℕ → List ℕ → ℕ → Bool
 anyUnknownAt s known at = anyUnknown (blockIds known) (blockIds (predecessorsAt s at))
 
--- 7, of the blocks with these ids at these places: an id, or a predecessor within one block, stands twice.
+-- 7, of the blocks with these ids at these places: an id, or a predecessor within one block, stands
+-- twice.
 abbrev pub repeatedIn : List ℕ → List ℕ → List ℕ → Bool
 repeatedIn s ids places = repeats (blockIds ids) || anyOf (repeatsAt s) places
 
--- 8, of the blocks with these ids at these places: a predecessor or the scope block is none of the ids.
+-- 8, of the blocks with these ids at these places: a predecessor or the scope block is none of the
+-- ids.
 abbrev pub unknownIn : List ℕ → List ℕ → List ℕ → BlockId → Bool
 unknownIn s ids places scope = anyOf (anyUnknownAt s ids) places || not (containsId (blockIds ids) scope)
 

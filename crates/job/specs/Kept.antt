@@ -1,12 +1,17 @@
--- What the reader keeps of a job: the header, the place of the candidates, and a note of each block.
+-- What the reader keeps of a job: the header, the place of the candidates, and a note of each
+-- block.
 use Prim.Native.Nat.{ℕ, _<_}
 use mathlib.Core.Path.{_≡_}
 use mathlib.Core.List.{List}
 use lib.ListN.{length, getD}
+use lib.Seq.{sets}
 use Rattle.model.specs.Read.{Read, got, refused, andThen, readMany}
 use Rattle.model.specs.Answer.{spanWidth}
 use Rattle.model.specs.Job.{HD, Header, Block, Job, readHeader, readBlock, readJob}
 use Rattle.job.specs.Passing.{orNone, notes}
+use Rattle.job.specs.Answer.{gotHeader}
+use Rattle.job.specs.declared.ReadHeader.{ReadHeader}
+use Rattle.job.specs.declared.ReadHeader.the-variants as header
 use Rattle.job.specs.declared.JobHead.{JobHead}
 use Rattle.job.specs.declared.ReadJob.{ReadJob}
 use Rattle.job.specs.declared.ReadJob.the-variants.{Value, Refused}
@@ -38,16 +43,39 @@ placeAfter (refused r) = 0
 
 -- the place after the blocks
 unfoldable pub candidatesAt : List ℕ → ℕ
-candidatesAt s = placeAfter (andThen (readHeader HD s 0) (λ (header : Header) blocksAt. readMany (header .blocks) (readBlock spanWidth) s blocksAt))
+candidatesAt s =
+    placeAfter
+    (andThen (readHeader HD s 0) (λ (header : Header) blocksAt. readMany (header .blocks) (readBlock spanWidth) s blocksAt))
+
+-- the place after a header that was looked for at a place; a refusal moves on to nowhere
+abbrev pub afterHeader : ReadHeader → ℕ → ℕ
+afterHeader (header.Value h next) at = next
+afterHeader (header.Refused r) at = at
+
+-- A header is what stands at the front of the bytes, and a place is the one after it.
+abbrev pub BehindHeader : List ℕ → ℕ → ReadHeader → Type 0
+BehindHeader s at h = (gotHeader h ≡ readHeader HD s 0) × (at ≡ afterHeader h 0)
 
 -- What is kept of a job beside the notes of its blocks.
 abbrev pub headOf : List ℕ → Job → JobHead
-headOf s job = record { blocks = length (job .blocks); candidates = length (job .candidates); scope = job .scope; «candidates_at» = candidatesAt s }
+headOf s job = record {
+  blocks = length (job .blocks);
+  candidates = length (job .candidates);
+  scope = job .scope;
+  «candidates_at» = candidatesAt s;
+}
 
 -- the answer that stands for a reading of the whole job
 abbrev pub keptOf : List ℕ → Read Job → ReadJob
 keptOf s (got job end) = Value (headOf s job)
 keptOf s (refused r) = Refused r
+
+-- The job in these bytes is answered by what is kept of it, or its refusal. The id of each block,
+-- and the place of its record, stand at the front of the two arrays.
+abbrev pub ReadsJob : List ℕ → ReadJob → List ℕ → List ℕ → List ℕ → List ℕ → Type 0
+ReadsJob s answer ids idsAfter places placesAfter =
+    (answer ≡ keptOf s (readJob HD spanWidth s))
+    × ((idsAfter ≡ sets ids 0 (blockNumbers s)) × (placesAfter ≡ sets places 0 (blockPlaces s)))
 
 -- the blocks of the job that the bytes read to; none where they read to no job
 unfoldable pub blocksOf : List ℕ → List Block

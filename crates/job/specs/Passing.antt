@@ -1,5 +1,6 @@
 -- What a pass over records finds out: the place after them, and a note of each that was read.
 use Prim.Native.Nat.{ℕ, zero, suc}
+use mathlib.Core.Path.{_≡_}
 use mathlib.Core.List.{List, [], _∷_}
 use Rattle.model.specs.Read.{Read, got, refused, Reader}
 
@@ -7,6 +8,12 @@ use Rattle.model.specs.Read.{Read, got, refused, Reader}
 abbrev pub passed : {A : Type 0} → Read A → Read Unit
 passed (got a next) = got tt next
 passed (refused r) = refused r
+
+-- A value was read.
+pub record IsRead {A : Type 0} (x : Read A) : Type 0 where
+  pub value : A
+  pub next : ℕ
+  pub read : x ≡ got value next
 
 -- What follows a value that was read; nothing follows a refusal.
 abbrev pub orNone : {A B : Type 0} → Read A → (A → ℕ → List B) → List B

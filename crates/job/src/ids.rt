@@ -1,4 +1,5 @@
-// Refusals 7 and 8: the ids of the blocks among each other, and the predecessors of each block, read again at its place.
+// Refusals 7 and 8: the ids of the blocks among each other, and the predecessors of each block,
+// read again at its place.
 use crate::JobHead;
 use crate::ReadBlockHead;
 use crate::ReadJob;
@@ -10,18 +11,21 @@ ghost use Prim.Native.Nat.{_≤_};
 ghost use lib.ListN.{length, take, drop};
 ghost use lib.Seq.{sets};
 ghost use Rattle.model.specs.Lists.{anyOf};
-ghost use Rattle.model.specs.Read.{readNumber};
-ghost use Rattle.model.specs.Job.{containsId, repeats};
-ghost use Rattle.job.specs.Passing.{notes, noteValue};
-ghost use Rattle.job.specs.Ids.{blockId, blockIds, anyUnknown, predecessorsAt, repeatsAt, anyUnknownAt, repeatedIn, unknownIn, checkedBy};
+ghost use Rattle.model.specs.Read.{readMany, readNumber};
+ghost use Rattle.model.specs.Job.{readBlockId, readBlock, containsId, repeats};
+ghost use Rattle.model.specs.Answer.{spanWidth};
+ghost use Rattle.job.specs.Passing.{IsRead, notes, noteValue};
+ghost use Rattle.job.specs.Ids.{blockIds, BlocksRead, predecessorsAt, anyUnknown};
+ghost use Rattle.job.specs.Ids.{repeatsAt, anyUnknownAt, repeatedIn, unknownIn, checkedBy};
 
 // Whether an id stands among others, from a place on.
-fn contains_from(ids: &[u32], from: usize, id: u32) -> bool
-    ensures { λ r. ⌜ r ≡ containsId (blockIds (drop from (now (ids .entry)))) (blockId id) ⌝ }
+fn contains_from(ids: &[u32], from: usize, id: BlockId) -> bool
+    ensures { λ r. ⌜ r ≡ containsId (blockIds (drop from (now (ids .entry)))) id ⌝ }
 {
+    let number = id.0;
     let mut i = from;
     while i < ids.len() {
-        if id == ids[i] {
+        if number == ids[i] {
             return true;
         }
         i = i + 1;
@@ -35,7 +39,7 @@ fn repeat_in(ids: &[u32]) -> bool
 {
     let mut i = 0;
     while i < ids.len() {
-        if contains_from(ids, i + 1, ids[i]) {
+        if contains_from(ids, i + 1, BlockId(ids[i])) {
             return true;
         }
         i = i + 1;
@@ -49,7 +53,7 @@ fn unknown_in(ids: &[u32], known: &[u32]) -> bool
 {
     let mut i = 0;
     while i < ids.len() {
-        if contains_from(known, 0, ids[i]) {
+        if contains_from(known, 0, BlockId(ids[i])) {
             i = i + 1;
         } else {
             return true;
@@ -58,28 +62,27 @@ fn unknown_in(ids: &[u32], known: &[u32]) -> bool
     false
 }
 
-// Up to `count` ids, as far as they go; how many were stored.
-fn ids_into(s: &[u8], start: usize, count: u8, out: &mut [u32; 64]) -> usize
-    requires { ⌜ count ≤ 64 ⌝ }
-    ensures { λ r. ⌜ r ≡ length (notes noteValue count (readNumber 4) (now (s .entry)) start) ⌝ }
-    ensures { λ r. ⌜ now (out .exit) ≡ sets (now (out .entry)) 0 (notes noteValue count (readNumber 4) (now (s .entry)) start) ⌝ }
+// `count` ids from a place on, which were read before, stored.
+fn ids_into(s: &[u8], start: usize, count: u8, out: &mut [u32; 64])
+    requires { ⌜ (count ≤ 64) × IsRead (readMany count readBlockId (now s) start) ⌝ }
+    ensures { λ _. ⌜ now (out .exit) ≡ sets (now (out .entry)) 0 (notes noteValue count (readNumber 4) (now (s .entry)) start) ⌝ }
 {
     let mut at = start;
     let mut i: u8 = 0;
     while i < count {
         let field = fields::u32_at(s, at);
         let ReadU32::Value(id, next) = field else {
-            return i as usize;
+            return;
         };
         out[i as usize] = id;
         at = next;
         i = i + 1;
     }
-    i as usize
 }
 
-// The predecessors of the block at a place, stored; how many there are.
+// The predecessors of the block at a place, which was read before, stored; how many there are.
 fn predecessors_at(s: &[u8], at: usize, out: &mut [u32; 64]) -> usize
+    requires { ⌜ IsRead (readBlock spanWidth (now s) at) ⌝ }
     ensures { λ r. ⌜ r ≡ length (predecessorsAt (now (s .entry)) at) ⌝ }
     ensures { λ r. ⌜ now (out .exit) ≡ sets (now (out .entry)) 0 (predecessorsAt (now (s .entry)) at) ⌝ }
 {
@@ -87,11 +90,13 @@ fn predecessors_at(s: &[u8], at: usize, out: &mut [u32; 64]) -> usize
     let ReadBlockHead::Value(head, ids_at) = head_field else {
         return 0;
     };
-    ids_into(s, ids_at, head.predecessors, out)
+    ids_into(s, ids_at, head.predecessors, out);
+    head.predecessors as usize
 }
 
 // Whether a predecessor of the block at a place stands twice.
 fn repeat_at(s: &[u8], at: usize) -> bool
+    requires { ⌜ IsRead (readBlock spanWidth (now s) at) ⌝ }
     ensures { λ r. ⌜ r ≡ repeatsAt (now (s .entry)) at ⌝ }
 {
     let mut out = [0u32; 64];
@@ -101,6 +106,7 @@ fn repeat_at(s: &[u8], at: usize) -> bool
 
 // Whether a predecessor of the block at a place is no block of the job.
 fn unknown_at(s: &[u8], at: usize, known: &[u32]) -> bool
+    requires { ⌜ IsRead (readBlock spanWidth (now s) at) ⌝ }
     ensures { λ r. ⌜ r ≡ anyUnknownAt (now (s .entry)) (now (known .entry)) at ⌝ }
 {
     let mut out = [0u32; 64];
@@ -110,6 +116,7 @@ fn unknown_at(s: &[u8], at: usize, known: &[u32]) -> bool
 
 // Whether a predecessor stands twice in a block at one of these places.
 fn any_repeat(s: &[u8], places: &[usize]) -> bool
+    requires { ⌜ BlocksRead (now s) (now places) ⌝ }
     ensures { λ r. ⌜ r ≡ anyOf (repeatsAt (now (s .entry))) (now (places .entry)) ⌝ }
 {
     let mut i = 0;
@@ -124,6 +131,7 @@ fn any_repeat(s: &[u8], places: &[usize]) -> bool
 
 // Whether a predecessor of a block at one of these places is no block of the job.
 fn any_unknown(s: &[u8], places: &[usize], known: &[u32]) -> bool
+    requires { ⌜ BlocksRead (now s) (now places) ⌝ }
     ensures { λ r. ⌜ r ≡ anyOf (anyUnknownAt (now (s .entry)) (now (known .entry))) (now (places .entry)) ⌝ }
 {
     let mut i = 0;
@@ -138,6 +146,7 @@ fn any_unknown(s: &[u8], places: &[usize], known: &[u32]) -> bool
 
 // Refusal 7, of the blocks with these ids at these places.
 fn repeated(s: &[u8], ids: &[u32], places: &[usize]) -> bool
+    requires { ⌜ BlocksRead (now s) (now places) ⌝ }
     ensures { λ r. ⌜ r ≡ repeatedIn (now (s .entry)) (now (ids .entry)) (now (places .entry)) ⌝ }
 {
     if repeat_in(ids) {
@@ -148,18 +157,21 @@ fn repeated(s: &[u8], ids: &[u32], places: &[usize]) -> bool
 
 // Refusal 8, of the same.
 fn unknown(s: &[u8], ids: &[u32], places: &[usize], scope: BlockId) -> bool
+    requires { ⌜ BlocksRead (now s) (now places) ⌝ }
     ensures { λ r. ⌜ r ≡ unknownIn (now (s .entry)) (now (ids .entry)) (now (places .entry)) scope ⌝ }
 {
     if any_unknown(s, places, ids) {
         return true;
     }
-    !contains_from(ids, 0, scope.0)
+    !contains_from(ids, 0, scope)
 }
 
 // The answer for a job whose records were read, by the ids and the places of its blocks.
 pub fn checked_by(s: &[u8], ids: &[u32], places: &[usize], head: JobHead) -> ReadJob
-    requires { ⌜ (head .blocks ≤ length (now ids)) × (head .blocks ≤ length (now places)) ⌝ }
-    ensures { λ r. ⌜ r ≡ checkedBy (now (s .entry)) (take (head .blocks) (now (ids .entry))) (take (head .blocks) (now (places .entry))) head ⌝ }
+    requires { ⌜ (head .blocks ≤ length (now ids)) × (head .blocks ≤ length (now places))
+        × BlocksRead (now s) (take (head .blocks) (now places)) ⌝ }
+    ensures { λ r. ⌜ r
+        ≡ checkedBy (now (s .entry)) (take (head .blocks) (now (ids .entry))) (take (head .blocks) (now (places .entry))) head ⌝ }
 {
     let n = head.blocks;
     let known = &ids[..n];

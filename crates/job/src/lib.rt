@@ -1,5 +1,5 @@
-// Reads a job: the records field by field and refusals 3 to 6 in one pass over the bytes; then 7 and 8, by the blocks' ids, and by their
-// predecessors, read again at the blocks' places.
+// Reads a job: the records field by field and refusals 3 to 6 in one pass over the bytes; then 7
+// and 8, by the blocks' ids, and by their predecessors, read again at the blocks' places.
 use entries::BlockId;
 use entries::DependencyPathEntry;
 use entries::IdentifierId;
@@ -15,14 +15,13 @@ ghost use mathlib.Core.Path.{_≡_};
 ghost use Prim.Native.Nat.{_≤_};
 ghost use lib.Seq.{sets};
 ghost use Rattle.model.specs.Read.{readMany, mapped};
-ghost use Rattle.model.specs.Job.{HD, Block, readBlockId, readEntry, readPath, readBlock, readHeader, readRecords, readJob};
+ghost use Rattle.model.specs.Job.{HD, Block, readBlockId, readEntry, readPath, readBlock, readHeader, readRecords};
 ghost use Rattle.model.specs.Answer.{spanWidth};
-ghost use Rattle.fields.specs.Answer.{gotPlace};
+ghost use Rattle.fields.specs.Answer.{gotPlace, refusalOf};
 ghost use Rattle.job.specs.Passing.{passed, notes};
 ghost use Rattle.job.specs.Head.{readPathHead, readBlockHead};
 ghost use Rattle.job.specs.Answer.{gotEntry, gotPathHead, gotBlockHead, gotBlockId, gotHeader};
-ghost use Rattle.job.specs.Answer.{refusalEntry, refusalPathHead, refusalBlockHead, refusalBlockId, refusalHeader};
-ghost use Rattle.job.specs.Kept.{notePlace, noteNumber, blockPlaces, blockNumbers, keptOf};
+ghost use Rattle.job.specs.Kept.{notePlace, noteNumber, blockPlaces, blockNumbers, keptOf, afterHeader, BehindHeader, ReadsJob};
 
 mod ids;
 
@@ -66,11 +65,6 @@ pub enum ReadBlockHead {
     Refused(Refusal),
 }
 
-pub enum ReadBlockId {
-    Value(BlockId, usize),
-    Refused(Refusal),
-}
-
 pub struct Header {
     pub blocks: u16,
     pub candidates: u16,
@@ -95,10 +89,10 @@ pub enum ReadJob {
     Refused(Refusal),
 }
 
-// Each answer's `refusal` is asked only where the answer is one.
+// Each answer's `refusal` is asked only where the answer is one, as of those of `fields`.
 impl ReadEntry {
     pub fn refusal(self) -> Refusal
-        ensures { λ r. ⌜ r ≡ refusalEntry self ⌝ }
+        ensures { λ r. ⌜ r ≡ refusalOf (gotEntry self) ⌝ }
     {
         match self {
             ReadEntry::Value(_, _) => Refusal::MissingByte,
@@ -109,7 +103,7 @@ impl ReadEntry {
 
 impl ReadPathHead {
     pub fn refusal(self) -> Refusal
-        ensures { λ r. ⌜ r ≡ refusalPathHead self ⌝ }
+        ensures { λ r. ⌜ r ≡ refusalOf (gotPathHead self) ⌝ }
     {
         match self {
             ReadPathHead::Value(_, _) => Refusal::MissingByte,
@@ -120,7 +114,7 @@ impl ReadPathHead {
 
 impl ReadBlockHead {
     pub fn refusal(self) -> Refusal
-        ensures { λ r. ⌜ r ≡ refusalBlockHead self ⌝ }
+        ensures { λ r. ⌜ r ≡ refusalOf (gotBlockHead self) ⌝ }
     {
         match self {
             ReadBlockHead::Value(_, _) => Refusal::MissingByte,
@@ -129,24 +123,24 @@ impl ReadBlockHead {
     }
 }
 
-impl ReadBlockId {
-    pub fn refusal(self) -> Refusal
-        ensures { λ r. ⌜ r ≡ refusalBlockId self ⌝ }
-    {
-        match self {
-            ReadBlockId::Value(_, _) => Refusal::MissingByte,
-            ReadBlockId::Refused(refusal) => refusal,
-        }
-    }
-}
-
 impl ReadHeader {
     pub fn refusal(self) -> Refusal
-        ensures { λ r. ⌜ r ≡ refusalHeader self ⌝ }
+        ensures { λ r. ⌜ r ≡ refusalOf (gotHeader self) ⌝ }
     {
         match self {
             ReadHeader::Value(_, _) => Refusal::MissingByte,
             ReadHeader::Refused(refusal) => refusal,
+        }
+    }
+
+    // The place after a header that was looked for at `at`: a refusal leaves the reader where it
+    // stands.
+    pub fn place_after(self, at: usize) -> usize
+        ensures { λ r. ⌜ r ≡ afterHeader self at ⌝ }
+    {
+        match self {
+            ReadHeader::Value(_, next) => next,
+            ReadHeader::Refused(_) => at,
         }
     }
 }
@@ -304,24 +298,23 @@ pub fn block_head_at(s: &[u8], at: usize) -> ReadBlockHead
     )
 }
 
-// The id of a block, and the place after its paths.
-pub fn block_at(s: &[u8], at: usize) -> ReadBlockId
+// The head of a block, and the place after its paths.
+pub fn block_at(s: &[u8], at: usize) -> ReadBlockHead
     ensures { λ r. ⌜ gotBlockId r ≡ mapped (λ (b : Block). b .id) (readBlock spanWidth (now (s .entry)) at) ⌝ }
 {
     let head_field = block_head_at(s, at);
     let ReadBlockHead::Value(head, ids_at) = head_field else {
-        return ReadBlockId::Refused(head_field.refusal());
+        return head_field;
     };
     let ids = past_ids(s, ids_at, head.predecessors);
     let Passed::To(paths_at) = ids else {
-        return ReadBlockId::Refused(ids.refusal());
+        return ReadBlockHead::Refused(ids.refusal());
     };
     let paths = past_paths(s, paths_at, head.assumed as u16, PA);
     let Passed::To(next) = paths else {
-        return ReadBlockId::Refused(paths.refusal());
+        return ReadBlockHead::Refused(paths.refusal());
     };
-    let id = head.id;
-    ReadBlockId::Value(id, next)
+    ReadBlockHead::Value(head, next)
 }
 
 // Past `count` blocks, whose ids and places are noted.
@@ -334,16 +327,19 @@ fn note_blocks(
 ) -> Passed
     requires { ⌜ count ≤ 128 ⌝ }
     ensures { λ r. ⌜ gotPlace r ≡ passed (readMany count (readBlock spanWidth) (now (s .entry)) start) ⌝ }
-    ensures { λ r. ⌜ now (ids .exit) ≡ sets (now (ids .entry)) 0 (notes noteNumber count (readBlock spanWidth) (now (s .entry)) start) ⌝ }
-    ensures { λ r. ⌜ now (places .exit) ≡ sets (now (places .entry)) 0 (notes notePlace count (readBlock spanWidth) (now (s .entry)) start) ⌝ }
+    ensures { λ r. ⌜ now (ids .exit)
+        ≡ sets (now (ids .entry)) 0 (notes noteNumber count (readBlock spanWidth) (now (s .entry)) start) ⌝ }
+    ensures { λ r. ⌜ now (places .exit)
+        ≡ sets (now (places .entry)) 0 (notes notePlace count (readBlock spanWidth) (now (s .entry)) start) ⌝ }
 {
     let mut at = start;
     let mut i: u16 = 0;
     while i < count {
         let block = block_at(s, at);
-        let ReadBlockId::Value(id, next) = block else {
+        let ReadBlockHead::Value(head, next) = block else {
             return Passed::Refused(block.refusal());
         };
+        let id = head.id;
         let k = i as usize;
         ids[k] = id.0;
         places[k] = at;
@@ -382,43 +378,56 @@ pub fn header_at(s: &[u8], at: usize) -> ReadHeader
     )
 }
 
-// The records in their order, as far as refusal 6, the ids and the places of the blocks being noted.
-fn records_of(s: &[u8], ids: &mut [u32; 128], places: &mut [usize; 128]) -> ReadJob
+// The records behind the header, as far as refusal 6, the ids and the places of the blocks being
+// noted.
+fn records_at(
+    s: &[u8],
+    at: usize,
+    header: ReadHeader,
+    ids: &mut [u32; 128],
+    places: &mut [usize; 128],
+) -> ReadJob
+    requires { ⌜ BehindHeader (now s) at header ⌝ }
     ensures { λ r. ⌜ r ≡ keptOf (now (s .entry)) (readRecords HD spanWidth (now (s .entry))) ⌝ }
     ensures { λ r. ⌜ now (ids .exit) ≡ sets (now (ids .entry)) 0 (blockNumbers (now (s .entry))) ⌝ }
     ensures { λ r. ⌜ now (places .exit) ≡ sets (now (places .entry)) 0 (blockPlaces (now (s .entry))) ⌝ }
 {
-    let header_field = header_at(s, 0);
-    let ReadHeader::Value(header, blocks_at) = header_field else {
-        return ReadJob::Refused(header_field.refusal());
+    let ReadHeader::Value(head, _) = header else {
+        return ReadJob::Refused(header.refusal());
     };
-    let past_blocks = note_blocks(s, blocks_at, header.blocks, ids, places);
+    let past_blocks = note_blocks(s, at, head.blocks, ids, places);
     let Passed::To(candidates_at) = past_blocks else {
         return ReadJob::Refused(past_blocks.refusal());
     };
-    let past_candidates = past_paths(s, candidates_at, header.candidates, CA);
+    let past_candidates = past_paths(s, candidates_at, head.candidates, CA);
     let Passed::To(next) = past_candidates else {
         return ReadJob::Refused(past_candidates.refusal());
     };
     if next != s.len() {
         return ReadJob::Refused(Refusal::ExtraByte);
     }
-    let scope = header.scope;
+    let scope = head.scope;
     ReadJob::Value(JobHead {
-        blocks: header.blocks as usize,
-        candidates: header.candidates as usize,
+        blocks: head.blocks as usize,
+        candidates: head.candidates as usize,
         scope,
         candidates_at,
     })
 }
 
-// The job, or its refusal. The id of each block and the place of its record are noted.
-pub fn read_job(s: &[u8], ids: &mut [u32; 128], places: &mut [usize; 128]) -> ReadJob
-    ensures { λ r. ⌜ r ≡ keptOf (now (s .entry)) (readJob HD spanWidth (now (s .entry))) ⌝ }
-    ensures { λ r. ⌜ now (ids .exit) ≡ sets (now (ids .entry)) 0 (blockNumbers (now (s .entry))) ⌝ }
-    ensures { λ r. ⌜ now (places .exit) ≡ sets (now (places .entry)) 0 (blockPlaces (now (s .entry))) ⌝ }
+// The job from the place behind its header on, or its refusal. The id of each block and the place
+// of its record are noted.
+pub fn rest_at(
+    s: &[u8],
+    at: usize,
+    header: ReadHeader,
+    ids: &mut [u32; 128],
+    places: &mut [usize; 128],
+) -> ReadJob
+    requires { ⌜ BehindHeader (now s) at header ⌝ }
+    ensures { λ r. ⌜ ReadsJob (now (s .entry)) r (now (ids .entry)) (now (ids .exit)) (now (places .entry)) (now (places .exit)) ⌝ }
 {
-    let read = records_of(s, ids, places);
+    let read = records_at(s, at, header, ids, places);
     let ReadJob::Value(head) = read else {
         return read;
     };

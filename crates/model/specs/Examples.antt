@@ -1,9 +1,10 @@
--- Document 01, "Proved examples": T1 to T8, R1, R2, P1, P2, P3 and the bytes case of "Answer and sheet" as one list, proved by computation.
+-- Document 01, "Proved examples": T1 to T8, R1, R2, P1, P2, P3 and the bytes case of "Answer and
+-- sheet" as one list, proved by computation; and beside the list, what its examples leave open.
 use Prim.Native.Nat.{ℕ, zero, _+_, _≤_}
 use mathlib.Core.Path.{_≡_, refl, ap, _∙_}
 use mathlib.Core.Bool.{Bool, true, false, cond, true≢false}
 use mathlib.Core.List.{List, [], _∷_, map}
-use lib.ListN.{length}
+use lib.ListN.{length, drop}
 use lib.Dec.{T, ltb, ltb→lt}
 use native.Mathlib.Omega.{arith}
 use Rattle.entries.specs.declared.BlockId.{BlockId}
@@ -26,7 +27,8 @@ pub data Example : Type 0 where
   tree : List ReactiveScopeDependency → List ReactiveScopeDependency → List ReactiveScopeDependency → Example
   -- the paths of a set, entered in this order, and those of the reduced set
   reduction : List ReactiveScopeDependency → List ReactiveScopeDependency → Example
-  -- blocks in job order, the paths of each one's propagated set, and the rounds, the last of which changed nothing
+  -- blocks in job order, the paths of each one's propagated set, and the rounds, the last of which
+  -- changed nothing
   propagation : List Block → List (List ReactiveScopeDependency) → ℕ → Example
   -- a job's bytes and its answer's
   bytes : List ℕ → List ℕ → Example
@@ -49,8 +51,9 @@ abbrev pub AllHold : List Example → Type 0
 AllHold [] = Unit {0}
 AllHold (x ∷ xs) = Holds x × AllHold xs
 
--- The notation of document 01. What it leaves open is chosen so that a wrong choice shows: hoistable paths are not reactive and have spans of their
--- own, and a second candidate has other spans than the first.
+-- The notation of document 01. What it leaves open is chosen so that a wrong choice shows:
+-- hoistable paths are not reactive and have spans of their own, and a second candidate has other
+-- spans than the first.
 
 -- `.v` and `?.v` with a span
 abbrev plainAt : ℕ → ℕ → DependencyPathEntry
@@ -59,30 +62,32 @@ plainAt span v = record { property = String v; optional = false; span = span }
 abbrev optionalAt : ℕ → ℕ → DependencyPathEntry
 optionalAt span v = record { property = String v; optional = true; span = span }
 
--- `.v` and `?.v` of a first candidate, whose span is 20 + v, of a second, 40 + v, and of a hoistable path, 60 + v
-abbrev plain : ℕ → DependencyPathEntry
+-- `.v` and `?.v` of a first candidate, whose span is 20 + v, of a second, 40 + v, and of a
+-- hoistable path, 60 + v
+abbrev pub plain : ℕ → DependencyPathEntry
 plain v = plainAt (20 + v) v
 
-abbrev optional : ℕ → DependencyPathEntry
+abbrev pub optional : ℕ → DependencyPathEntry
 optional v = optionalAt (20 + v) v
 
 abbrev plain2 : ℕ → DependencyPathEntry
 plain2 v = plainAt (40 + v) v
 
-abbrev known : ℕ → DependencyPathEntry
+abbrev pub known : ℕ → DependencyPathEntry
 known v = plainAt (60 + v) v
 
-abbrev knownOptional : ℕ → DependencyPathEntry
+abbrev pub knownOptional : ℕ → DependencyPathEntry
 knownOptional v = optionalAt (60 + v) v
 
-abbrev pathOf : ℕ → Bool → ℕ → List DependencyPathEntry → ReactiveScopeDependency
-pathOf identifier reactive span entries = record { identifier = record { 0 = identifier }; reactive = reactive; path = entries; span = span }
+abbrev pub pathOf : ℕ → Bool → ℕ → List DependencyPathEntry → ReactiveScopeDependency
+pathOf identifier reactive span entries =
+    record { identifier = record { 0 = identifier }; reactive = reactive; path = entries; span = span }
 
 -- a hoistable path of identifier 1; a first and a second candidate
 abbrev hoistable : List DependencyPathEntry → ReactiveScopeDependency
 hoistable es = pathOf 1 false 3 es
 
-abbrev candidate : List DependencyPathEntry → ReactiveScopeDependency
+abbrev pub candidate : List DependencyPathEntry → ReactiveScopeDependency
 candidate es = pathOf 1 true 1 es
 
 abbrev candidate2 : List DependencyPathEntry → ReactiveScopeDependency
@@ -92,7 +97,8 @@ abbrev lastSpan : ℕ → List DependencyPathEntry → ℕ
 lastSpan s [] = s
 lastSpan s (e ∷ es) = lastSpan (e .span) es
 
--- a returned path: reactive as the first candidate is, with the span of its last entry, or the first candidate's where it has none
+-- a returned path: reactive as the first candidate is, with the span of its last entry, or the
+-- first candidate's where it has none
 abbrev one : List DependencyPathEntry → ReactiveScopeDependency
 one es = pathOf 1 true (lastSpan 1 es) es
 
@@ -100,7 +106,8 @@ abbrev five : ReactiveScopeDependency
 five = pathOf 5 true 0 []
 
 abbrev block : ℕ → List ℕ → List ReactiveScopeDependency → Block
-block id predecessors assumed = record { id = record { 0 = id }; predecessors = map (λ i. record { 0 = i }) predecessors; assumed = assumed }
+block id predecessors assumed =
+    record { id = record { 0 = id }; predecessors = map (λ i. record { 0 = i }) predecessors; assumed = assumed }
 
 abbrev exampleJob : List ℕ
 exampleJob =
@@ -131,21 +138,27 @@ examples =
     -- T6 {1?.10}; 1?.10, 1.10; 1
     ∷ tree (hoistable (knownOptional 10 ∷ []) ∷ []) (candidate (optional 10 ∷ []) ∷ candidate2 (plain2 10 ∷ []) ∷ []) (one [] ∷ [])
     -- T7 {1}; 1.11, 1.10; 1.11, 1.10
-    ∷ tree (hoistable [] ∷ []) (candidate (plain 11 ∷ []) ∷ candidate2 (plain2 10 ∷ []) ∷ []) (one (plain 11 ∷ []) ∷ one (plain2 10 ∷ []) ∷ [])
+    ∷ tree (hoistable [] ∷ []) (candidate (plain 11 ∷ []) ∷ candidate2 (plain2 10 ∷ []) ∷ [])
+    (one (plain 11 ∷ []) ∷ one (plain2 10 ∷ []) ∷ [])
     -- T8 {1.10}; 1.10.11, 1.10; 1.10
-    ∷ tree (hoistable (known 10 ∷ []) ∷ []) (candidate (plain 10 ∷ plain 11 ∷ []) ∷ candidate2 (plain2 10 ∷ []) ∷ []) (one (plain 10 ∷ []) ∷ [])
+    ∷ tree (hoistable (known 10 ∷ []) ∷ []) (candidate (plain 10 ∷ plain 11 ∷ []) ∷ candidate2 (plain2 10 ∷ []) ∷ [])
+    (one (plain 10 ∷ []) ∷ [])
     -- R1 {1, 1?.10?.11} reduces to {1, 1.10?.11}
     ∷ reduction (one [] ∷ one (optional 10 ∷ optional 11 ∷ []) ∷ []) (one [] ∷ one (plain 10 ∷ optional 11 ∷ []) ∷ [])
     -- R2 {1, 1.10, 1?.10?.11} to {1, 1.10, 1.10.11}
-    ∷ reduction (one [] ∷ one (plain 10 ∷ []) ∷ one (optional 10 ∷ optional 11 ∷ []) ∷ []) (one [] ∷ one (plain 10 ∷ []) ∷ one (plain 10 ∷ plain 11 ∷ []) ∷ [])
-    -- P1: 0, 1 (after 0), 2 (after 0), 3 (after 1, 2), path 5 assumed in 1 and 2: in all four, 2 rounds
+    ∷ reduction (one [] ∷ one (plain 10 ∷ []) ∷ one (optional 10 ∷ optional 11 ∷ []) ∷ [])
+    (one [] ∷ one (plain 10 ∷ []) ∷ one (plain 10 ∷ plain 11 ∷ []) ∷ [])
+    -- P1: 0, 1 (after 0), 2 (after 0), 3 (after 1, 2), path 5 assumed in 1 and 2: in all four, 2
+    -- rounds
     ∷ propagation (block 0 [] [] ∷ block 1 (0 ∷ []) (five ∷ []) ∷ block 2 (0 ∷ []) (five ∷ []) ∷ block 3 (1 ∷ 2 ∷ []) [] ∷ [])
     ((five ∷ []) ∷ (five ∷ []) ∷ (five ∷ []) ∷ (five ∷ []) ∷ []) 2
     -- P2: assumed in 1 only: stays there, 1 round
     ∷ propagation (block 0 [] [] ∷ block 1 (0 ∷ []) (five ∷ []) ∷ block 2 (0 ∷ []) [] ∷ block 3 (1 ∷ 2 ∷ []) [] ∷ [])
     ([] ∷ (five ∷ []) ∷ [] ∷ [] ∷ []) 1
-    -- P3, a loop: 0, 1 (after 0, 3), 2 (after 1), 3 (after 1, 2), 4 (after 1), assumed in 2: in 2 and 3
-    ∷ propagation (block 0 [] [] ∷ block 1 (0 ∷ 3 ∷ []) [] ∷ block 2 (1 ∷ []) (five ∷ []) ∷ block 3 (1 ∷ 2 ∷ []) [] ∷ block 4 (1 ∷ []) [] ∷ [])
+    -- P3, a loop: 0, 1 (after 0, 3), 2 (after 1), 3 (after 1, 2), 4 (after 1), assumed in 2: in 2
+    -- and 3
+    ∷ propagation (block 0 [] [] ∷ block 1 (0 ∷ 3 ∷ []) [] ∷ block 2 (1 ∷ []) (five ∷ [])
+    ∷ block 3 (1 ∷ 2 ∷ []) [] ∷ block 4 (1 ∷ []) [] ∷ [])
     ([] ∷ [] ∷ (five ∷ []) ∷ (five ∷ []) ∷ [] ∷ []) 2
     -- the job in hex and what `answer` writes
     ∷ bytes exampleJob exampleAnswer
@@ -163,20 +176,79 @@ bytes-hold : (out : List ℕ) → 24576 ≤ length out → answerOf exampleJob o
 unfolding answerOf
 bytes-hold out h = rw (buffer-fits out h)
 
+-- from R1 on
+reductions-on : AllHold (drop 8 examples)
+unfolding answerOf reduceMaybeOptionalChains propagated doneNeighbours
+reductions-on = (refl, (refl, ((refl, refl, refl), ((refl, refl, refl), ((refl, refl, refl), (bytes-hold, tt))))))
+
 -- The joint theorem.
 pub examples-hold : AllHold examples
 unfolding answerOf reduceMaybeOptionalChains deriveMinimalDependencies propagated doneNeighbours
-examples-hold =
-    (refl, (refl, (refl, (refl, (refl, (refl, (refl, (refl, (refl, (refl, ((refl, refl, refl), ((refl, refl, refl), ((refl, refl, refl), (bytes-hold, tt))))))))))))))
+examples-hold = (refl, (refl, (refl, (refl, (refl, (refl, (refl, (refl, reductions-on))))))))
 
 -- Beside the list.
 
--- {1.11, 1?.10}; 1.12; 1: the optional path stands ahead, so the root is Optional, and the later plain path does not alter it.
-pub optional-ahead : Holds (tree (hoistable (known 11 ∷ []) ∷ hoistable (knownOptional 10 ∷ []) ∷ []) (candidate (plain 12 ∷ []) ∷ []) (one [] ∷ []))
+-- The order of hoistable paths.
+
+-- {1.11, 1?.10}; 1.12; 1: the optional path stands ahead, so the root is Optional, and the later
+-- plain path does not alter it.
+pub optional-ahead :
+    Holds (tree (hoistable (known 11 ∷ []) ∷ hoistable (knownOptional 10 ∷ []) ∷ []) (candidate (plain 12 ∷ []) ∷ []) (one [] ∷ []))
 unfolding deriveMinimalDependencies
 optional-ahead = refl
 
--- {1, 1?.10, 1?.10?.11}: 1.10 is in the set at the moment when 1?.10?.11 is walked again, so 1.10.11 is reached at once and 1.10?.11 is not made.
-pub set-of-the-moment : length (reduceEntered (enterPaths [] [] (one [] ∷ one (optional 10 ∷ []) ∷ one (optional 10 ∷ optional 11 ∷ []) ∷ [])) .registry) ≡ 5
+-- {1.10, 1.10?.11}; 1.10.12; the same: "order otherwise kept" of the plain paths, so that 1.10
+-- makes the position after 10 NonNull before 1.10?.11 could make it Optional.
+pub plain-order-kept :
+    Holds (tree (hoistable (known 10 ∷ []) ∷ hoistable (known 10 ∷ knownOptional 11 ∷ []) ∷ [])
+    (candidate (plain 10 ∷ plain 12 ∷ []) ∷ []) (one (plain 10 ∷ plain 12 ∷ []) ∷ []))
+unfolding deriveMinimalDependencies
+plain-order-kept = refl
+
+-- {1?.10.11, 1?.10?.12}; 1?.10.13; the same: and of those ahead.
+pub optional-order-kept :
+    Holds (tree (hoistable (knownOptional 10 ∷ known 11 ∷ []) ∷ hoistable (knownOptional 10 ∷ knownOptional 12 ∷ []) ∷ [])
+    (candidate (optional 10 ∷ plain 13 ∷ []) ∷ []) (one (optional 10 ∷ plain 13 ∷ []) ∷ []))
+unfolding deriveMinimalDependencies
+optional-order-kept = refl
+
+-- A reduction's set.
+
+-- {1, 1?.10, 1?.10?.11}: 1.10 is in the set at the moment when 1?.10?.11 is walked again, so
+-- 1.10.11 is reached at once and 1.10?.11 is not made.
+pub set-of-the-moment :
+    length (reduceEntered (enterPaths [] [] (one [] ∷ one (optional 10 ∷ []) ∷ one (optional 10 ∷ optional 11 ∷ []) ∷ [])) .registry) ≡ 5
 unfolding reduceMaybeOptionalChains getOrCreateProperty
 set-of-the-moment = refl
+
+-- Rounds and the orders of a walk.
+
+-- A block that assumes 1 and 1?.10 ends with {1, 1.10} after 2 rounds: the first changed the set,
+-- though not its size.
+pub changed-by-set :
+    Holds (propagation (block 7 [] (one [] ∷ one (optional 10 ∷ []) ∷ []) ∷ []) ((one [] ∷ one (plain 10 ∷ []) ∷ []) ∷ []) 2)
+unfolding propagated doneNeighbours
+changed-by-set = (refl, refl, refl)
+
+-- 0 (after 1) assumes 5, 1 (after 0): in both, 2 rounds. "Backward takes reverse job order": 1 is
+-- visited first, and 0 is Done when 1 is joined.
+pub backward-in-reverse :
+    Holds (propagation (block 0 (1 ∷ []) (five ∷ []) ∷ block 1 (0 ∷ []) [] ∷ []) ((five ∷ []) ∷ (five ∷ []) ∷ []) 2)
+unfolding propagated doneNeighbours
+backward-in-reverse = (refl, refl, refl)
+
+-- 2 (after 0, 1) assumes 5, 1 (after 1, 2, 0), 0 (after 0): in all three, 2 rounds. "Successors by
+-- ascending id": those of 0 are 0, 1, 2, and not 2, 1, 0 as in the job.
+pub successors-ascend :
+    Holds (propagation (block 2 (0 ∷ 1 ∷ []) (five ∷ []) ∷ block 1 (1 ∷ 2 ∷ 0 ∷ []) [] ∷ block 0 (0 ∷ []) [] ∷ [])
+    ((five ∷ []) ∷ (five ∷ []) ∷ (five ∷ []) ∷ []) 2)
+unfolding propagated doneNeighbours
+successors-ascend = (refl, refl, refl)
+
+-- 3 (after 2, 1), 1 (after 1, 2, 3), 2 (after 1) assumes 5: only in 2, 1 round. "Predecessors in
+-- job order": those of 3 are 2, 1, as its record lists them.
+pub predecessors-as-recorded :
+    Holds (propagation (block 3 (2 ∷ 1 ∷ []) [] ∷ block 1 (1 ∷ 2 ∷ 3 ∷ []) [] ∷ block 2 (1 ∷ []) (five ∷ []) ∷ [])
+    ([] ∷ [] ∷ (five ∷ []) ∷ []) 1)
+unfolding propagated doneNeighbours
+predecessors-as-recorded = (refl, refl, refl)

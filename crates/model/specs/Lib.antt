@@ -14,7 +14,8 @@ pub mod Job
 pub mod Stage
 pub mod Answer
 pub mod JobBytes
--- the examples of document 01
+-- the examples of document 01, and others beside them
+pub mod PathExamples
 pub mod Examples
 -- laws
 pub mod Tests

@@ -1,4 +1,6 @@
--- Document 01, "Reading a path", from ECMA-262: property accessors (13.3.2) and optional chains (13.3.9).
+-- Document 01, "Reading a path", from ECMA-262: property accessors (13.3.2) and optional chains
+-- (13.3.9). Clauses are those of its 16th edition, ECMAScript 2025. It reads a key as a string;
+-- here keys are properties as the Rust tells them apart (docs/DIFFERENCES.md).
 use mathlib.Core.Bool.{Bool, true, false}
 use mathlib.Core.List.{List, [], _∷_}
 use Rattle.entries.specs.declared.IdentifierId.{IdentifierId}
@@ -6,13 +8,14 @@ use Rattle.entries.specs.declared.PropertyLiteral.{PropertyLiteral}
 use Rattle.entries.specs.declared.DependencyPathEntry.{DependencyPathEntry}
 use Rattle.entries.specs.Path.{ReactiveScopeDependency}
 
--- The values of the language (ECMA-262, 6.1): Null, Undefined, and all others, of which nothing is assumed.
+-- The values of the language (ECMA-262, 6.1): Null, Undefined, and all others, of which nothing is
+-- assumed.
 pub data Value (X : Type 0) : Type 0 where
   null undefined : Value X
   value : X → Value X
 
--- "A store gives every identifier, and every property of every non-nullish value, one value. It may hold any values, and neither a read nor a
--- block changes it."
+-- "A store gives every identifier, and every property of every non-nullish value, one value. It may
+-- hold any values, and neither a read nor a block changes it."
 pub record Store (X : Type 0) : Type 0 where
   pub ofIdentifier : IdentifierId → Value X
   pub ofProperty : X → PropertyLiteral → Value X
@@ -22,16 +25,19 @@ pub data Outcome (X : Type 0) : Type 0 where
   throws : Outcome X
   readsTo : Value X → Outcome X
 
--- An entry whose base is null or undefined. "A plain entry throws": GetValue (6.2.5.5) of `base.name` calls ToObject (7.1.18), which throws a
--- TypeError for Undefined and Null. "An optional one ends the whole chain with undefined": the evaluation of an OptionalExpression (13.3.9.1)
--- returns undefined where the base is undefined or null, and does not come to the ChainEvaluation (13.3.9.2) of the entries up to the next `?.`; that
--- one's base is then undefined, and the same rule gives undefined again, to the end of the path.
+-- An entry whose base is null or undefined. "A plain entry throws": GetValue (6.2.5.5) of
+-- `base.name` calls ToObject (7.1.18), which throws a TypeError for Undefined and Null. "An
+-- optional one ends the whole chain with undefined": the evaluation of an OptionalExpression
+-- (13.3.9.1) returns undefined where the base is undefined or null, and does not come to the
+-- ChainEvaluation (13.3.9.2) of the entries up to the next `?.`; that one's base is then undefined,
+-- and the same rule gives undefined again, to the end of the path.
 abbrev pub atNullish : {X : Type 0} → DependencyPathEntry → Outcome X
 atNullish e = elim (e .optional) [ true ↦ readsTo undefined | false ↦ throws ]
 
 module _ {X : Type 0} (S : Store X) where
   -- The entries are read from the value reached so far. "Otherwise the base's property is reached":
-  -- EvaluatePropertyAccessWithExpressionKey and -WithIdentifierKey (13.3.3, 13.3.4) and GetValue, for `.` and `?.` alike.
+  -- EvaluatePropertyAccessWithExpressionKey and -WithIdentifierKey (13.3.3, 13.3.4) and GetValue,
+  -- for `.` and `?.` alike.
   abbrev pub readFrom : Value X → List DependencyPathEntry → Outcome X
   readFrom v [] = readsTo v
   readFrom null (e ∷ es) = atNullish e

@@ -26,7 +26,8 @@ use Rattle.registry.specs.Words.{countIn, registryOf, Held, Arrives}
 use Rattle.registry.proofs.View.{registry-length}
 use Rattle.paths.specs.declared.EnteredPath.{EnteredPath}
 use Rattle.paths.specs.declared.EnteredPath.the-variants.{At, Full}
-use Rattle.paths.specs.Enters.{walkOwn, IsRead, Enters}
+use Rattle.job.specs.Passing.{IsRead}
+use Rattle.paths.specs.Enters.{walkOwn, Enters}
 
 -- no reading of what was read is refused
 pub not-refused : {A B : Type 0} {x : Read A} {r : Refusal} → IsRead x → x ≡ refused r → B

@@ -12,12 +12,6 @@ use Rattle.registry.specs.Words.{Arrives}
 use Rattle.paths.specs.declared.EnteredPath.{EnteredPath}
 use Rattle.paths.specs.declared.EnteredPath.the-variants.{At, Full}
 
--- A value was read.
-pub record IsRead {A : Type 0} (x : Read A) : Type 0 where
-  pub value : A
-  pub next : ℕ
-  pub read : x ≡ got value next
-
 -- down from a node by entries under their own marks
 abbrev pub walkOwn : PropertyPathRegistry → NodeId → List DependencyPathEntry → Reached
 walkOwn reg k es = walkFrom ownMark (record { registry = reg; node = k }) es

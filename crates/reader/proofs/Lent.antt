@@ -1,4 +1,5 @@
--- The two arrays in which a reading notes ids and places: their types, and what is had of them once they are given to a callee for good.
+-- The two arrays in which a reading notes ids and places: their types, and what is had of them once
+-- they are given to a callee for good.
 use Prim.Native.Nat.{ℕ}
 use mathlib.Core.List.{List}
 use base.Fml.{Fml, ftrue, fsep, fres}

@@ -1,19 +1,13 @@
--- What reading a job promises: the answer, and the notes of its blocks.
+-- What reading the header promises: what stands at the position, and where the reader goes on.
 use Prim.Native.Nat.{ℕ}
 use mathlib.Core.Path.{_≡_}
 use mathlib.Core.List.{List}
-use lib.ListN.{drop}
-use lib.Seq.{sets}
-use Rattle.model.specs.Job.{HD, readJob}
-use Rattle.model.specs.Answer.{spanWidth}
-use Rattle.job.specs.Kept.{keptOf, blockNumbers, blockPlaces}
-use Rattle.job.specs.declared.ReadJob.{ReadJob}
+use Rattle.model.specs.Job.{HD, readHeader}
+use Rattle.job.specs.Answer.{gotHeader}
+use Rattle.job.specs.Kept.{afterHeader}
+use Rattle.job.specs.declared.ReadHeader.{ReadHeader}
 
--- The bytes that stand from a position on.
-abbrev pub bytesFrom : List ℕ → ℕ → List ℕ
-bytesFrom s at = drop at s
-
--- The job in these bytes is answered by what is kept of it, or its refusal. The id of each block, and the place of its record in these bytes, stand at the front of the two arrays.
-abbrev pub ReadsJob : List ℕ → ReadJob → List ℕ → List ℕ → List ℕ → List ℕ → Type 0
-ReadsJob s answer ids idsAfter places placesAfter =
-    (answer ≡ keptOf s (readJob HD spanWidth s)) × ((idsAfter ≡ sets ids 0 (blockNumbers s)) × (placesAfter ≡ sets places 0 (blockPlaces s)))
+-- "Each record is read as a value and the place after it, or a refusal": the header at a position
+-- of these bytes, and the position after it.
+abbrev pub ReadsHeader : List ℕ → ℕ → ReadHeader → ℕ → Type 0
+ReadsHeader s at header next = (gotHeader header ≡ readHeader HD s at) × (next ≡ afterHeader header at)

@@ -1,22 +1,24 @@
-// A job read through a struct that keeps its bytes together with a position in them. The functions over the struct are thin: `read` takes
-// it apart and leaves the work to `job_at`, which has the slice and the number as parameters. `read_job`, whose parameters are plain, is
-// the one that others call.
+// A job read through a struct that keeps its bytes together with a position in them. The functions
+// over the structs are thin: each takes its struct apart and leaves the work to functions of `job`,
+// which have the slice and the place as parameters. `read_job`, whose parameters are plain, is the
+// one that others call.
+use job::ReadHeader;
 use job::ReadJob;
 ghost use mathlib.Core.Path.{_≡_};
-ghost use Rattle.reader.specs.Reads.{bytesFrom, ReadsJob};
+ghost use Rattle.job.specs.Kept.{BehindHeader, ReadsJob};
+ghost use Rattle.reader.specs.Reads.{ReadsHeader};
 
-// The job's bytes, and the position from which they are read.
+// The job's bytes, and the position from which the next record is read.
 pub struct Reader<'a> {
     pub job: &'a [u8],
     pub at: usize,
 }
 
-// The job that stands from a position to the slice's end.
-pub fn job_at(s: &[u8], at: usize, ids: &mut [u32; 128], places: &mut [usize; 128]) -> ReadJob
-    ensures { λ r. ⌜ ReadsJob (bytesFrom (now (s .entry)) at) r (now (ids .entry)) (now (ids .exit)) (now (places .entry)) (now (places .exit)) ⌝ }
-{
-    let from = if at < s.len() { at } else { s.len() };
-    job::read_job(&s[from..], ids, places)
+// A reader that has moved behind the header, and what it read there.
+pub struct AfterHeader<'a> {
+    pub job: &'a [u8],
+    pub at: usize,
+    pub header: ReadHeader,
 }
 
 impl<'a> Reader<'a> {
@@ -27,17 +29,35 @@ impl<'a> Reader<'a> {
         Reader { job, at: 0 }
     }
 
-    // The job from the reader's position on.
-    pub fn read(self, ids: &mut [u32; 128], places: &mut [usize; 128]) -> ReadJob
-        ensures { λ r. ⌜ ReadsJob (bytesFrom (now (self .entry .job)) (self .entry .at)) r (now (ids .entry)) (now (ids .exit)) (now (places .entry)) (now (places .exit)) ⌝ }
+    // The header at the position, and the reader behind it.
+    pub fn header(self) -> AfterHeader<'a>
+        ensures { λ r. ⌜ (r .job ≡ self .entry .job)
+            × ReadsHeader (now (self .entry .job)) (self .entry .at) (r .header) (r .at) ⌝ }
     {
-        job_at(self.job, self.at, ids, places)
+        let header = job::header_at(self.job, self.at);
+        let at = header.place_after(self.at);
+        AfterHeader {
+            job: self.job,
+            at,
+            header,
+        }
     }
 }
 
-// The job in the whole slice.
+impl<'a> AfterHeader<'a> {
+    // The job, of which the header has been read.
+    pub fn rest(self, ids: &mut [u32; 128], places: &mut [usize; 128]) -> ReadJob
+        requires { ⌜ BehindHeader (now (self .job)) (self .at) (self .header) ⌝ }
+        ensures { λ r. ⌜ ReadsJob (now (self .entry .job)) r
+            (now (ids .entry)) (now (ids .exit)) (now (places .entry)) (now (places .exit)) ⌝ }
+    {
+        job::rest_at(self.job, self.at, self.header, ids, places)
+    }
+}
+
+// The job in the slice.
 pub fn read_job(s: &[u8], ids: &mut [u32; 128], places: &mut [usize; 128]) -> ReadJob
     ensures { λ r. ⌜ ReadsJob (now (s .entry)) r (now (ids .entry)) (now (ids .exit)) (now (places .entry)) (now (places .exit)) ⌝ }
 {
-    Reader::new(s).read(ids, places)
+    Reader::new(s).header().rest(ids, places)
 }

@@ -119,12 +119,7 @@ fn leads_back(ws: &[u64; 1665], set: NodeBits, k: NodeId) -> bool
 }
 
 // One node of a pass: where its path leads elsewhere now, the node that it leads to takes its place at once.
-fn reduce_node(
-    ws: &mut [u64; 1665],
-    optional: &mut [u64; 8],
-    r: PassSet,
-    k: NodeId,
-) -> PassSet
+fn reduce_node(ws: &mut [u64; 1665], optional: &mut [u64; 8], r: PassSet, k: NodeId) -> PassSet
     requires { ⌜ Held (now ws) (now optional) × (k .0 < countIn (now ws)) ⌝ }
     ensures { λ s. ⌜ Passes (reduceNode (passOf (registryOf (now (ws .entry))) r) k) s (now (ws .exit)) (now (optional .exit)) ⌝ }
 {

@@ -1,5 +1,6 @@
-// Replays the stored list of jobs (compare/stored), which comes on standard input, through both operations: what they write, or by which
-// number they refuse, is to be what the Rust's harness stored, and the rest of the buffer is to be as it was.
+// Replays the stored list of jobs (compare/stored), which comes on standard input, through both
+// operations: what they write, or by which number they refuse, is to be what the Rust's harness
+// stored, and the rest of the buffer is to be as it was.
 ghost use mathlib.Core.Path.{_≡_};
 ghost use mathlib.Core.Bool.{true};
 ghost use Prim.Native.Nat.{_≤_};
@@ -14,13 +15,15 @@ enum Length {
     End,
 }
 
-// Whether an operation did what the list says, and by which number it refused, 0 for none. An end of the list is no comparison.
+// Whether an operation did what the list says, and by which number it refused, 0 for none. An end
+// of the list is no comparison.
 enum Compared {
     Of(bool, u8),
     End,
 }
 
-// Whether the answer agreed, whether the sheet did, and the answer's refusal or 0. An end of the list is no record.
+// Whether the answer agreed, whether the sheet did, and the answer's refusal or 0. An end of the
+// list is no record.
 enum Record {
     Of(bool, bool, u8),
     End,
@@ -89,7 +92,8 @@ fn is_refusal(bytes: &[u8], number: u8) -> bool {
     bytes[0] == b'R' && bytes[1] == b'F' && bytes[2] == number
 }
 
-// 65,536 bytes that no operation has written, for out buffers of all lengths in the list. The `ensures` gives only the length.
+// 65,536 bytes that no operation has written, for out buffers of all lengths in the list. The
+// `ensures` gives only the length.
 fn untouched() -> [u8; 65536]
     ensures { λ r. ⌜ 65536 ≡ length r ⌝ }
 {
@@ -162,8 +166,8 @@ fn counted(n: u64, holds: bool) -> u64 {
     }
 }
 
-// How many answers and sheets agreed, how many records had one that did not, and how many of the others were refused by each number, 0 for
-// none.
+// How many answers and sheets agreed, how many records had one that did not, and how many of the
+// others were refused by each number, 0 for none.
 struct Tally {
     answers: u64,
     sheets: u64,

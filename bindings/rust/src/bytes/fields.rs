@@ -7,7 +7,7 @@ use std::fmt;
 use std::ops::RangeInclusive;
 
 /// What is wrong with a field.
-#[derive(Clone, Copy, Debug, PartialEq, Eq)]
+#[derive(Clone, Copy, Debug, PartialEq, Eq, Hash)]
 pub(crate) enum Fault {
     MissingByte,
     WrongMark,
@@ -16,7 +16,7 @@ pub(crate) enum Fault {
 }
 
 /// An answer or a sheet that cannot be read, and the field at which that shows.
-#[derive(Clone, Copy, Debug, PartialEq, Eq)]
+#[derive(Clone, Copy, Debug, PartialEq, Eq, Hash)]
 pub struct Malformed {
     pub(crate) fault: Fault,
     pub(crate) byte: usize,
@@ -25,6 +25,7 @@ pub struct Malformed {
 
 impl Malformed {
     /// The first byte of the field, from 0.
+    #[must_use]
     pub fn byte(&self) -> usize {
         self.byte
     }
@@ -119,17 +120,28 @@ impl<'b> Fields<'b> {
 
     /// A record of the fields of `PA`.
     pub(crate) fn path(&mut self, mark: [u8; 2], field: &'static str) -> Result<Path, Malformed> {
+        let mut path = Path::new(IdentifierId(0));
+        self.path_into(&mut path, mark, field)?;
+        Ok(path)
+    }
+
+    /// The same, in the room of a path that is no longer needed.
+    pub(crate) fn path_into(
+        &mut self,
+        path: &mut Path,
+        mark: [u8; 2],
+        field: &'static str,
+    ) -> Result<(), Malformed> {
         self.mark(mark, field)?;
         let identifier = IdentifierId(self.u32("the identifier")?);
         let reactive = self.flag("reactive (0 or 1)")?;
         let span = Span(self.u32("the path's span")?);
         let count = self.count(0..=limits::ENTRIES, "how many entries (0 to 16)")?;
-        let mut path = Path::new(identifier).with_reactive(reactive).with_span(span);
+        path.restart(identifier, reactive, span);
         for _ in 0..count {
-            let entry = self.entry()?;
-            path = path.then(entry).expect("the count is in its range");
+            path.extend([self.entry()?]);
         }
-        Ok(path)
+        Ok(())
     }
 
     fn entry(&mut self) -> Result<Entry, Malformed> {

@@ -1,7 +1,9 @@
 //! Reads a job, or finds the refusal from 2 to 8 with its place.
 
 use super::fields::{Fault, Fields, Malformed};
-use crate::build_error::{check_ids, BadId, IdPlace};
+use crate::build_error::{BuildError, Field, Wrong};
+use crate::builder::JobBuilder;
+use crate::check::Parts;
 use crate::ids::BlockId;
 use crate::job::{Block, Job};
 use crate::limits;
@@ -14,7 +16,8 @@ const ID_BYTE: usize = 2;
 /// Where the first predecessor stands in a block's record.
 const PREDECESSORS_BYTE: usize = 8;
 
-pub(crate) fn read_job(bytes: &[u8]) -> Result<Job, Refusal> {
+/// The parts of the job in these bytes, which are checked here.
+pub(crate) fn read_job(bytes: &[u8]) -> Result<JobBuilder, Refusal> {
     if bytes.len() > limits::JOB_BYTES {
         return Err(Refusal::LongJob);
     }
@@ -31,8 +34,8 @@ pub(crate) fn read_job(bytes: &[u8]) -> Result<Job, Refusal> {
         job = job.candidate(path);
     }
     fields.end().map_err(within(Record::End))?;
-    let job = job.unchecked();
-    check_ids(&job).map_err(|bad| bad_id(bad, &block_bytes))?;
+    let parts = Parts { scope, blocks: &job.blocks, candidates: &job.candidates };
+    parts.check_ids().map_err(|bad| bad_id(bad, &block_bytes))?;
     Ok(job)
 }
 
@@ -50,7 +53,7 @@ fn read_block(fields: &mut Fields, place: usize) -> Result<Block, Refusal> {
     for path in 0..assumed {
         let read =
             fields.path(*b"PA", "the mark PA").map_err(within(Record::Assumed { block: place, path }))?;
-        block = block.assuming(read);
+        block = block.assuming([read]);
     }
     Ok(block)
 }
@@ -60,7 +63,7 @@ fn block_head(fields: &mut Fields) -> Result<(Block, usize), Malformed> {
     fields.mark(*b"BL", "the mark BL")?;
     let id = BlockId(fields.u32("the block's id")?);
     let predecessors = fields.count(0..=limits::PREDECESSORS, "how many predecessors (0 to 64)")?;
-    let assumed = fields.count(0..=limits::ASSUMED, "how many assumed paths")?;
+    let assumed = fields.count(0..=limits::ASSUMED, "how many assumed paths (0 to 255)")?;
     let mut block = Block::new(id);
     for _ in 0..predecessors {
         block = block.after([BlockId(fields.u32("a predecessor's id")?)]);
@@ -82,21 +85,19 @@ fn within(record: Record) -> impl Fn(Malformed) -> Refusal {
 }
 
 /// The refusal for an id, where the block records start at these bytes.
-fn bad_id(bad: BadId, block_bytes: &[usize]) -> Refusal {
-    let place = match bad.stands {
-        IdPlace::Scope => Place { byte: SCOPE_BYTE, record: Record::Header, field: "the scope block's id" },
-        IdPlace::Block(block) => {
-            let byte = block_bytes[block] + ID_BYTE;
-            Place { byte, record: Record::Block(block), field: "the block's id" }
-        }
-        IdPlace::Predecessor { block, place } => {
-            let byte = block_bytes[block] + PREDECESSORS_BYTE + 4 * place;
-            Place { byte, record: Record::Block(block), field: "a predecessor's id" }
-        }
+fn bad_id(bad: BuildError, block_bytes: &[usize]) -> Refusal {
+    let start = match bad.record {
+        Record::Block(block) => block_bytes[block],
+        _ => 0,
     };
-    if bad.repeated {
-        Refusal::RepeatedId(Some(place))
-    } else {
-        Refusal::UnknownBlock(Some(place))
+    let (byte, field) = match bad.field {
+        Field::Predecessor(place) => (start + PREDECESSORS_BYTE + 4 * place, "a predecessor's id"),
+        Field::Id => (start + ID_BYTE, "the block's id"),
+        _ => (SCOPE_BYTE, "the scope block's id"),
+    };
+    let place = Some(Place { byte, record: bad.record, field });
+    match bad.wrong {
+        Wrong::Repeated(_) => Refusal::RepeatedId(place),
+        _ => Refusal::UnknownBlock(place),
     }
 }

@@ -2,6 +2,7 @@
 
 mod fields;
 mod job;
+pub(crate) mod lengths;
 mod write;
 
 pub use fields::Malformed;

@@ -1,18 +1,19 @@
 //! Writes a job's bytes.
 
-use crate::job::{Block, Job};
+use crate::ids::BlockId;
+use crate::job::Block;
 use crate::path::{Entry, Path, Property};
 
 /// The bytes of a job whose counts fit their fields.
-pub(crate) fn write_job(job: &Job) -> Vec<u8> {
+pub(crate) fn write_job(scope: BlockId, blocks: &[Block], candidates: &[Path]) -> Vec<u8> {
     let mut out = b"HD".to_vec();
-    out.extend((job.blocks().len() as u16).to_le_bytes());
-    out.extend((job.candidates().len() as u16).to_le_bytes());
-    out.extend(job.scope().0.to_le_bytes());
-    for block in job.blocks() {
+    out.extend((blocks.len() as u16).to_le_bytes());
+    out.extend((candidates.len() as u16).to_le_bytes());
+    out.extend(scope.0.to_le_bytes());
+    for block in blocks {
         write_block(&mut out, block);
     }
-    for candidate in job.candidates() {
+    for candidate in candidates {
         write_path(&mut out, *b"CA", candidate);
     }
     out

@@ -18,6 +18,12 @@ pub enum Failure {
     Form { place: String, why: String },
     /// The stage turned the job from this place back.
     Refused { place: String, why: Refusal },
+    /// The second run of the propagation differs from the library's.
+    #[cfg(feature = "explain")]
+    Mismatch(scope_deps::explain::Mismatch),
+    /// The command needs a feature without which this tool was built.
+    #[cfg_attr(feature = "draw", allow(dead_code))]
+    BuiltWithout(&'static str),
 }
 
 impl Failure {
@@ -41,6 +47,12 @@ impl fmt::Display for Failure {
             }
             Self::Form { place, why } => write!(f, "{place}: {why}"),
             Self::Refused { place, why } => write!(f, "{place}: {why}"),
+            #[cfg(feature = "explain")]
+            Self::Mismatch(why) => write!(f, "{why}"),
+            Self::BuiltWithout("library") => {
+                write!(f, "this tool was built without the stage's library (feature `library`)")
+            }
+            Self::BuiltWithout(feature) => write!(f, "this tool was built without the feature `{feature}`"),
         }
     }
 }

@@ -18,10 +18,13 @@ usage: scope-deps COMMAND [OPTIONS] [FILE]
 FILE holds one job. Where it is missing or `-`, standard input is read. `answer`, `sheet`, `explain`
 and `draw` take the job as text or in bytes, and see for themselves which it is.
 
-  -o, --output FILE    write there, and not to standard output
-  --from FORM          take the job as `text`, `bytes` or `hex` (hexadecimal digits)
+  -o, --output FILE    write there, and not to standard output; not to a file that is read
+  --from FORM          take the job as `text`, `bytes` or `hex` (a dump of xxd or hexdump -C)
+  --names FILE         names of variables and properties, for a job that does not give them
   --bytes              of `answer` and `sheet`: write bytes, and not text
+  --all                of `explain`: write all that is known, step by step
   -h, --help           this, or after a command help on it
+  --                   end the options, so that FILE may start with `-`
 
 A first job: block 7 assumes that variable 1 is neither null nor undefined. What becomes of property 11
 of property 10 of it?
@@ -29,11 +32,9 @@ of property 10 of it?
   $ echo 'scope 7 block 7 assumes 1 candidate 1?.10.11' | scope-deps explain
   candidate 1?.10.11
    returned 1.10
-      ?.10  becomes .10: 1 is known in block 7, by the path 1 [1]
-      .11   is cut: 1.10 is not known in block 7, since no path of its set reaches it
-
-  [1] the path 1 in block 7
-      block 7 assumes it
+      ?.10  becomes .10: 1 is known to be there in block 7; block 7 assumes it
+      .11   is cut: 1.10 is not known to be there in block 7
+            no block assumes 1.10
 
 The exit status is 0 on success, 1 where the job is refused or cannot be read or written, and 2 where
 the command line makes no sense. Messages go to standard error.
@@ -61,25 +62,35 @@ A path starts with a variable's number. Then its entries follow:
   @71       after the variable or an entry: the span of the path or of that entry; none is 0
   reactive  before the path: its variable is reactive
 
-Names and variables are the host's numbers for them. Blanks and new lines may stand anywhere but
-within a path, and a comment goes from `#` to the end of its line. docs/NOTATION.md has the grammar.
+Names and variables are the host's numbers for them. A text may say what people call them, before or
+between blocks and candidates, and then use it; answers, sheets, explanations and pictures use it too:
+
+  name 5 athlete                    variable 5
+  name .10 lastSession              the property with the name 10
+  candidate athlete?.lastSession    the same as 5?.10
+
+The bytes have no names. With `--names FILE` such lines come from a file of their own. Blanks and new
+lines may stand anywhere but within a path, and a comment goes from `#` to the end of its line.
+docs/NOTATION.md has the grammar.
 ";
 
 const ENCODE: &str = "\
-usage: scope-deps encode [-o FILE] [FILE]
+usage: scope-deps encode [-o FILE] [--names FILE] [FILE]
 
-Writes the bytes of a job that is written as text. A text that is no job is refused with its line and
-column. `scope-deps help notation` shows how a job is written.
+Writes the bytes of a job that is written as text; its names and comments are lost. A text that is no
+job is refused with its line and column. `scope-deps help notation` shows how a job is written.
 
   $ echo 'scope 7 block 7 assumes reactive 1 candidate reactive 1@5.10@6' | scope-deps encode | xxd -p
   4844010001000700000042 ...
 ";
 
 const DECODE: &str = "\
-usage: scope-deps decode [-o FILE] [--from hex] [FILE]
+usage: scope-deps decode [-o FILE] [--from hex] [--names FILE] [FILE]
 
 Writes as text a job that is in bytes; `encode` makes the same bytes of it again. With `--from hex` the
-bytes are given in hexadecimal digits, with white space or `/` between them.
+bytes are given as `xxd`, `xxd -p` or `hexdump -C` prints them, or in any hexadecimal digits with white
+space or `/` between bytes. With `--names FILE` the text has the names in that file, which has lines
+such as `name 1 athlete` and `name .10 lastSession`.
 
 A job that the stage would refuse by 2 to 8 has no text. The message then says the number, what it
 means, and for 3 to 8 at which byte and in which record:
@@ -90,7 +101,7 @@ means, and for 3 to 8 at which byte and in which record:
 ";
 
 const ANSWER: &str = "\
-usage: scope-deps answer [-o FILE] [--bytes] [--from FORM] [FILE]
+usage: scope-deps answer [-o FILE] [--bytes] [--from FORM] [--names FILE] [FILE]
 
 Writes what the stage returns for a job: how many rounds propagation took, whether it settled, and
 each returned path.
@@ -101,7 +112,7 @@ each returned path.
 ";
 
 const SHEET: &str = "\
-usage: scope-deps sheet [-o FILE] [--bytes] [--from FORM] [FILE]
+usage: scope-deps sheet [-o FILE] [--bytes] [--from FORM] [--names FILE] [FILE]
 
 Writes what propagation arrived at: the nodes of all paths, by number, and the paths that each block
 holds, that is those known in it to be neither null nor undefined.
@@ -115,26 +126,31 @@ holds, that is those known in it to be neither null nor undefined.
 ";
 
 const EXPLAIN: &str = "\
-usage: scope-deps explain [-o FILE] [--from FORM] [FILE]
+usage: scope-deps explain [--all] [-o FILE] [--from FORM] [--names FILE] [FILE]
 
 Says for each candidate why its returned path is what it is. An entry reads a property of its base. It
-is returned plain where the scope block knows that the base is neither null nor undefined; otherwise an
-optional entry stays optional, and at a plain one the path is cut. A number in brackets leads to the
-path by which the base is known, with the blocks that assume it and those by way of which it came.
+is returned plain where the base is known to be there, neither null nor undefined, in the scope block;
+otherwise an optional entry stays optional, and at a plain one the path is cut. A block has what it
+assumes, and what all blocks have that control comes from, or all that it goes on to. So a cut has one
+of these reasons: no block assumes the base, or it stopped on the way, at a block beside which another
+does not have it. On a loop, blocks that are not finished are left out.
 
-  $ echo 'scope 1 block 0 assumes 1 block 1 after 0 candidate 1.10.11' | scope-deps explain
+  $ echo 'scope 2 block 0 assumes 1 block 1 after 0 assumes 1.10 block 2 after 0, 1 candidate 1.10.11' | scope-deps explain
   candidate 1.10.11
    returned 1.10
-      .10  stays plain: 1 is known in block 1, by the path 1 [1]
-      .11  is cut: 1.10 is not known in block 1, since no path of its set reaches it
+      .10  stays plain: 1 is known to be there in block 2; it comes from block 0, which assumes it
+      .11  is cut: 1.10 is not known to be there in block 2
+           block 1 assumes 1.10, but control can also come to block 2 from block 0, which does not have it
 
-  [1] the path 1 in block 1
-      block 0 assumes it
-      block 1 has it from 0, its only predecessor
+  --all    every block that has such a base, every block at which it stopped, and in sections with
+           numbers every step by which a path came to a block
+
+All this is from a second run of the propagation, with a trace. Where that does not end with what the
+library says, nothing is explained, and the exit status is 1.
 ";
 
 const DRAW: &str = "\
-usage: scope-deps draw [-o FILE.svg] [--from FORM] [FILE]
+usage: scope-deps draw [-o FILE.svg] [--from FORM] [--names FILE] [FILE]
 
 Draws a job, with its sheet and its answer, as one SVG file that a browser shows: the blocks in layers
 from the first down, arrows for control, those that close a loop dashed; in each block the paths that

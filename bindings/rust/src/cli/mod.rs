@@ -3,5 +3,12 @@
 pub mod commands;
 pub mod failure;
 pub mod help;
+mod hex;
 pub mod input;
 pub mod options;
+mod output;
+#[cfg(feature = "library")]
+pub mod stage;
+#[cfg(not(feature = "library"))]
+#[path = "no_stage.rs"]
+pub mod stage;

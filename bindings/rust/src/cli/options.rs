@@ -42,8 +42,12 @@ pub struct Run {
     pub output: Option<String>,
     /// How the job is written down.
     pub from: Option<Form>,
+    /// The file with names.
+    pub names: Option<String>,
     /// Whether an answer or a sheet is written in bytes.
     pub bytes: bool,
+    /// Whether an explanation is written in full.
+    pub all: bool,
 }
 
 /// The words of the command line.
@@ -66,9 +70,7 @@ impl Request {
             ["--help" | "-h" | "help"] => Ok(Self::Help(None)),
             ["help", topic] => Ok(Self::Help(Some(topic.to_string()))),
             [command, ref rest @ ..] => match COMMANDS.iter().find(|(name, _)| *name == command) {
-                Some(_) if rest.iter().any(|word| matches!(*word, "--help" | "-h")) => {
-                    Ok(Self::Help(Some(command.to_string())))
-                }
+                Some(_) if asks_for_help(rest) => Ok(Self::Help(Some(command.to_string()))),
                 Some((_, command)) => Run::read(*command, rest).map(Self::Run),
                 None => Err(misused(format!("`{command}` is no command"))),
             },
@@ -76,30 +78,58 @@ impl Request {
     }
 }
 
+/// Whether help is among the options, which end at `--`.
+fn asks_for_help(words: &[&str]) -> bool {
+    words.iter().take_while(|word| **word != "--").any(|word| matches!(*word, "--help" | "-h"))
+}
+
 impl Run {
     fn read(command: Command, words: &[&str]) -> Result<Self, Failure> {
-        let mut run = Self { command, input: None, output: None, from: None, bytes: false };
-        let mut named = None;
-        let mut words = words.iter();
-        while let Some(&word) = words.next() {
+        let mut run =
+            Self { command, input: None, output: None, from: None, names: None, bytes: false, all: false };
+        let (mut files, mut options_end) = (Vec::new(), false);
+        let mut words = words.iter().copied();
+        while let Some(word) = words.next() {
             match word {
-                "-o" | "--output" => run.output = Some(value(word, words.next())?.to_string()),
-                "--from" => run.from = Some(form(value(word, words.next())?)?),
-                "--bytes" if matches!(command, Command::Answer | Command::Sheet) => run.bytes = true,
-                option if option.starts_with('-') && option != "-" => {
-                    return Err(misused(format!("`{option}` is no option of this command")));
-                }
-                file if named.is_none() => named = Some(file.to_string()),
-                file => return Err(misused(format!("one file is read, but `{file}` follows another"))),
+                file if options_end || file == "-" || !file.starts_with('-') => files.push(file),
+                "--" => options_end = true,
+                option => run.take(option, &mut words)?,
             }
         }
-        run.input = named.filter(|file| file != "-");
-        Ok(run)
+        match files[..] {
+            [] | ["-"] => Ok(run),
+            [file] => Ok(Self { input: Some(file.to_string()), ..run }),
+            [_, file, ..] => Err(misused(format!("one file is read, but `{file}` follows another"))),
+        }
+    }
+
+    /// Takes an option, and its value from the same word or from the next.
+    fn take<'w>(&mut self, word: &'w str, rest: &mut impl Iterator<Item = &'w str>) -> Result<(), Failure> {
+        let (option, given) = split(word);
+        let mut value = || {
+            let value = given.or_else(|| rest.next()).filter(|value| !value.is_empty());
+            value.ok_or_else(|| misused(format!("a value is missing after `{option}`")))
+        };
+        let asks_to_show = matches!(self.command, Command::Answer | Command::Sheet);
+        match option {
+            "-o" | "--output" => self.output = Some(value()?.to_string()),
+            "--from" => self.from = Some(form(value()?)?),
+            "--names" => self.names = Some(value()?.to_string()),
+            "--bytes" if asks_to_show && given.is_none() => self.bytes = true,
+            "--all" if self.command == Command::Explain && given.is_none() => self.all = true,
+            _ => return Err(misused(format!("`{word}` is no option of this command"))),
+        }
+        Ok(())
     }
 }
 
-fn value<'w>(option: &str, value: Option<&&'w str>) -> Result<&'w str, Failure> {
-    value.copied().ok_or_else(|| misused(format!("a value is missing after `{option}`")))
+/// An option, and the value in the same word: `--output=F` and `-oF`.
+fn split(word: &str) -> (&str, Option<&str>) {
+    match (word.split_once('='), word.strip_prefix("-o")) {
+        (_, Some(value)) => ("-o", Some(value).filter(|value| !value.is_empty())),
+        (Some((option, value)), _) if option.starts_with("--") => (option, Some(value)),
+        _ => (word, None),
+    }
 }
 
 fn form(name: &str) -> Result<Form, Failure> {

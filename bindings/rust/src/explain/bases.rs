@@ -1,70 +1,129 @@
-//! Which bases are known in the scope block, and by which path of its set.
+//! Which bases are known in the scope block, and by which of its paths.
 
-use super::origin::Origins;
+use super::blocks::Blocks;
+use super::paths::shows;
+use super::steps::{How, Step, Steps};
+use super::unknown::{self, Unknown};
 use super::Mismatch;
+use crate::ids::{BlockId, NodeId};
 use crate::job::Job;
 use crate::path::Path;
-use crate::sheet::Sheet;
+use crate::replay::Replay;
 
-/// What the scope block knows of a base, the value from which an entry reads.
+/// What the scope block knows of a base, the value from which an entry is read.
 #[derive(Clone, Debug, PartialEq, Eq)]
 pub enum Base {
-    /// It is neither null nor undefined, by a path of the scope block's set.
-    Known {
-        /// The place of that path among the explanation's origins.
-        origin: usize,
-    },
+    /// It is neither null nor undefined.
+    Known(Known),
     /// It may be null or undefined.
     Unknown(Unknown),
 }
 
-/// Why a base is not known.
+/// By what a base is known.
 #[derive(Clone, Debug, PartialEq, Eq)]
-pub enum Unknown {
-    /// No path of the scope block's set reaches it.
-    NoPath,
-    /// The path that decides about it reads on by `?.`.
-    Optional(Path),
+pub struct Known {
+    /// The path of the scope block that shows it: the base itself, or one that goes on from it
+    /// plainly.
+    pub path: Path,
+    /// How the scope block came to have that path.
+    pub step: usize,
+    /// A block that does not have the path, from which control comes or to which it goes on, and
+    /// which was left out.
+    pub left_out: Option<LeftOut>,
 }
 
-/// The paths of the scope block's set, in the order in which they decide.
-pub(super) struct Bases {
-    paths: Vec<Path>,
+/// A block that was left out on the way of a path, since it was being visited, and does not have
+/// the path in the end.
+#[derive(Clone, Copy, Debug, PartialEq, Eq)]
+pub struct LeftOut {
+    /// The step in which it was left out.
+    pub step: usize,
+    /// The block.
+    pub block: BlockId,
 }
 
-impl Bases {
+/// The paths of the scope block, in the order in which they decide.
+pub(super) struct Bases<'a> {
+    blocks: Blocks<'a>,
+    steps: Steps<'a>,
+    paths: Vec<(NodeId, Path)>,
+}
+
+impl<'a> Bases<'a> {
     /// Paths with an optional first entry come first; otherwise the order is that of the nodes.
-    pub(super) fn new(job: &Job, sheet: &Sheet) -> Self {
-        let mut paths: Vec<Path> = sheet.paths(job.scope()).collect();
-        paths.sort_by_key(|path| !path.entries().first().is_some_and(|entry| entry.optional));
-        Self { paths }
+    pub(super) fn new(job: &'a Job, replay: &'a Replay) -> Result<Self, Mismatch> {
+        let scope = job.place_of(job.scope()).ok_or(Mismatch)?;
+        let mut paths: Vec<(NodeId, Path)> =
+            replay.held(scope).map(|node| (node, replay.path(node))).collect();
+        paths.sort_by_key(|(_, path)| !path.entries().first().is_some_and(|entry| entry.optional));
+        Ok(Self { blocks: Blocks::new(job, replay, scope), steps: Steps::new(job, replay), paths })
     }
 
-    /// The path that decides about a base: the first that reaches it.
-    fn deciding(&self, base: &Path) -> Option<&Path> {
-        self.paths.iter().find(|path| base.names_start(path))
+    pub(super) fn into_steps(self) -> Vec<Step> {
+        self.steps.found
     }
 
-    /// Why the base is not known, if it is not.
-    pub(super) fn unknown(&self, base: &Path) -> Option<Unknown> {
-        let Some(path) = self.deciding(base) else {
-            return Some(Unknown::NoPath);
-        };
-        let next = path.entries().get(base.entries().len());
-        next.is_some_and(|entry| entry.optional).then(|| Unknown::Optional(path.clone()))
+    /// The path that decides about a base: the first with its names.
+    fn deciding(&self, base: &Path) -> Option<&(NodeId, Path)> {
+        self.paths.iter().find(|(_, path)| base.names_start(path))
     }
 
-    /// The base of each entry of a returned path. The path's own marks say which are known.
-    pub(super) fn of_entries(&self, returned: &Path, origins: &mut Origins) -> Result<Vec<Base>, Mismatch> {
+    pub(super) fn is_known(&self, base: &Path) -> bool {
+        self.deciding(base).is_some_and(|(_, path)| shows(path, base))
+    }
+
+    /// The base of each entry of a returned path. The path's own marks must agree.
+    pub(super) fn of_entries(&mut self, returned: &Path) -> Result<Vec<Base>, Mismatch> {
         let each = returned.entries().iter().enumerate();
         each.map(|(level, entry)| {
             let base = returned.prefix(level);
-            match (entry.optional, self.unknown(&base), self.deciding(&base)) {
-                (true, Some(why), _) => Ok(Base::Unknown(why)),
-                (false, None, Some(path)) => Ok(Base::Known { origin: origins.of(path)? }),
+            match (entry.optional, self.is_known(&base)) {
+                (true, false) => Ok(Base::Unknown(self.unknown(&base))),
+                (false, true) => self.known(&base).map(Base::Known),
                 _ => Err(Mismatch),
             }
         })
         .collect()
     }
+
+    fn known(&mut self, base: &Path) -> Result<Known, Mismatch> {
+        let (node, path) = self.deciding(base).cloned().ok_or(Mismatch)?;
+        let step = self.steps.held(self.blocks.scope, node);
+        let left_out = self.left_out(step, &path);
+        Ok(Known { path, step, left_out })
+    }
+
+    /// Why the base is not known.
+    pub(super) fn unknown(&mut self, base: &Path) -> Unknown {
+        let open = self.deciding(base).map(|(_, path)| path.clone());
+        let here = self.paths.iter().find(|(_, path)| shows(path, base)).map(|(_, path)| path.clone());
+        unknown::unknown(&self.blocks, &mut self.steps, base, open, here)
+    }
+
+    /// Of the blocks that were left out on the way and do not have the path in the end, the last.
+    fn left_out(&self, step: usize, path: &Path) -> Option<LeftOut> {
+        let (steps, has) = (&self.steps.found, self.blocks.having(path));
+        let lacking = on_the_way(steps, step).into_iter().filter_map(|step| {
+            let How::TookOver { left_out, .. } = &steps[step].how else {
+                return None;
+            };
+            let lacks = |block: &BlockId| !has[self.blocks.place(*block)];
+            left_out.iter().copied().find(lacks).map(|block| LeftOut { step, block })
+        });
+        lacking.max_by_key(|left_out| steps[left_out.step].how.moment())
+    }
+}
+
+/// The step and those by which its path came, in whatever form, each once.
+pub(super) fn on_the_way(steps: &[Step], step: usize) -> Vec<usize> {
+    let mut seen = vec![false; steps.len()];
+    let mut way = vec![step];
+    seen[step] = true;
+    let mut next = 0;
+    while let Some(&step) = way.get(next) {
+        next += 1;
+        let new = steps[step].how.from().iter().filter(|&&from| !std::mem::replace(&mut seen[from], true));
+        way.extend(new.collect::<Vec<_>>());
+    }
+    way
 }

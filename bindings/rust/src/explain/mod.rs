@@ -1,47 +1,59 @@
-//! Why each candidate's returned path is what it is, from the job, its sheet and its answer.
+//! Why each candidate's returned path is what it is.
 //!
-//! The answer says where a path was kept and how: an entry is returned plain where its base is known to be neither null
-//! nor undefined, and optional where it is not. The scope block's set in the sheet has the path that decides about a base.
-//! The sets of the other blocks say by way of which blocks that path came.
+//! The answer says where a path was kept and how: an entry is returned plain where its base, the
+//! value that it is read from, is known to be there (neither null nor undefined) in the scope
+//! block, and optional where it is not. How a block came to have a path, and where a path stopped
+//! that others have, is in the trace of the [replay](crate::replay): each sentence rests on the
+//! job, on a visit of the trace or on what the blocks hold in the end. Where the replay does not
+//! end with the sheet, nothing is explained.
 //!
 //! ```
 //! use scope_deps::{answer, explain::explain, sheet, Job};
 //!
-//! let job: Job = "scope 3
-//!     block 0
-//!     block 1 after 0 assumes 5
-//!     block 2 after 0 assumes 5
-//!     block 3 after 1, 2
-//!     candidate 5.10.11".parse()?;
+//! let job: Job = "scope 2
+//!     block 0 assumes 1
+//!     block 1 after 0 assumes 1.10
+//!     block 2 after 0, 1
+//!     candidate 1.10.11".parse()?;
 //! let explanation = explain(&job, &sheet(&job)?, &answer(&job)?)?;
 //! assert_eq!(explanation.to_string(), "\
-//! candidate 5.10.11
-//!  returned 5.10
-//!     .10  stays plain: 5 is known in block 3, by the path 5 [1]
-//!     .11  is cut: 5.10 is not known in block 3, since no path of its set reaches it
-//!
-//! [1] the path 5 in block 3
-//!     block 1 assumes it
-//!     block 2 assumes it
-//!     block 3 has it, since each of its predecessors had it: 1, 2
+//! candidate 1.10.11
+//!  returned 1.10
+//!     .10  stays plain: 1 is known to be there in block 2; it comes from block 0, which assumes it
+//!     .11  is cut: 1.10 is not known to be there in block 2
+//!          block 1 assumes 1.10, but control can also come to block 2 from block 0, which does not have it
 //! ");
 //! # Ok::<(), Box<dyn std::error::Error>>(())
 //! ```
+//!
+//! [`Explanation::in_full`] shows all that is known, with every step by which a path came to a
+//! block.
 
+mod arrivals;
 mod bases;
-mod origin;
+mod blocks;
+mod matter;
+mod paths;
+mod steps;
+mod stops;
 mod text;
+mod unknown;
 
-pub use bases::{Base, Unknown};
-pub use origin::{How, Origin, Side, Step};
+pub use bases::{Base, Known, LeftOut};
+pub use matter::blocks_that_matter;
+pub use steps::{How, Step};
+pub use stops::{Holder, Stop, Way, Why};
+pub use text::InFull;
+pub use unknown::{Elsewhere, Unknown};
 
 use crate::answer::Answer;
 use crate::ids::BlockId;
 use crate::job::Job;
+use crate::names::Names;
 use crate::path::{Entry, Path};
+use crate::replay::Replay;
 use crate::sheet::Sheet;
 use bases::Bases;
-use origin::Origins;
 use std::fmt;
 
 /// Why each candidate's returned path is what it is.
@@ -49,10 +61,15 @@ use std::fmt;
 pub struct Explanation {
     /// The scope block.
     pub scope: BlockId,
+    /// Whether the last round changed nothing; else the stage stopped after 100 rounds.
+    pub settled: bool,
     /// A reason for each candidate, in the job's order.
     pub reasons: Vec<Reason>,
-    /// How the paths by which bases are known came to the scope block. A [`Base::Known`] has a place in this list.
-    pub origins: Vec<Origin>,
+    /// How blocks came to have the paths that the reasons speak of. Reasons and steps have places
+    /// in this list.
+    pub steps: Vec<Step>,
+    /// The job's names, by which paths are shown.
+    pub names: Names,
 }
 
 /// Why one candidate's returned path is what it is.
@@ -87,40 +104,38 @@ pub enum End {
     },
 }
 
-/// The sheet and the answer are not both those of the job.
+/// The replay of the job does not end with this sheet and this answer.
 #[derive(Clone, Copy, Debug, PartialEq, Eq)]
 pub struct Mismatch;
 
 impl fmt::Display for Mismatch {
     fn fmt(&self, f: &mut fmt::Formatter<'_>) -> fmt::Result {
-        write!(f, "the job, its sheet and its answer do not belong together")
+        write!(
+            f,
+            "the replay of the job does not end with this sheet and this answer, so nothing is explained"
+        )
     }
 }
 
 impl std::error::Error for Mismatch {}
 
-/// Why each candidate's returned path is what it is.
+/// Why each candidate's returned path is what it is, for a job with its sheet and its answer.
 pub fn explain(job: &Job, sheet: &Sheet, answer: &Answer) -> Result<Explanation, Mismatch> {
-    let ids = job.blocks().iter().map(|block| block.id());
-    if !ids.eq(sheet.sets().map(|(id, _)| id)) {
+    let replay = Replay::new(job).map_err(|_| Mismatch)?;
+    let rounds = (sheet.rounds(), sheet.is_settled());
+    if !replay.agrees_with(job, sheet) || rounds != (answer.rounds(), answer.is_settled()) {
         return Err(Mismatch);
     }
-    let mut origins = Origins::new(job, sheet);
-    let bases = Bases::new(job, sheet);
-    let returned = job.candidates().iter().map(|candidate| returned_for(candidate, answer));
-    let returned = returned.collect::<Result<Vec<_>, _>>()?;
-    let mut reasons = Vec::new();
-    for (candidate, returned) in job.candidates().iter().zip(&returned) {
-        let bases_of = bases.of_entries(returned, &mut origins)?;
-        let end = end_of(job, &bases, candidate, returned)?;
-        reasons.push(Reason {
-            candidate: candidate.clone(),
-            returned: returned.clone(),
-            bases: bases_of,
-            end,
-        });
-    }
-    Ok(Explanation { scope: job.scope(), reasons, origins: origins.found })
+    let mut bases = Bases::new(job, &replay)?;
+    let reason = |candidate| reason(job, &mut bases, candidate, returned_for(candidate, answer)?);
+    let reasons = job.candidates().iter().map(reason).collect::<Result<_, _>>()?;
+    Ok(Explanation {
+        scope: job.scope(),
+        settled: replay.is_settled(),
+        reasons,
+        steps: bases.into_steps(),
+        names: job.names().clone(),
+    })
 }
 
 /// The one returned path with the candidate's identifier and a prefix of its names.
@@ -132,20 +147,26 @@ fn returned_for(candidate: &Path, answer: &Answer) -> Result<Path, Mismatch> {
     }
 }
 
-fn end_of(job: &Job, bases: &Bases, candidate: &Path, returned: &Path) -> Result<End, Mismatch> {
-    if let Some(end) = own_end(bases, candidate, returned) {
-        return Ok(end);
-    }
-    let ends_there = |other: &Path| returned.names_start(other) && own_end(bases, other, returned).is_some();
-    let by = job.candidates().iter().position(ends_there).ok_or(Mismatch)?;
-    Ok(End::Covered { by })
+fn reason(job: &Job, bases: &mut Bases, candidate: &Path, returned: Path) -> Result<Reason, Mismatch> {
+    let of_entries = bases.of_entries(&returned)?;
+    let end = end_of(job, bases, candidate, &returned)?;
+    Ok(Reason { candidate: candidate.clone(), returned, bases: of_entries, end })
 }
 
-/// Why the candidate itself ends where the returned path does, if it does.
-fn own_end(bases: &Bases, candidate: &Path, returned: &Path) -> Option<End> {
-    let Some(&entry) = candidate.entries().get(returned.entries().len()) else {
-        return Some(End::Whole);
-    };
-    let why = bases.unknown(returned).filter(|_| !entry.optional)?;
-    Some(End::Cut { entry, why })
+fn end_of(job: &Job, bases: &mut Bases, candidate: &Path, returned: &Path) -> Result<End, Mismatch> {
+    if !ends_there(bases, candidate, returned) {
+        let ends_there = |other: &Path| returned.names_start(other) && ends_there(bases, other, returned);
+        let by = job.candidates().iter().position(ends_there).ok_or(Mismatch)?;
+        return Ok(End::Covered { by });
+    }
+    match candidate.entries().get(returned.entries().len()) {
+        None => Ok(End::Whole),
+        Some(&entry) => Ok(End::Cut { entry, why: bases.unknown(returned) }),
+    }
+}
+
+/// Whether the candidate itself ends, or is cut, where the returned path ends.
+fn ends_there(bases: &Bases, candidate: &Path, returned: &Path) -> bool {
+    let next = candidate.entries().get(returned.entries().len());
+    next.is_none_or(|entry| !entry.optional && !bases.is_known(returned))
 }

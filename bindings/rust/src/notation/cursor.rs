@@ -1,6 +1,8 @@
 //! A text, and how far it has been read.
 
 use super::error::{NotationError, Position};
+use crate::names::is_name_character;
+use std::borrow::Cow;
 
 pub(super) struct Cursor<'t> {
     rest: &'t str,
@@ -66,9 +68,9 @@ impl<'t> Cursor<'t> {
         word == due && self.take(due)
     }
 
-    /// The letters and digits that stand here.
-    fn word(&self) -> &'t str {
-        let end = self.rest.find(|c: char| !c.is_alphanumeric() && c != '_').unwrap_or(self.rest.len());
+    /// The word or the number that stands here: letters, digits, `_` and `$`.
+    pub(super) fn word(&self) -> &'t str {
+        let end = self.rest.find(|c: char| !is_name_character(c)).unwrap_or(self.rest.len());
         &self.rest[..end]
     }
 
@@ -78,8 +80,10 @@ impl<'t> Cursor<'t> {
             ("", None) => "the end of the text".to_string(),
             ("", Some('\n' | '\r')) => "the end of the line".to_string(),
             ("", Some(' ' | '\t')) => "a blank".to_string(),
+            ("", Some('\u{feff}')) => "a byte-order mark (U+FEFF); a text has none".to_string(),
+            ("", Some(character)) if character.is_control() => format!("U+{:04X}", u32::from(character)),
             ("", Some(character)) => format!("`{character}`"),
-            (word, _) => format!("`{word}`"),
+            (word, _) => format!("`{}`", short(word)),
         };
         self.wrong(format!("{what} is due here, not {found}"))
     }
@@ -87,5 +91,16 @@ impl<'t> Cursor<'t> {
     /// Says what is wrong here.
     pub(super) fn wrong(&self, message: impl Into<String>) -> NotationError {
         NotationError::new(self.position, message)
+    }
+}
+
+/// How many characters of a word a message shows.
+const SHOWN: usize = 40;
+
+/// The word, or its start where it is long.
+pub(super) fn short(word: &str) -> Cow<'_, str> {
+    match word.char_indices().nth(SHOWN) {
+        None => word.into(),
+        Some((end, _)) => format!("{}..", &word[..end]).into(),
     }
 }

@@ -1,144 +1,143 @@
-//! Jobs: the scope block, the blocks, the candidates.
+//! Jobs: the scope block, the blocks, the candidates, and names between them.
 
 use super::cursor::Cursor;
 use super::error::{NotationError, Position};
+use super::names::names_here;
 use super::number::whole_u32;
 use super::path::path;
-use crate::build_error::{BuildError, IdPlace};
+use super::positions::{BlockPositions, Positions};
+use crate::builder::JobBuilder;
 use crate::ids::BlockId;
-use crate::job::{Block, Job, JobBuilder};
-use crate::limits;
+use crate::job::{Block, Job};
+use crate::names::Names;
 use std::str::FromStr;
 
 impl FromStr for Job {
     type Err = NotationError;
 
     fn from_str(text: &str) -> Result<Self, NotationError> {
-        let mut cursor = Cursor::new(text);
-        let mut positions = Positions::default();
-        let builder = job(&mut cursor, &mut positions)?;
-        builder.build().map_err(|why| {
-            let position = positions.of(&why).unwrap_or_else(|| cursor.position());
-            NotationError::new(position, why.to_string())
-        })
+        read_job(text, Names::new())
     }
 }
 
-/// Where the parts of a job stand in the text.
-#[derive(Default)]
-struct Positions {
-    scope: Option<Position>,
-    blocks: Vec<BlockPositions>,
-    candidates: Vec<Position>,
+/// The job in a text, whose paths may use these names and those that it gives.
+pub(super) fn read_job(text: &str, names: Names) -> Result<Job, NotationError> {
+    let (cursor, positions) = (Cursor::new(text), Positions::default());
+    let mut reader = Reader { cursor, names, positions, goes_on_with: Vec::new() };
+    let builder = reader.job()?;
+    let job = builder.build().map_err(|why| {
+        let position = reader.positions.of(&why).unwrap_or_else(|| reader.cursor.position());
+        NotationError::new(position, why.to_string())
+    })?;
+    Ok(job.with_names(reader.names))
 }
 
-#[derive(Default)]
-struct BlockPositions {
-    id: Option<Position>,
-    predecessors: Vec<Position>,
-    assumed: Vec<Position>,
+struct Reader<'t> {
+    cursor: Cursor<'t>,
+    names: Names,
+    positions: Positions,
+    /// What may continue the last statement here, for messages.
+    goes_on_with: Vec<&'static str>,
 }
 
-impl Positions {
-    /// The part that keeps the text from being a job.
-    fn of(&self, why: &BuildError) -> Option<Position> {
-        match *why {
-            BuildError::NoBlocks => None,
-            BuildError::TooManyBlocks => self.blocks.get(limits::BLOCKS)?.id,
-            BuildError::TooManyCandidates => self.candidates.get(limits::CANDIDATES).copied(),
-            BuildError::TooManyPredecessors { block } => {
-                self.blocks[block].predecessors.get(limits::PREDECESSORS).copied()
+impl Reader<'_> {
+    /// The whole text.
+    fn job(&mut self) -> Result<JobBuilder, NotationError> {
+        self.cursor.skip_blank();
+        self.names()?;
+        if !self.cursor.keyword("scope") {
+            return Err(self.cursor.due("`name`, or `scope` and the scope block's id,"));
+        }
+        self.cursor.skip_blank();
+        self.positions.scope = Some(self.cursor.position());
+        let scope = BlockId(whole_u32(&mut self.cursor, "the scope block's id")?);
+        self.cursor.skip_blank();
+        self.names()?;
+        let mut builder = Job::builder(scope);
+        while self.cursor.keyword("block") {
+            builder = builder.block(self.block()?);
+            self.names()?;
+        }
+        if self.positions.blocks.is_empty() {
+            return Err(self.cursor.due("`name`, or `block` and a block's id,"));
+        }
+        self.candidates(builder)
+    }
+
+    /// The names that stand here.
+    fn names(&mut self) -> Result<(), NotationError> {
+        if names_here(&mut self.cursor, &mut self.names)? > 0 {
+            self.goes_on_with.clear();
+        }
+        Ok(())
+    }
+
+    /// A block after its keyword, and the blanks behind it.
+    fn block(&mut self) -> Result<Block, NotationError> {
+        let mut positions = BlockPositions::default();
+        self.cursor.skip_blank();
+        positions.id = Some(self.cursor.position());
+        let mut block = Block::new(BlockId(whole_u32(&mut self.cursor, "a block's id")?));
+        self.cursor.skip_blank();
+        self.goes_on_with = vec!["`after`", "`assumes`"];
+        if self.cursor.keyword("after") {
+            block = block.after(self.list(&mut positions.predecessors, predecessor)?);
+            self.goes_on_with = vec!["`,`", "`assumes`"];
+        }
+        while self.cursor.keyword("assumes") {
+            block = block.assuming(self.list(&mut positions.assumed, path)?);
+            self.goes_on_with = vec!["`,`", "`assumes`"];
+        }
+        self.positions.blocks.push(positions);
+        let here = self.cursor.position();
+        if self.cursor.keyword("after") {
+            let message = "a block's predecessors stand in one list, right after its id";
+            return Err(NotationError::new(here, message));
+        }
+        Ok(block)
+    }
+
+    /// The candidates, to the end of the text.
+    fn candidates(&mut self, mut builder: JobBuilder) -> Result<JobBuilder, NotationError> {
+        let mut positions = Vec::new();
+        while self.cursor.keyword("candidate") {
+            builder = builder.candidates(self.list(&mut positions, path)?);
+            self.goes_on_with = vec!["`,`"];
+            self.names()?;
+        }
+        self.positions.candidates = positions;
+        match self.cursor.peek() {
+            None => Ok(builder),
+            Some(_) => Err(self.next_statement_is_due()),
+        }
+    }
+
+    /// Says what may stand here, where a statement may end.
+    fn next_statement_is_due(&self) -> NotationError {
+        let block = if self.positions.candidates.is_empty() { "`block`, " } else { "" };
+        let goes_on: String = self.goes_on_with.iter().map(|word| format!("{word}, ")).collect();
+        self.cursor.due(&format!("{goes_on}{block}`candidate`, `name` or the end of the job"))
+    }
+
+    /// One item or more with commas between, and the blanks behind them; notes where each stands.
+    fn list<T>(
+        &mut self,
+        positions: &mut Vec<Position>,
+        item: impl Fn(&mut Cursor, &Names) -> Result<T, NotationError>,
+    ) -> Result<Vec<T>, NotationError> {
+        let mut items = Vec::new();
+        loop {
+            self.cursor.skip_blank();
+            positions.push(self.cursor.position());
+            items.push(item(&mut self.cursor, &self.names)?);
+            self.cursor.skip_blank();
+            if !self.cursor.take(",") {
+                return Ok(items);
             }
-            BuildError::TooManyAssumed { block } => self.blocks[block].assumed.get(limits::ASSUMED).copied(),
-            BuildError::BadId(bad) => match bad.stands {
-                IdPlace::Scope => self.scope,
-                IdPlace::Block(block) => self.blocks[block].id,
-                IdPlace::Predecessor { block, place } => self.blocks[block].predecessors.get(place).copied(),
-            },
-            BuildError::TooLong { .. } => self.scope,
         }
     }
 }
 
-/// The whole text.
-fn job(cursor: &mut Cursor, positions: &mut Positions) -> Result<JobBuilder, NotationError> {
-    cursor.skip_blank();
-    if !cursor.keyword("scope") {
-        return Err(cursor.due("`scope` and the scope block's id"));
-    }
-    cursor.skip_blank();
-    positions.scope = Some(cursor.position());
-    let scope = BlockId(whole_u32(cursor, "the scope block's id")?);
-    let mut builder = Job::builder(scope);
-    cursor.skip_blank();
-    while cursor.keyword("block") {
-        let mut of_block = BlockPositions::default();
-        builder = builder.block(block(cursor, &mut of_block)?);
-        positions.blocks.push(of_block);
-    }
-    if positions.blocks.is_empty() {
-        return Err(cursor.due("`block` and a block's id"));
-    }
-    candidates(cursor, builder, positions)
-}
-
-/// A block after its keyword, and the blanks behind it.
-fn block(cursor: &mut Cursor, positions: &mut BlockPositions) -> Result<Block, NotationError> {
-    cursor.skip_blank();
-    positions.id = Some(cursor.position());
-    let mut block = Block::new(BlockId(whole_u32(cursor, "a block's id")?));
-    cursor.skip_blank();
-    if cursor.keyword("after") {
-        let predecessors = list(cursor, &mut positions.predecessors, |cursor| {
-            whole_u32(cursor, "a predecessor's id").map(BlockId)
-        })?;
-        block = block.after(predecessors);
-    }
-    while cursor.keyword("assumes") {
-        let assumed = list(cursor, &mut positions.assumed, path)?;
-        block = assumed.into_iter().fold(block, Block::assuming);
-    }
-    let here = cursor.position();
-    if cursor.keyword("after") {
-        return Err(NotationError::new(here, "a block's predecessors stand in one list, right after its id"));
-    }
-    Ok(block)
-}
-
-/// The candidates, to the end of the text.
-fn candidates(
-    cursor: &mut Cursor,
-    mut builder: JobBuilder,
-    positions: &mut Positions,
-) -> Result<JobBuilder, NotationError> {
-    while cursor.keyword("candidate") {
-        let candidates = list(cursor, &mut positions.candidates, path)?;
-        builder = candidates.into_iter().fold(builder, JobBuilder::candidate);
-    }
-    match cursor.peek() {
-        None => Ok(builder),
-        Some(_) if positions.candidates.is_empty() => Err(cursor.due(AFTER_A_BLOCK)),
-        Some(_) => Err(cursor.due("`,`, `candidate` or the end of the job")),
-    }
-}
-
-/// What can stand after a block.
-const AFTER_A_BLOCK: &str = "`,`, `after`, `assumes`, `block`, `candidate` or the end of the job";
-
-/// One item or more with commas between, and the blanks behind them; notes where each stands.
-fn list<T>(
-    cursor: &mut Cursor,
-    positions: &mut Vec<Position>,
-    item: impl Fn(&mut Cursor) -> Result<T, NotationError>,
-) -> Result<Vec<T>, NotationError> {
-    let mut items = Vec::new();
-    loop {
-        cursor.skip_blank();
-        positions.push(cursor.position());
-        items.push(item(cursor)?);
-        cursor.skip_blank();
-        if !cursor.take(",") {
-            return Ok(items);
-        }
-    }
+fn predecessor(cursor: &mut Cursor, _: &Names) -> Result<BlockId, NotationError> {
+    whole_u32(cursor, "a predecessor's id").map(BlockId)
 }

@@ -1,7 +1,9 @@
 //! Jobs and paths as text, and answers and sheets too. `docs/NOTATION.md` has the grammar.
 //!
-//! [`Job`](crate::Job) and [`Path`](crate::Path) are read by `parse` and shown by `Display`, and what is shown reads back
-//! to the same value. [`Answer`](crate::Answer) and [`Sheet`](crate::Sheet) are shown only.
+//! [`Job`](crate::Job) and [`Path`](crate::Path) are read by `parse` and shown by `Display`, and
+//! what is shown reads back to the same value. [`Answer`](crate::Answer) and
+//! [`Sheet`](crate::Sheet) are shown only. [`Names`](crate::Names) are read and shown too, and all
+//! others can be shown with them.
 //!
 //! ```
 //! use scope_deps::Job;
@@ -14,8 +16,12 @@
 mod cursor;
 mod error;
 mod job;
+mod names;
 mod number;
 mod path;
+mod positions;
 pub(crate) mod show;
+mod with_names;
 
 pub use error::NotationError;
+pub use with_names::WithNames;

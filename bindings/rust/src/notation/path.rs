@@ -1,45 +1,79 @@
-//! Paths: `reactive 1@5?.10@6[0]`.
+//! Paths: `reactive 1@5?.10@6[0]`, or with names `reactive athlete@5?.lastSession@6[0]`.
 
-use super::cursor::Cursor;
+use super::cursor::{short, Cursor};
 use super::error::NotationError;
-use super::number::{bits, show_bits, whole, whole_u32};
+use super::number::{bits, whole, whole_u32};
 use crate::ids::{IdentifierId, Span};
+use crate::limits;
+use crate::names::{Names, NONE, REACTIVE};
 use crate::path::{Entry, Path, Property};
-use std::fmt;
 use std::str::FromStr;
 
 impl FromStr for Path {
     type Err = NotationError;
 
     fn from_str(text: &str) -> Result<Self, NotationError> {
-        let mut cursor = Cursor::new(text);
-        cursor.skip_blank();
-        let path = path(&mut cursor)?;
-        cursor.skip_blank();
-        match cursor.peek() {
-            None => Ok(path),
-            Some(_) => Err(cursor.due("the end of the path")),
-        }
+        whole_path(text, &NONE)
+    }
+}
+
+/// The path that the whole text is.
+pub(super) fn whole_path(text: &str, names: &Names) -> Result<Path, NotationError> {
+    let mut cursor = Cursor::new(text);
+    cursor.skip_blank();
+    let path = path(&mut cursor, names)?;
+    cursor.skip_blank();
+    match cursor.peek() {
+        None => Ok(path),
+        Some(_) => Err(cursor.due("the end of the path")),
     }
 }
 
 /// A path that starts here.
-pub(super) fn path(cursor: &mut Cursor) -> Result<Path, NotationError> {
-    let reactive = cursor.keyword("reactive");
+pub(super) fn path(cursor: &mut Cursor, names: &Names) -> Result<Path, NotationError> {
+    let reactive = cursor.keyword(REACTIVE);
     if reactive {
         cursor.skip_blank();
     }
-    let identifier = IdentifierId(whole_u32(cursor, "a path's identifier")?);
+    let identifier = match name_here(cursor, |name| names.variable(name), "a path's variable")? {
+        Some(identifier) => identifier,
+        None => IdentifierId(whole_u32(cursor, "a path's variable")?),
+    };
     let mut path = Path::new(identifier).with_reactive(reactive).with_span(span(cursor)?);
     loop {
         let here = cursor.position();
-        let Some(entry) = entry(cursor)? else { return Ok(path) };
-        path = path.then(entry).map_err(|why| NotationError::new(here, why.to_string()))?;
+        let Some(entry) = entry(cursor, names)? else { return Ok(path) };
+        if path.entries().len() == limits::ENTRIES {
+            return Err(NotationError::new(here, format!("a path has at most {} entries", limits::ENTRIES)));
+        }
+        path = path.then(entry);
+    }
+}
+
+/// What the name that stands here is given to. `None` where no name stands here.
+fn name_here<T>(
+    cursor: &mut Cursor,
+    given: impl Fn(&str) -> Option<T>,
+    what: &str,
+) -> Result<Option<T>, NotationError> {
+    let name = cursor.word();
+    if !name.starts_with(|first: char| !first.is_ascii_digit()) {
+        return Ok(None);
+    }
+    match given(name) {
+        Some(named) => {
+            cursor.take(name);
+            Ok(Some(named))
+        }
+        None => Err(cursor.wrong(format!(
+            "{what} is due here: a number, or a name given before, which `{}` is not",
+            short(name)
+        ))),
     }
 }
 
 /// The entry that starts here, if one does.
-fn entry(cursor: &mut Cursor) -> Result<Option<Entry>, NotationError> {
+fn entry(cursor: &mut Cursor, names: &Names) -> Result<Option<Entry>, NotationError> {
     let optional = cursor.take("?.");
     let in_brackets = cursor.peek() == Some('[');
     if !optional && !in_brackets && !cursor.take(".") {
@@ -51,9 +85,17 @@ fn entry(cursor: &mut Cursor) -> Result<Option<Entry>, NotationError> {
     let property = match (in_brackets, cursor.peek()) {
         (true, _) => number_in_brackets(cursor)?,
         (false, Some('[')) => return Err(cursor.wrong("a number read plainly has no dot before it: `1[0]`")),
-        (false, _) => Property::Name(whole(cursor, "a name's number", u64::MAX)?),
+        (false, _) => name_after_dot(cursor, names)?,
     };
     Ok(Some(Entry { property, optional, span: span(cursor)? }))
+}
+
+fn name_after_dot(cursor: &mut Cursor, names: &Names) -> Result<Property, NotationError> {
+    let number = match name_here(cursor, |name| names.property(name), "a property's name")? {
+        Some(number) => number,
+        None => whole(cursor, "a property's name", u64::MAX)?,
+    };
+    Ok(Property::Name(number))
 }
 
 fn number_in_brackets(cursor: &mut Cursor) -> Result<Property, NotationError> {
@@ -72,50 +114,5 @@ fn span(cursor: &mut Cursor) -> Result<Span, NotationError> {
         Ok(Span(whole_u32(cursor, "a span")?))
     } else {
         Ok(Span::NONE)
-    }
-}
-
-impl fmt::Display for Path {
-    fn fmt(&self, f: &mut fmt::Formatter<'_>) -> fmt::Result {
-        if self.is_reactive() && !f.alternate() {
-            write!(f, "reactive ")?;
-        }
-        write!(f, "{}", self.identifier())?;
-        show_span(self.span(), f)?;
-        self.entries().iter().try_for_each(|entry| entry.fmt(f))
-    }
-}
-
-impl fmt::Display for Entry {
-    fn fmt(&self, f: &mut fmt::Formatter<'_>) -> fmt::Result {
-        match (self.property, self.optional) {
-            (_, true) => write!(f, "?.")?,
-            (Property::Name(_), false) => write!(f, ".")?,
-            (Property::Number(_), false) => {}
-        }
-        self.property.fmt(f)?;
-        show_span(self.span, f)
-    }
-}
-
-impl fmt::Display for Property {
-    fn fmt(&self, f: &mut fmt::Formatter<'_>) -> fmt::Result {
-        match *self {
-            Self::Name(value) => write!(f, "{value}"),
-            Self::Number(bits) => {
-                write!(f, "[")?;
-                show_bits(bits, f)?;
-                write!(f, "]")
-            }
-        }
-    }
-}
-
-/// The alternate form shows no spans.
-fn show_span(span: Span, f: &mut fmt::Formatter<'_>) -> fmt::Result {
-    if span.is_none() || f.alternate() {
-        Ok(())
-    } else {
-        write!(f, "@{span}")
     }
 }

@@ -1,44 +1,64 @@
-//! Jobs, answers and sheets as text.
+//! Jobs, names, answers and sheets as text.
 
+use super::with_names::WithNames;
 use crate::answer::Answer;
 use crate::job::{Block, Job};
+use crate::names::{Named, Names, NONE};
 use crate::sheet::Sheet;
 use std::fmt;
 
 impl fmt::Display for Job {
     fn fmt(&self, f: &mut fmt::Formatter<'_>) -> fmt::Result {
+        self.names().fmt(f)?;
         writeln!(f, "scope {}", self.scope())?;
-        self.blocks().iter().try_for_each(|block| block.fmt(f))?;
-        self.candidates().iter().try_for_each(|path| writeln!(f, "candidate {path}"))
+        self.blocks().iter().try_for_each(|block| show_block(block, self.names(), f))?;
+        let mut candidates = self.candidates().iter().map(|path| path.with_names(self.names()));
+        candidates.try_for_each(|path| writeln!(f, "candidate {path}"))
     }
 }
 
 impl fmt::Display for Block {
     fn fmt(&self, f: &mut fmt::Formatter<'_>) -> fmt::Result {
-        write!(f, "block {}", self.id())?;
-        if !self.predecessors().is_empty() {
-            write!(f, " after {}", with_commas(self.predecessors()))?;
-        }
-        writeln!(f)?;
-        self.assumed().iter().try_for_each(|path| writeln!(f, "  assumes {path}"))
+        show_block(self, &NONE, f)
     }
 }
 
-impl fmt::Display for Answer {
+fn show_block(block: &Block, names: &Names, f: &mut fmt::Formatter<'_>) -> fmt::Result {
+    write!(f, "block {}", block.id())?;
+    if !block.predecessors().is_empty() {
+        write!(f, " after {}", with_commas(block.predecessors()))?;
+    }
+    writeln!(f)?;
+    block.assumed().iter().try_for_each(|path| writeln!(f, "  assumes {}", path.with_names(names)))
+}
+
+impl fmt::Display for Names {
     fn fmt(&self, f: &mut fmt::Formatter<'_>) -> fmt::Result {
-        writeln!(f, "{}", rounds(self.rounds(), self.is_settled()))?;
-        self.iter().try_for_each(|path| writeln!(f, "returned {path}"))
+        self.iter().try_for_each(|(named, name)| match named {
+            Named::Variable(identifier) => writeln!(f, "name {identifier} {name}"),
+            Named::Property(number) => writeln!(f, "name .{number} {name}"),
+        })
     }
 }
 
-impl fmt::Display for Sheet {
+impl fmt::Display for WithNames<'_, Answer> {
     fn fmt(&self, f: &mut fmt::Formatter<'_>) -> fmt::Result {
-        writeln!(f, "{}", rounds(self.rounds(), self.is_settled()))?;
-        for (node, _) in self.nodes() {
-            writeln!(f, "node {node} {}", self.path(node))?;
+        let answer = self.shown;
+        writeln!(f, "{}", rounds(answer.rounds(), answer.is_settled()))?;
+        answer.iter().try_for_each(|path| writeln!(f, "returned {}", path.with_names(self.names)))
+    }
+}
+
+impl fmt::Display for WithNames<'_, Sheet> {
+    fn fmt(&self, f: &mut fmt::Formatter<'_>) -> fmt::Result {
+        let (sheet, names) = (self.shown, self.names);
+        writeln!(f, "{}", rounds(sheet.rounds(), sheet.is_settled()))?;
+        for (node, _) in sheet.nodes() {
+            writeln!(f, "node {node} {}", sheet.path(node).with_names(names))?;
         }
-        for (id, _) in self.sets() {
-            let held: Vec<String> = self.paths(id).map(|path| format!("{path:#}")).collect();
+        for (id, _) in sheet.sets() {
+            let held: Vec<String> =
+                sheet.paths(id).map(|path| format!("{:#}", path.with_names(names))).collect();
             let held = if held.is_empty() { "nothing".to_string() } else { with_commas(&held) };
             writeln!(f, "block {id} holds {held}")?;
         }

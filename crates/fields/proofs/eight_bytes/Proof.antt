@@ -1,4 +1,5 @@
--- `fields::eight_bytes` meets its contract: two numbers of four bytes one after the other, by `number-joins`.
+-- `fields::eight_bytes` meets its contract: two numbers of four bytes one after the other, by
+-- `number-joins`.
 use borrow.Author.Needs.{needs}
 use mathlib.Core.Path.{sym}
 use Rattle.fields.proofs.Number.{number-joins}

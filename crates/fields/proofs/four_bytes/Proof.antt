@@ -1,4 +1,5 @@
--- `fields::four_bytes` meets its contract: two numbers of two bytes one after the other, by `number-joins`.
+-- `fields::four_bytes` meets its contract: two numbers of two bytes one after the other, by
+-- `number-joins`.
 use borrow.Author.Needs.{needs}
 use mathlib.Core.Path.{sym}
 use Rattle.fields.proofs.Number.{number-joins}

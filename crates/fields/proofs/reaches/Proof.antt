@@ -1,4 +1,5 @@
--- `fields::reaches` meets its contract: where so many bytes are there at all, the difference is compared in place of the sum.
+-- `fields::reaches` meets its contract: where so many bytes are there at all, the difference is
+-- compared in place of the sum.
 use borrow.Author.Needs.{needs}
 use native.Mathlib.Omega.{arith}
 use mathlib.Core.Path.{sym}

@@ -1,4 +1,5 @@
--- `fields::two_bytes` meets its contract: the sum is `numberAt` at two bytes, and a byte is below 256.
+-- `fields::two_bytes` meets its contract: the sum is `numberAt` at two bytes, and a byte is below
+-- 256.
 use borrow.Author.Needs.{needs}
 use Prim.Native.Nat.{_+_}
 use native.Mathlib.Omega.{arith}

@@ -1,4 +1,5 @@
--- `job::block_at` meets its contract: head, predecessors and paths one after the other; the id is known before the rest.
+-- `job::block_at` meets its contract: head, predecessors and paths one after the other; the id is
+-- known before the rest.
 use borrow.Author.Needs.{needs}
 use mathlib.Core.Path.{_≡_, refl}
 use mathlib.Core.List.{List}
@@ -31,13 +32,10 @@ enum-known-head-field c = search needs
 enum-told : tie.Need-enum-told
 enum-told c = search needs
 
-refusal-requires : tie.Need-refusal-requires
-refusal-requires c κs = search needs
-
 returns : tie.Need-returns
 returns c =
-    let told = c .before .enum-told .given .1 in
-    rw (block-by-head, seen gotBlockHead (c .before .before .before .block-head-at .ensures) told, c .refusal .ensures, told)
+    let told = c .enum-told .given .1 in
+    rw (block-by-head, seen gotBlockHead (c .before .before .block-head-at .ensures) told, told)
 
 past-ids-requires : tie.Need-past-ids-requires
 past-ids-requires c κs = search needs
@@ -48,8 +46,8 @@ enum-known-ids c = search needs
 enum-told-2 : tie.Need-enum-told-2
 enum-told-2 c = search needs
 
-refusal-requires-2 : tie.Need-refusal-requires-2
-refusal-requires-2 c κs = search needs
+refusal-requires : tie.Need-refusal-requires
+refusal-requires c κs = search needs
 
 returns-2 : tie.Need-returns-2
 returns-2 c =
@@ -61,7 +59,7 @@ returns-2 c =
       seen gotBlockHead (head-field .before .before .block-head-at .ensures) (head-field .head-field .given .1),
       id-is,
       seen gotPlace (call .past-ids .ensures) told,
-      c .refusal2 .ensures,
+      c .refusal .ensures,
       told,
     )
 
@@ -77,8 +75,8 @@ enum-known-paths c = search needs
 enum-told-3 : tie.Need-enum-told-3
 enum-told-3 c = search needs
 
-refusal-requires-3 : tie.Need-refusal-requires-3
-refusal-requires-3 c κs = search needs
+refusal-requires-2 : tie.Need-refusal-requires-2
+refusal-requires-2 c κs = search needs
 
 returns-3 : tie.Need-returns-3
 returns-3 c =
@@ -92,13 +90,13 @@ returns-3 c =
       id-is,
       seen gotPlace (ids .before .before .past-ids .ensures) (ids .ids .given .1),
       seen gotPlace (call .past-paths .ensures) told,
-      c .refusal3 .ensures,
+      c .refusal2 .ensures,
       told,
     )
 
 returns-4 : tie.Need-returns-4
 returns-4 c =
-    let paths = c .before .before in
+    let paths = c .before in
     let ids = paths .before .before .before .before .before in
     let head-field = ids .before .before .before .before in
     rw (
@@ -116,17 +114,16 @@ block-at-spec =
     block-head-at-requires
     enum-known-head-field
     enum-told
-    refusal-requires
     returns
     past-ids-requires
     enum-known-ids
     enum-told-2
-    refusal-requires-2
+    refusal-requires
     returns-2
     cast-past-paths
     past-paths-requires
     enum-known-paths
     enum-told-3
-    refusal-requires-3
+    refusal-requires-2
     returns-3
     returns-4)

@@ -1,4 +1,5 @@
--- `job::entry_at` meets its contract: at each return the fields read so far say how far the definition goes.
+-- `job::entry_at` meets its contract: at each return the fields read so far say how far the
+-- definition goes.
 use borrow.Author.Needs.{needs}
 use Rattle.fields.specs.Answer.{gotFlag, gotU32, gotU64}
 use Rattle.fields.proofs.Reading.{seen}

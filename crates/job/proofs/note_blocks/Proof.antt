@@ -1,4 +1,5 @@
--- `job::note_blocks` meets its contract. The invariant: the rest from here ends where the whole does, and what is noted with what follows from here is the whole.
+-- `job::note_blocks` meets its contract. The invariant: the rest from here ends where the whole
+-- does, and what is noted with what follows from here is the whole.
 use borrow.Author.Needs.{needs}
 use Prim.Native.Nat.{_-_, _≤_}
 use native.Mathlib.Nat.{sub-zero}
@@ -76,10 +77,10 @@ loop-less c = search needs
 
 loop-again : tie.Need-loop-again Inv-loop μ-loop
 loop-again c =
-    let call = c .before .before .before in
+    let call = c .before .before .before .before in
     let test = call .before .loop-test .taken in
     let inv = call .before .before .loop .inv in
-    let block = mapped-got (λ (b : Block). b .id) _ (seen gotBlockId (call .block-at .ensures) (c .before .block .given .1)) in (
+    let block = mapped-got (λ (b : Block). b .id) _ (seen gotBlockId (call .block-at .ensures) (c .before .before .block .given .1)) in (
       sym (many-next _ _ _ _ _ test (ap passed (block .1))) ∙ inv .0,
       sym (notes-next _ _ _ _ _ _ _ test (block .1) (ap (λ (id : BlockId). id .0) (block .2))) ∙ inv .1,
       sym (notes-next _ _ _ _ _ _ _ test (block .1) refl) ∙ inv .2,

@@ -1,4 +1,5 @@
--- `job::past_entries` meets its contract. The invariant: the rest from here ends where the whole does.
+-- `job::past_entries` meets its contract. The invariant: the rest from here ends where the whole
+-- does.
 use borrow.Author.Needs.{needs}
 use mathlib.Core.Path.{_≡_, refl, sym, ap, _∙_}
 use Rattle.model.specs.Read.{readMany}

@@ -1,4 +1,5 @@
--- `job::past_ids` meets its contract: ids have four bytes each, so their number says where they end.
+-- `job::past_ids` meets its contract: ids have four bytes each, so their number says where they
+-- end.
 use borrow.Author.Needs.{needs}
 use Prim.Native.Nat.{_+_, _*_}
 use native.Mathlib.Omega.{arith}

@@ -1,4 +1,5 @@
--- `job::past_path` meets its contract: mark, head and entries one after the other; the entries' values are no matter of the place.
+-- `job::past_path` meets its contract: mark, head and entries one after the other; the entries'
+-- values are no matter of the place.
 use borrow.Author.Needs.{needs}
 use Rattle.fields.specs.Answer.{gotPlace}
 use Rattle.fields.proofs.Reading.{seen}

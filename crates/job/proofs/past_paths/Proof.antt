@@ -1,4 +1,5 @@
--- `job::past_paths` meets its contract, as `past_entries` does: the rest from here ends where the whole does.
+-- `job::past_paths` meets its contract, as `past_entries` does: the rest from here ends where the
+-- whole does.
 use borrow.Author.Needs.{needs}
 use mathlib.Core.Path.{_≡_, refl, sym, _∙_}
 use Rattle.model.specs.Read.{readMany}

@@ -1,4 +1,5 @@
--- `job::ids::any_repeat` meets its contract, as `contains_from` does: the test passes in the rest from here if it passes in the whole.
+-- `job::ids::any_repeat` meets its contract, as `contains_from` does: the test passes in the rest
+-- from here if it passes in the whole.
 use borrow.Author.Needs.{needs}
 use Prim.Native.Nat.{_-_}
 use mathlib.Core.Path.{_≡_, refl, sym, _∙_}
@@ -25,7 +26,7 @@ shared-slice-read-repeat-at : tie.Need-shared-slice-read-repeat-at Inv-loop μ-l
 shared-slice-read-repeat-at c = search needs
 
 repeat-at-requires : tie.Need-repeat-at-requires Inv-loop μ-loop
-repeat-at-requires c κs = search needs
+repeat-at-requires c κs = c .before .before .before .before .before .pre _ (c .before .loop-test .taken)
 
 returns : tie.Need-returns Inv-loop μ-loop
 returns c =

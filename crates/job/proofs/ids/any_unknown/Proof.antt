@@ -1,4 +1,5 @@
--- `job::ids::any_unknown` meets its contract, as `contains_from` does: the test passes in the rest from here if it passes in the whole.
+-- `job::ids::any_unknown` meets its contract, as `contains_from` does: the test passes in the rest
+-- from here if it passes in the whole.
 use borrow.Author.Needs.{needs}
 use Prim.Native.Nat.{_-_}
 use mathlib.Core.Path.{_≡_, refl, sym, _∙_}
@@ -25,7 +26,7 @@ shared-slice-read-unknown-at : tie.Need-shared-slice-read-unknown-at Inv-loop μ
 shared-slice-read-unknown-at c = search needs
 
 unknown-at-requires : tie.Need-unknown-at-requires Inv-loop μ-loop
-unknown-at-requires c κs = search needs
+unknown-at-requires c κs = c .before .before .before .before .before .before .pre _ (c .before .loop-test .taken)
 
 returns : tie.Need-returns Inv-loop μ-loop
 returns c =

@@ -1,4 +1,5 @@
--- `job::ids::contains_from` meets its contract. The invariant: the id stands in the rest from here if it stands in the whole.
+-- `job::ids::contains_from` meets its contract. The invariant: the id stands in the rest from here
+-- if it stands in the whole.
 use borrow.Author.Needs.{needs}
 use Prim.Native.Nat.{_-_}
 use mathlib.Core.Path.{_≡_, refl, sym, _∙_}

@@ -1,30 +1,31 @@
--- `job::ids::ids_into` meets its contract. The invariant: what is stored with what follows from here is the whole, and so is their number.
+-- `job::ids::ids_into` meets its contract. The invariant: what is stored with what follows from
+-- here is the whole, and the ids from here on were read. So no id is refused.
 use borrow.Author.Needs.{needs}
-use Prim.Native.Nat.{_+_, _-_, _≤_}
-use native.Mathlib.Nat.{sub-zero, zero-add}
+use Prim.Native.Nat.{_-_, _≤_}
+use native.Mathlib.Nat.{sub-zero}
 use mathlib.Core.Path.{_≡_, refl, sym, _∙_}
-use lib.ListN.{length}
 use lib.Seq.{sets}
-use Rattle.model.specs.Read.{readNumber}
+use Rattle.model.specs.Read.{readMany, readNumber}
+use Rattle.model.specs.Job.{readBlockId}
 use Rattle.fields.specs.Answer.{gotU32}
 use Rattle.fields.proofs.Reading.{seen}
-use Rattle.job.specs.Passing.{notes, noteValue}
-use Rattle.job.proofs.Noting.{notes-end, notes-next, notes-stop, count-end, count-next, count-stop}
+use Rattle.job.specs.Passing.{IsRead, notes, noteValue}
+use Rattle.job.proofs.Noting.{notes-end, notes-next}
+use Rattle.job.proofs.ReadAgain.{id-again, others-again}
 use Rattle.job.proofs.ids.ids_into.Statement.{statement}
 use Rattle.job.proofs.ids.ids_into.Tie as tie
 
 abbrev Inv-loop : tie.InvT-loop
 Inv-loop s start count out₀ at₀ i₀ out at i =
-    (i + length (notes noteValue (count - i) (readNumber 4) s at) ≡ length (notes noteValue count (readNumber 4) s start))
-    × (sets out i (notes noteValue (count - i) (readNumber 4) s at) ≡ sets out₀ 0 (notes noteValue count (readNumber 4) s start))
-    × (i ≤ count)
+    (sets out i (notes noteValue (count - i) (readNumber 4) s at) ≡ sets out₀ 0 (notes noteValue count (readNumber 4) s start))
+    × IsRead (readMany (count - i) readBlockId s at)
     × (count ≤ 64)
 
 abbrev μ-loop : tie.MeasureT-loop
 μ-loop s start count out₀ at₀ i₀ out at i = count - i
 
 loop-holds : tie.Need-loop-holds Inv-loop μ-loop
-loop-holds c = simp (sub-zero, zero-add) (refl, refl, search needs, c .before .pre)
+loop-holds c = simp sub-zero (refl, c .before .pre .1, c .before .pre .0)
 
 u32-at-requires : tie.Need-u32-at-requires Inv-loop μ-loop
 u32-at-requires c κs = search needs
@@ -35,16 +36,12 @@ enum-known-field c = search needs
 enum-told : tie.Need-enum-told Inv-loop μ-loop
 enum-told c = search needs
 
-cast-result : tie.Need-cast-result Inv-loop μ-loop
-cast-result c = search needs
-
 returns : tie.Need-returns Inv-loop μ-loop
 returns c =
     let call = c .before .before in
     let test = call .before .loop-test .taken in
     let inv = call .before .before .loop .inv in
-    let stopped = seen gotU32 (call .u32-at .ensures) (c .enum-told .given .1) in
-    (sym (count-stop _ _ _ _ _ _ test stopped) ∙ inv .0, sym (notes-stop _ _ _ _ _ _ _ test stopped) ∙ inv .1)
+    id-again _ _ _ _ test (inv .1) (seen gotU32 (call .u32-at .ensures) (c .enum-told .given .1))
 
 cast-out : tie.Need-cast-out Inv-loop μ-loop
 cast-out c = search needs
@@ -67,16 +64,10 @@ loop-again c =
     let test = call .before .loop-test .taken in
     let inv = call .before .before .loop .inv in
     let read = seen gotU32 (call .u32-at .ensures) (c .before .field .given .1) in
-    (sym (count-next _ _ _ _ _ _ test read) ∙ inv .0, sym (notes-next _ _ _ _ _ _ _ test read refl) ∙ inv .1, search needs, inv .3)
-
-cast-result-2 : tie.Need-cast-result-2 Inv-loop μ-loop
-cast-result-2 c = search needs
+    (sym (notes-next _ _ _ _ _ _ _ test read refl) ∙ inv .0, others-again _ _ _ _ test (inv .1) read, inv .2)
 
 returns-2 : tie.Need-returns-2 Inv-loop μ-loop
-returns-2 c =
-    let over = c .loop-test .left in
-    let inv = c .before .loop .inv in
-    (sym (count-end _ _ _ _ _ _ over) ∙ inv .0, sym (notes-end _ _ _ _ _ _ _ over) ∙ inv .1)
+returns-2 c = sym (notes-end _ _ _ _ _ _ _ (c .loop-test .left)) ∙ c .before .loop .inv .0
 
 pub ids-into-spec : {M : Type 1} → statement M
 ids-into-spec =
@@ -88,7 +79,6 @@ ids-into-spec =
     u32-at-requires
     enum-known-field
     enum-told
-    cast-result
     returns
     cast-out
     mul-out
@@ -96,5 +86,4 @@ ids-into-spec =
     add-i
     loop-less
     loop-again
-    cast-result-2
     returns-2)

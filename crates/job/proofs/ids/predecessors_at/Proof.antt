@@ -1,11 +1,14 @@
--- `job::ids::predecessors_at` meets its contract: the head says how many ids follow it, and they are at most 64.
+-- `job::ids::predecessors_at` meets its contract: the head, which was read before, says how many
+-- ids follow it, and they are at most 64.
 use borrow.Author.Needs.{needs}
 use Prim.Native.Nat.{_≤_}
+use mathlib.Core.Path.{sym}
 use Rattle.fields.proofs.Reading.{seen}
 use Rattle.job.specs.Ids.{predecessorsAt}
 use Rattle.job.specs.Answer.{gotBlockHead}
 use Rattle.job.specs.declared.BlockHead.{BlockHead}
 use Rattle.job.proofs.Bounds.{held, predecessors-most}
+use Rattle.job.proofs.ReadAgain.{head-again, ids-again, count-again}
 use Rattle.job.proofs.ids.predecessors_at.Statement.{statement}
 use Rattle.job.proofs.ids.predecessors_at.Tie as tie
 
@@ -19,23 +22,24 @@ enum-told : tie.Need-enum-told
 enum-told c = search needs
 
 returns : tie.Need-returns
-unfolding predecessorsAt
-returns c =
-    let head = seen gotBlockHead (c .before .before .block-head-at .ensures) (c .enum-told .given .1) in
-    (rw head, rw head)
+returns c = head-again _ _ (c .before .before .before .before .pre) (seen gotBlockHead (c .before .before .block-head-at .ensures) (c .enum-told .given .1))
 
 ids-into-requires : tie.Need-ids-into-requires
 ids-into-requires c κs =
     let field = c .before .before in
     let head = seen gotBlockHead (field .before .before .block-head-at .ensures) (field .head-field .given .1) in
-    held (λ (h : BlockHead). h .predecessors ≤ 64) head (predecessors-most _ _)
+    (held (λ (h : BlockHead). h .predecessors ≤ 64) head (predecessors-most _ _), ids-again _ _ (field .before .before .before .before .pre) head)
+
+cast-result : tie.Need-cast-result
+cast-result c = search needs
 
 returns-2 : tie.Need-returns-2
 unfolding predecessorsAt
 returns-2 c =
-    let field = c .before .before .before in
+    let field = c .before .before .before .before in
     let head = seen gotBlockHead (field .before .before .block-head-at .ensures) (field .head-field .given .1) in
-    (rw head (c .ids-into .ensures .0), rw head (c .ids-into .ensures .1))
+    let ids = ids-again _ _ (field .before .before .before .before .pre) head in
+    (rw head (sym (count-again _ _ _ ids)), rw head (c .before .ids-into .ensures))
 
 pub predecessors-at-spec : {M : Type 1} → statement M
 predecessors-at-spec =
@@ -46,4 +50,5 @@ predecessors-at-spec =
     enum-told
     returns
     ids-into-requires
+    cast-result
     returns-2)

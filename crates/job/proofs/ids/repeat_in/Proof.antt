@@ -1,4 +1,5 @@
--- `job::ids::repeat_in` meets its contract, as `contains_from` does: an id stands twice in the rest from here if one does in the whole.
+-- `job::ids::repeat_in` meets its contract, as `contains_from` does: an id stands twice in the rest
+-- from here if one does in the whole.
 use borrow.Author.Needs.{needs}
 use Prim.Native.Nat.{_-_}
 use mathlib.Core.Path.{_≡_, refl, sym, _∙_}
@@ -21,11 +22,11 @@ loop-holds c = refl
 add-contains-from : tie.Need-add-contains-from Inv-loop μ-loop
 add-contains-from c = search needs
 
-mul-contains-from : tie.Need-mul-contains-from Inv-loop μ-loop
-mul-contains-from c = search needs
+mul-t6 : tie.Need-mul-t6 Inv-loop μ-loop
+mul-t6 c = search needs
 
-shared-slice-read-contains-from : tie.Need-shared-slice-read-contains-from Inv-loop μ-loop
-shared-slice-read-contains-from c = search needs
+shared-slice-read-t8 : tie.Need-shared-slice-read-t8 Inv-loop μ-loop
+shared-slice-read-t8 c = search needs
 
 contains-from-requires : tie.Need-contains-from-requires Inv-loop μ-loop
 contains-from-requires c κs = search needs
@@ -59,8 +60,8 @@ repeat-in-spec =
     μ-loop
     loop-holds
     add-contains-from
-    mul-contains-from
-    shared-slice-read-contains-from
+    mul-t6
+    shared-slice-read-t8
     contains-from-requires
     returns
     add-i

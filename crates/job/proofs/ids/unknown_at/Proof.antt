@@ -1,4 +1,5 @@
--- `job::ids::unknown_at` meets its contract: the front of the array is the list of the predecessors.
+-- `job::ids::unknown_at` meets its contract: the front of the array is the list of the
+-- predecessors.
 use borrow.Author.Needs.{needs}
 use mathlib.Core.Path.{refl}
 use Rattle.job.proofs.Stored.{predecessors-stored}

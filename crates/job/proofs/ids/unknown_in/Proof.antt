@@ -1,4 +1,5 @@
--- `job::ids::unknown_in` meets its contract, as `contains_from` does: an id of the rest from here is none of the known ones if one of the whole is.
+-- `job::ids::unknown_in` meets its contract, as `contains_from` does: an id of the rest from here
+-- is none of the known ones if one of the whole is.
 use borrow.Author.Needs.{needs}
 use Prim.Native.Nat.{_-_}
 use mathlib.Core.Path.{_≡_, refl, sym, _∙_}
@@ -17,11 +18,11 @@ abbrev μ-loop : tie.MeasureT-loop
 loop-holds : tie.Need-loop-holds Inv-loop μ-loop
 loop-holds c = refl
 
-mul-contains-from : tie.Need-mul-contains-from Inv-loop μ-loop
-mul-contains-from c = search needs
+mul-t4 : tie.Need-mul-t4 Inv-loop μ-loop
+mul-t4 c = search needs
 
-shared-slice-read-contains-from : tie.Need-shared-slice-read-contains-from Inv-loop μ-loop
-shared-slice-read-contains-from c = search needs
+shared-slice-read-t8 : tie.Need-shared-slice-read-t8 Inv-loop μ-loop
+shared-slice-read-t8 c = search needs
 
 contains-from-requires : tie.Need-contains-from-requires Inv-loop μ-loop
 contains-from-requires c κs = search needs
@@ -58,8 +59,8 @@ unknown-in-spec =
     Inv-loop
     μ-loop
     loop-holds
-    mul-contains-from
-    shared-slice-read-contains-from
+    mul-t4
+    shared-slice-read-t8
     contains-from-requires
     add-i
     loop-less

@@ -1,0 +1,14 @@
+//! How many bytes the records of a job take.
+
+/// `HD`.
+pub(crate) const HEADER: usize = 10;
+
+/// `BL`, with so many predecessors.
+pub(crate) fn block(predecessors: usize) -> usize {
+    8 + 4 * predecessors
+}
+
+/// `PA` or `CA`, with so many entries.
+pub(crate) fn path(entries: usize) -> usize {
+    12 + 14 * entries
+}

@@ -1,0 +1,64 @@
+//! What the stage's library does for the tool.
+
+use super::failure::Failure;
+use super::input::Input;
+use super::options::{Command, Run};
+use scope_deps::{answer, raw, sheet, Answer, Job, ManyNodes, Refusal, Sheet};
+
+/// What the command makes of the job that was read.
+pub fn made(run: &Run, input: &Input, job: &Job) -> Result<Vec<u8>, Failure> {
+    let refused = |why: Refusal| Failure::Refused { place: input.place.clone(), why };
+    match run.command {
+        Command::Answer if run.bytes => raw::answer(job.as_bytes()).map_err(refused),
+        Command::Sheet if run.bytes => raw::sheet(job.as_bytes()).map_err(refused),
+        Command::Answer => {
+            let answer = answer(job).map_err(|why| refused(why.into()))?;
+            Ok(answer.with_names(job.names()).to_string().into_bytes())
+        }
+        Command::Sheet => {
+            let sheet = sheet(job).map_err(|why| refused(why.into()))?;
+            Ok(sheet.with_names(job.names()).to_string().into_bytes())
+        }
+        Command::Explain => asked(run, input, job, explained),
+        Command::Draw => asked(run, input, job, drawn),
+        Command::Encode | Command::Decode => unreachable!("these ask nothing of the stage"),
+    }
+}
+
+/// What is made of a job with its sheet and its answer.
+fn asked(
+    run: &Run,
+    input: &Input,
+    job: &Job,
+    make: impl Fn(&Run, &Job, &Sheet, &Answer) -> Result<String, Failure>,
+) -> Result<Vec<u8>, Failure> {
+    let refused = |why: ManyNodes| Failure::Refused { place: input.place.clone(), why: why.into() };
+    let (sheet, answer) = (sheet(job).map_err(refused)?, answer(job).map_err(refused)?);
+    make(run, job, &sheet, &answer).map(String::into_bytes)
+}
+
+#[cfg(feature = "explain")]
+fn explained(run: &Run, job: &Job, sheet: &Sheet, answer: &Answer) -> Result<String, Failure> {
+    let explanation = scope_deps::explain::explain(job, sheet, answer).map_err(Failure::Mismatch)?;
+    Ok(if run.all { explanation.in_full().to_string() } else { explanation.to_string() })
+}
+
+#[cfg(not(feature = "explain"))]
+fn explained(_: &Run, _: &Job, _: &Sheet, _: &Answer) -> Result<String, Failure> {
+    Err(Failure::BuiltWithout("explain"))
+}
+
+#[cfg(feature = "draw")]
+fn drawn(_: &Run, job: &Job, sheet: &Sheet, answer: &Answer) -> Result<String, Failure> {
+    scope_deps::draw::draw(job, sheet, answer).map_err(Failure::Mismatch)
+}
+
+#[cfg(not(feature = "draw"))]
+fn drawn(_: &Run, _: &Job, _: &Sheet, _: &Answer) -> Result<String, Failure> {
+    Err(Failure::BuiltWithout("draw"))
+}
+
+/// The refusal that the stage itself gives these bytes, where it gives one.
+pub fn refusal(bytes: &[u8]) -> Option<Refusal> {
+    raw::answer(bytes).err()
+}

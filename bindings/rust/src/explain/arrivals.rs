@@ -1,0 +1,59 @@
+//! When a path came to a block, by the trace.
+
+use crate::ids::NodeId;
+use crate::replay::Replay;
+use std::collections::HashMap;
+
+/// A moment of the trace. `None` is the start, when each block has what it assumes. In a visit, the
+/// number of which stands first, place 0 is the join and place n the n-th replacement after it.
+pub(super) type Moment = Option<(usize, usize)>;
+
+/// After the whole trace.
+pub(super) const END: Moment = Some((usize::MAX, 0));
+
+/// The moments at which each node came to each block, ascending.
+pub(super) struct Arrivals(HashMap<(usize, NodeId), Vec<Moment>>);
+
+impl Arrivals {
+    pub(super) fn new(replay: &Replay, blocks: usize) -> Self {
+        let mut noting =
+            Noting { there: vec![vec![false; replay.nodes().len()]; blocks], found: HashMap::new() };
+        for block in 0..blocks {
+            replay.assumed(block).iter().for_each(|&node| noting.comes(block, node, None));
+        }
+        for (number, visit) in replay.visits().iter().enumerate() {
+            visit.came_in.iter().for_each(|&node| noting.comes(visit.block, node, Some((number, 0))));
+            for (place, replaced) in visit.replaced.iter().enumerate() {
+                noting.goes(visit.block, replaced.from);
+                noting.comes(visit.block, replaced.to, Some((number, place + 1)));
+            }
+        }
+        Self(noting.found)
+    }
+
+    /// The last moment, before the one that is given, at which the node came to the block.
+    pub(super) fn last_before(&self, block: usize, node: NodeId, before: Moment) -> Moment {
+        let moments = self.0.get(&(block, node)).map_or(&[][..], |moments| moments);
+        let earlier = moments.partition_point(|&moment| moment < before);
+        moments[..earlier].last().copied().expect("what a block has came to it")
+    }
+}
+
+/// Goes through the trace, with what each block has at each moment.
+struct Noting {
+    there: Vec<Vec<bool>>,
+    found: HashMap<(usize, NodeId), Vec<Moment>>,
+}
+
+impl Noting {
+    /// A node that is there already does not come.
+    fn comes(&mut self, block: usize, node: NodeId, moment: Moment) {
+        if !std::mem::replace(&mut self.there[block][usize::from(node.0)], true) {
+            self.found.entry((block, node)).or_default().push(moment);
+        }
+    }
+
+    fn goes(&mut self, block: usize, node: NodeId) {
+        self.there[block][usize::from(node.0)] = false;
+    }
+}

@@ -1,0 +1,60 @@
+//! Which blocks an explanation speaks of.
+
+use super::{Base, Elsewhere, End, Explanation, How, Reason, Stop, Unknown, Why};
+use crate::ids::BlockId;
+use std::collections::BTreeSet;
+
+/// The blocks that matter to the candidates: every block that a sentence of the explanation in full
+/// names.
+pub fn blocks_that_matter(explanation: &Explanation) -> BTreeSet<BlockId> {
+    let mut blocks = BTreeSet::new();
+    for step in &explanation.steps {
+        blocks.insert(step.block);
+        if let How::TookOver { left_out, .. } = &step.how {
+            blocks.extend(left_out);
+        }
+    }
+    for reason in &explanation.reasons {
+        if speaks_of_a_base(reason) {
+            blocks.insert(explanation.scope);
+        }
+        unknowns(reason).for_each(|why| of_unknown(why, &mut blocks));
+    }
+    blocks
+}
+
+fn speaks_of_a_base(reason: &Reason) -> bool {
+    !reason.bases.is_empty() || matches!(reason.end, End::Cut { .. })
+}
+
+fn unknowns(reason: &Reason) -> impl Iterator<Item = &Unknown> {
+    let of_entries = reason.bases.iter().filter_map(|base| match base {
+        Base::Known(_) => None,
+        Base::Unknown(why) => Some(why),
+    });
+    let of_end = match &reason.end {
+        End::Cut { why, .. } => Some(why),
+        _ => None,
+    };
+    of_entries.chain(of_end)
+}
+
+fn of_unknown(why: &Unknown, blocks: &mut BTreeSet<BlockId>) {
+    match &why.elsewhere {
+        Elsewhere::Here(_) => {}
+        Elsewhere::Nowhere(open) => blocks.extend(open.iter().map(|(block, _)| block)),
+        Elsewhere::Apart { blocks: having, .. } => blocks.extend(having),
+        Elsewhere::Stopped { blocks: having, stops } => {
+            blocks.extend(having);
+            stops.iter().for_each(|stop| of_stop(stop, blocks));
+        }
+    }
+}
+
+/// The neighbours that have the base are among the blocks that have it.
+fn of_stop(stop: &Stop, blocks: &mut BTreeSet<BlockId>) {
+    blocks.insert(stop.at);
+    if let Why::Lacking(lacking) = &stop.why {
+        blocks.extend(lacking);
+    }
+}

@@ -1,0 +1,18 @@
+//! What a path says about the base of an entry.
+
+use crate::path::Path;
+
+/// Whether a path that is there shows the base to be there: it is the base, or goes on from it by a
+/// plain entry.
+pub(super) fn shows(path: &Path, base: &Path) -> bool {
+    base.names_start(path) && !goes_on_optional(path, base)
+}
+
+/// Whether the path leaves open whether the base is there: it goes on from it by `?.`.
+pub(super) fn leaves_open(path: &Path, base: &Path) -> bool {
+    base.names_start(path) && goes_on_optional(path, base)
+}
+
+fn goes_on_optional(path: &Path, base: &Path) -> bool {
+    path.entries().get(base.entries().len()).is_some_and(|entry| entry.optional)
+}

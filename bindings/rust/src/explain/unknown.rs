@@ -1,0 +1,80 @@
+//! Why a base is not known in the scope block.
+
+use super::blocks::Blocks;
+use super::paths::leaves_open;
+use super::steps::Steps;
+use super::stops::{holder, stops, Holder, Stop};
+use crate::ids::BlockId;
+use crate::job::Block;
+use crate::path::Path;
+
+/// Why a base is not known in the scope block.
+#[derive(Clone, Debug, PartialEq, Eq)]
+pub struct Unknown {
+    /// The base.
+    pub base: Path,
+    /// The scope block's own path that decides about the base and goes on from it by `?.`, if there
+    /// is one.
+    pub open: Option<Path>,
+    /// What other blocks know of it.
+    pub elsewhere: Elsewhere,
+}
+
+/// Which blocks have a base that is not known in the scope block.
+#[derive(Clone, Debug, PartialEq, Eq)]
+pub enum Elsewhere {
+    /// The scope block itself has this path, which shows it; but the one that leaves it open comes
+    /// first.
+    Here(Path),
+    /// None has it, since none assumes it. These assume paths that go on from it by `?.`.
+    Nowhere(Vec<(BlockId, Path)>),
+    /// No arrows connect the blocks that have it with the scope block.
+    Apart {
+        /// The blocks that have it.
+        blocks: Vec<BlockId>,
+        /// One of them.
+        holder: Holder,
+    },
+    /// Others have it, and it stopped on the way.
+    Stopped {
+        /// The blocks that have it.
+        blocks: Vec<BlockId>,
+        /// Where it stopped, the nearest to the scope block first.
+        stops: Vec<Stop>,
+    },
+}
+
+/// Why a base is not known, where the scope block has these paths of it: one that leaves it open,
+/// one that shows it.
+pub(super) fn unknown(
+    blocks: &Blocks,
+    steps: &mut Steps,
+    base: &Path,
+    open: Option<Path>,
+    here: Option<Path>,
+) -> Unknown {
+    let elsewhere = here.map_or_else(|| elsewhere(blocks, steps, base), Elsewhere::Here);
+    Unknown { base: base.clone(), open, elsewhere }
+}
+
+fn elsewhere(blocks: &Blocks, steps: &mut Steps, base: &Path) -> Elsewhere {
+    let has = blocks.having(base);
+    let having: Vec<usize> = (0..blocks.len()).filter(|&block| has[block]).collect();
+    let stops = stops(blocks, steps, base, &has);
+    if !stops.is_empty() {
+        return Elsewhere::Stopped { blocks: blocks.ids(&having), stops };
+    }
+    match holder(blocks, steps, base, &having) {
+        Some(holder) => Elsewhere::Apart { blocks: blocks.ids(&having), holder },
+        None => Elsewhere::Nowhere(leaving_open(blocks, base)),
+    }
+}
+
+/// The blocks that assume a path that goes on from the base by `?.`, each with its first.
+fn leaving_open(blocks: &Blocks, base: &Path) -> Vec<(BlockId, Path)> {
+    let of_block = |block: &Block| {
+        let path = block.assumed().iter().find(|path| leaves_open(path, base))?;
+        Some((block.id(), path.clone()))
+    };
+    blocks.job.blocks().iter().filter_map(of_block).collect()
+}

@@ -1,0 +1,1 @@
+../../../interface/scope_deps.rs

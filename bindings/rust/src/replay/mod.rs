@@ -1,0 +1,146 @@
+//! The propagation of a job done again, with a trace of what happened.
+//!
+//! The library says what each block holds in the end, and not how that came about. This module
+//! takes document 01's steps once more, in a small plain program, and notes each visit: which
+//! neighbours were joined, which were passed over because they were being visited, which paths came
+//! in and which were replaced. Nothing of it goes into an answer or a sheet.
+//! [`explain`](mod@crate::explain) compares the sheet that comes out with the library's, and
+//! explains nothing where the two differ.
+//!
+//! ```
+//! use scope_deps::replay::{Replay, Side};
+//! use scope_deps::{sheet, Job};
+//!
+//! let job: Job = "scope 1 block 0 assumes 5 block 1 after 0, 1".parse()?;
+//! let replay = Replay::new(&job)?;
+//! assert!(replay.agrees_with(&job, &sheet(&job)?));
+//!
+//! // Block 1 takes 5 over from block 0. It is being visited itself, and so is passed over.
+//! let visit = replay.visits().iter().find(|visit| !visit.came_in.is_empty()).unwrap();
+//! assert_eq!((visit.round, visit.side, visit.block), (1, Side::Predecessors, 1));
+//! assert_eq!((&visit.joined[..], &visit.passed_over[..]), (&[0][..], &[1][..]));
+//! # Ok::<(), Box<dyn std::error::Error>>(())
+//! ```
+
+mod nodes;
+mod reduce;
+mod registry;
+mod trace;
+mod walk;
+
+pub use trace::{Replaced, Side, Visit};
+
+use crate::ids::NodeId;
+use crate::job::{Block, Job};
+use crate::limits;
+use crate::path::Path;
+use crate::sheet::{NodeSet, Sheet};
+use nodes::Nodes;
+use registry::Registry;
+use std::fmt;
+use walk::{Neighbours, Walks};
+
+/// The propagation of a job, visit by visit. Blocks are given by their place in the job, from 0.
+#[derive(Clone, Debug)]
+pub struct Replay {
+    registry: Registry,
+    assumed: Vec<Vec<NodeId>>,
+    sets: Vec<Nodes>,
+    visits: Vec<Visit>,
+    rounds: u8,
+    settled: bool,
+}
+
+/// The job has more nodes than the stage allows, which refuses it by 9.
+#[derive(Clone, Copy, Debug, PartialEq, Eq)]
+pub struct TooManyNodes;
+
+impl fmt::Display for TooManyNodes {
+    fn fmt(&self, f: &mut fmt::Formatter<'_>) -> fmt::Result {
+        write!(f, "the job has more than {} nodes", limits::NODES)
+    }
+}
+
+impl std::error::Error for TooManyNodes {}
+
+impl Replay {
+    /// Propagates the job's assumed paths.
+    pub fn new(job: &Job) -> Result<Self, TooManyNodes> {
+        let mut registry = Registry::default();
+        let assumed = assumed(job, &mut registry)?;
+        let sets = assumed.iter().map(|nodes| set_of(nodes)).collect();
+        let neighbours = Neighbours::new(job);
+        let mut walks = Walks::new(&neighbours, registry, sets);
+        let (rounds, settled) = walks.rounds()?;
+        let Walks { registry, sets, visits, .. } = walks;
+        Ok(Self { registry, assumed, sets, visits, rounds, settled })
+    }
+
+    /// The visits, in the order in which they ended.
+    pub fn visits(&self) -> &[Visit] {
+        &self.visits
+    }
+
+    /// How many rounds there were.
+    pub fn rounds(&self) -> u8 {
+        self.rounds
+    }
+
+    /// Whether the last round changed nothing.
+    pub fn is_settled(&self) -> bool {
+        self.settled
+    }
+
+    /// The nodes of the paths that a block assumes, in the job's order.
+    pub fn assumed(&self, block: usize) -> &[NodeId] {
+        &self.assumed[block]
+    }
+
+    /// The nodes that a block holds in the end, ascending.
+    pub fn held(&self, block: usize) -> impl Iterator<Item = NodeId> + '_ {
+        self.sets[block].iter()
+    }
+
+    /// Whether a block holds a node in the end.
+    pub fn holds(&self, block: usize, node: NodeId) -> bool {
+        self.sets[block].contains(node)
+    }
+
+    /// All nodes, ascending.
+    pub fn nodes(&self) -> impl ExactSizeIterator<Item = NodeId> {
+        (0..self.registry.nodes().len()).map(|number| NodeId(number as u16))
+    }
+
+    /// A node's path.
+    ///
+    /// # Panics
+    ///
+    /// Where there is no such node.
+    pub fn path(&self, node: NodeId) -> Path {
+        self.registry.path(node)
+    }
+
+    /// Whether this is what the sheet says: the same nodes, sets and rounds, for the same blocks.
+    pub fn agrees_with(&self, job: &Job, sheet: &Sheet) -> bool {
+        let ids = job.blocks().iter().map(|block| block.id());
+        let sets = sheet.sets().map(|(_, set)| set);
+        let same_set = |(block, set): (usize, &NodeSet)| set.iter().eq(self.held(block));
+        self.rounds == sheet.rounds()
+            && self.settled == sheet.is_settled()
+            && self.registry.nodes().iter().eq(sheet.nodes().map(|(_, node)| node))
+            && ids.eq(sheet.sets().map(|(id, _)| id))
+            && sets.enumerate().all(same_set)
+    }
+}
+
+/// The nodes of each block's assumed paths. All are entered first, in job order.
+fn assumed(job: &Job, registry: &mut Registry) -> Result<Vec<Vec<NodeId>>, TooManyNodes> {
+    let mut of_block = |block: &Block| block.assumed().iter().map(|path| registry.enter(path)).collect();
+    job.blocks().iter().map(&mut of_block).collect()
+}
+
+fn set_of(nodes: &[NodeId]) -> Nodes {
+    let mut set = Nodes::NONE;
+    nodes.iter().for_each(|&node| set.insert(node));
+    set
+}

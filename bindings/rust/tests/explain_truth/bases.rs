@@ -1,0 +1,112 @@
+//! Sentences on the base of an entry.
+
+use crate::parse::{block, blocks, holes, path};
+use crate::sources::check_sources;
+use crate::stops::{check_stopped, check_stopped_in_full};
+use crate::world::{leaves_open, show, shows, World};
+use scope_deps::replay::Side;
+use scope_deps::Path;
+
+/// `1 is known to be there in block 2, since 1.10 is; SOURCES` or with a section's number. The path
+/// that shows it.
+pub fn check_known(world: &World, base: &Path, said: &str, sections: &[Path]) -> Path {
+    let scope = world.job.scope();
+    let start = format!("{} is known to be there in block {scope}", show(base));
+    let rest = said.strip_prefix(&start).unwrap_or_else(|| panic!("not of {}: {said}", show(base)));
+    let (held, rest) = match holes(", since {} is{}", rest) {
+        Some(found) => (path(found[0]), found[1]),
+        None => (base.clone(), rest),
+    };
+    assert!(world.is_known(base), "{said}");
+    assert!(world.holds(scope, &held) && shows(&held, base), "{said}");
+    if let Some(found) = holes(" [{}]", rest) {
+        assert!(sections[found[0].parse::<usize>().unwrap() - 1].same_names(&held), "{said}");
+    } else if let Some(found) = holes(&format!("; block {scope} assumes {{}}"), rest) {
+        let form = if found[0] == "it" { held.clone() } else { path(found[0]) };
+        assert!(world.assumes(scope, &form), "{said}");
+        assert_eq!(*world.sources(scope, &held), [(scope, show(&form))].into(), "{said}");
+    } else {
+        let found = holes("; it comes from {}", rest).unwrap_or_else(|| panic!("no source: {said}"));
+        check_sources(world, scope, &held, found[0]);
+    }
+    held
+}
+
+/// `block 3 left out block 1, which does not have it: control comes from there too, but the two are
+/// on a loop`.
+pub fn check_left_out(world: &World, held: &Path, said: &str) {
+    let found = holes("{} left out {}, which does not have it: {}, but the two are on a loop", said);
+    let found = found.unwrap_or_else(|| panic!("no sentence: {said}"));
+    let (by, out) = (block(found[0]), block(found[1]));
+    let side = match found[2] {
+        "control comes from there too" => Side::Predecessors,
+        "control goes on there too" => Side::Successors,
+        other => panic!("no side: {other}"),
+    };
+    assert!(!world.has(out, held) && world.on_a_loop(by, out), "{said}");
+    assert!(world.neighbours(by, side).contains(&out), "{said}");
+    let place = world.place(out);
+    let forms = world.paths().iter().filter(|path| path.same_names(held));
+    let mut visits = forms.flat_map(|form| world.visits_with(by, side, form));
+    assert!(visits.any(|visit| visit.passed_over.contains(&place)), "{said}");
+}
+
+/// A sentence on why a base is not known; what kind of sentence it is.
+pub fn check_unknown(world: &World, base: &Path, said: &str, sections: &[Path]) -> &'static str {
+    let (scope, shown) = (world.job.scope(), show(base));
+    if said == "the stage stopped after 100 rounds, before it had settled" {
+        assert!(!world.sheet.is_settled() && world.sheet.rounds() == 100, "{said}");
+        return "not settled";
+    }
+    let nobody = format!("no block assumes {shown}");
+    if let Some(rest) = said.strip_prefix(&format!("{nobody}; ")) {
+        check_unknown(world, base, &nobody, sections);
+        return check_unknown(world, base, rest, sections);
+    }
+    if said == nobody {
+        let mut assumed = world.job.blocks().iter().flat_map(|block| block.assumed());
+        assert!(!assumed.any(|path| shows(path, base)) && world.having(base).is_empty(), "{said}");
+        return "no block";
+    }
+    if let Some(found) = holes(&format!("{{}}, which leaves open whether {shown} is there{{}}"), said) {
+        return check_open(world, base, found[0], found[1]);
+    }
+    if let Some(found) = holes(&format!("{shown} is there in {{}} [{{}}]"), said) {
+        assert_eq!(blocks(found[0]), world.having(base), "{said}");
+        assert!(!world.has(scope, base), "{said}");
+        for number in found[1].split(", ") {
+            assert!(base.names_start(&sections[number.parse::<usize>().unwrap() - 1]), "{said}");
+        }
+        return "the blocks that have it";
+    }
+    if said.starts_with("it stops at ") {
+        return check_stopped_in_full(world, base, said);
+    }
+    check_stopped(world, base, said)
+}
+
+/// `block 7 has 1?.10`, or `block 4 assumes 1?.10`, and what comes after the part on what is left
+/// open.
+fn check_open(world: &World, base: &Path, said: &str, rest: &str) -> &'static str {
+    let scope = world.job.scope();
+    if let Some(found) = holes("{} assumes {}", said) {
+        let open = path(found[1]);
+        assert!(world.assumes(block(found[0]), &open) && leaves_open(&open, base), "{said}");
+        assert_eq!(rest, "");
+        return "assumed, and left open";
+    }
+    let found = holes("{} has {}", said).unwrap_or_else(|| panic!("no sentence: {said}"));
+    let open = path(found[1]);
+    assert!(block(found[0]) == scope && world.holds(scope, &open) && leaves_open(&open, base), "{said}");
+    let deciding = world.deciding();
+    let first = deciding.iter().find(|path| base.names_start(path)).unwrap();
+    assert!(first.same_entries(&open), "{said}");
+    if rest.is_empty() {
+        assert!(!world.has(scope, base), "{said}");
+        return "left open";
+    }
+    let also = holes("; it has {} too, but the path that comes first counts", rest);
+    let also = path(also.unwrap_or_else(|| panic!("no sentence: {rest}"))[0]);
+    assert!(world.holds(scope, &also) && shows(&also, base), "{said}{rest}");
+    "left open, and shown too late"
+}

@@ -1,0 +1,102 @@
+//! Every sentence of every explanation is true.
+//!
+//! Each line of the text, in short and in full, is taken apart and checked against the job, the
+//! library's sheet and answer, and the events of the replay. A line that is of no known form is a
+//! fault too. That the replay's events are those of a run of the walks, and end with the library's
+//! sheet, is checked in `tests/replay.rs`.
+
+#[path = "../common/mod.rs"]
+mod common;
+
+mod bases;
+mod parse;
+mod sources;
+mod steps;
+mod stops;
+mod text;
+mod world;
+
+use common::stored;
+use compare::generate::{class_names, generate};
+use scope_deps::explain::{explain, Explanation};
+use scope_deps::{limits, Entry, Job, JobBuilder, Property};
+use text::{check_text, Kinds};
+use world::World;
+
+/// The kinds of sentences, and how many of each are checked at least.
+const EXPECTED: &[(&str, usize)] = &[
+    ("all that lack it", 10_000),
+    ("assumed", 10_000),
+    ("assumed, and left open", 1_000),
+    ("covered", 1_000),
+    ("different paths", 500),
+    ("from all", 1_000),
+    ("from the only one", 10_000),
+    ("known", 10_000),
+    ("left open", 1_000),
+    ("left open, and shown too late", 1_000),
+    ("made", 1_000),
+    ("no block", 1_000),
+    ("not connected", 1_000),
+    ("not settled", 100),
+    ("one left out that lacks it", 50),
+    ("one that lacks it", 1_000),
+    ("some left out", 10_000),
+    ("the blocks that have it", 1_000),
+    ("too late", 2),
+    ("unfinished", 200),
+];
+
+/// Explains a job and checks all that is said. Nothing where the stage refuses the job.
+fn check(job: &Job, kinds: &mut Kinds) -> Option<Explanation> {
+    let world = World::new(job)?;
+    let explanation = explain(job, &world.sheet, &world.answer).unwrap_or_else(|why| panic!("{why}:\n{job}"));
+    for text in [explanation.to_string(), explanation.in_full().to_string()] {
+        let checked = std::panic::AssertUnwindSafe(|| check_text(&world, &text, &mut *kinds));
+        if std::panic::catch_unwind(checked).is_err() {
+            panic!("the explanation of\n{job}\nis\n{text}");
+        }
+    }
+    Some(explanation)
+}
+
+/// The job with this scope block, and candidates one entry longer, plain and optional, than the
+/// paths of the job.
+fn with_candidates(job: &Job, scope: usize) -> Option<Job> {
+    let blocks = job.blocks().iter().cloned().fold(Job::builder(job.blocks()[scope].id()), JobBuilder::block);
+    let assumed = job.blocks().iter().flat_map(|block| block.assumed());
+    let longer = assumed.filter(|path| path.entries().len() < limits::ENTRIES);
+    let longer = longer.enumerate().map(|(number, path)| {
+        let property = Property::Name(77);
+        let entry = if number % 2 == 0 { Entry::plain(property) } else { Entry::optional(property) };
+        path.clone().then(entry)
+    });
+    longer.take(limits::CANDIDATES).fold(blocks, JobBuilder::candidate).build().ok()
+}
+
+#[test]
+fn every_sentence_is_true_for_generated_jobs_of_every_class() {
+    let mut kinds = Kinds::new();
+    for class in class_names() {
+        let mut explained = 0;
+        for number in 0..150 {
+            let Ok(job) = Job::from_bytes(&generate(21, number, Some(class)).job) else { continue };
+            explained += usize::from(check(&job, &mut kinds).is_some());
+            let other = with_candidates(&job, number as usize % job.blocks().len());
+            explained += other.map_or(0, |job| usize::from(check(&job, &mut kinds).is_some()));
+        }
+        assert!(explained > 10, "{class}: {explained}");
+    }
+    for (kind, least) in EXPECTED {
+        assert!(kinds.get(kind).is_some_and(|count| count >= least), "{kind}: {kinds:#?}");
+    }
+    assert_eq!(kinds.len(), EXPECTED.len());
+}
+
+#[test]
+fn every_sentence_is_true_for_the_stored_jobs() {
+    let mut kinds = Kinds::new();
+    let jobs = stored().into_iter().filter_map(|record| Job::from_bytes(&record.job).ok());
+    let explained = jobs.filter(|job| check(job, &mut kinds).is_some()).count();
+    assert!(explained > 100, "{explained}");
+}

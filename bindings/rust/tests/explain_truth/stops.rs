@@ -1,0 +1,163 @@
+//! Sentences on the block at which a base stopped.
+
+use crate::parse::{block, blocks, holes, path};
+use crate::sources::check_holder;
+use crate::world::{shows, World};
+use scope_deps::replay::Side;
+use scope_deps::{BlockId, NodeId, Path};
+use std::collections::BTreeSet;
+
+const SIDES: [Side; 2] = [Side::Predecessors, Side::Successors];
+
+/// `HOLDER, but on the way to block 5 it stops at block 3: REASON`, and the shorter forms of it.
+pub fn check_stopped(world: &World, base: &Path, said: &str) -> &'static str {
+    let scope = world.job.scope();
+    let (holder, rest) = said.split_once(", but ").unwrap_or_else(|| panic!("no sentence: {said}"));
+    let holder = check_holder(world, base, holder);
+    if let Some(found) = holes("{} and {} are not connected", rest) {
+        assert_eq!((block(found[0]), block(found[1])), (holder, scope), "{said}");
+        assert!(holder != scope && !world.connected(holder, scope), "{said}");
+        return "not connected";
+    }
+    if let Some(found) = holes("on the way to {} it stops at {}: {}", rest) {
+        let at = block(found[1]);
+        assert_eq!(block(found[0]), scope, "{said}");
+        assert_ne!(at, scope, "{said}");
+        let (side, kind) = check_reason(world, base, at, "there", "from there", found[2]);
+        let (first, then) = if side == Side::Predecessors { (at, scope) } else { (scope, at) };
+        assert!(world.leads(first, then), "{said}");
+        assert!(world.neighbours(at, side).contains(&holder), "{said}");
+        return kind;
+    }
+    let (at, there, from, reason) = match holes("it stops at {}: {}", rest) {
+        Some(found) => (block(found[0]), "there".into(), "from there".into(), found[1]),
+        None => (scope, format!("to block {scope}"), format!("from block {scope}"), rest),
+    };
+    let (side, kind) = check_reason(world, base, at, &there, &from, reason);
+    assert!(world.neighbours(at, side).contains(&holder), "{said}");
+    assert!(at == scope || world.connected(at, scope), "{said}");
+    kind
+}
+
+/// `it stops at block 3: REASON`, in full.
+pub fn check_stopped_in_full(world: &World, base: &Path, said: &str) -> &'static str {
+    let found = holes("it stops at {}: {}", said).unwrap_or_else(|| panic!("no stop: {said}"));
+    let (at, reason) = (block(found[0]), found[1]);
+    let scope = world.job.scope();
+    assert!(at == scope || world.connected(at, scope), "{said}");
+    let patterns = [
+        (Side::Predecessors, "control comes there from {}, which {} it, but also from {}, which {}"),
+        (Side::Successors, "control goes on from there to {}, which {} it, but also to {}, which {}"),
+    ];
+    for (side, pattern) in patterns {
+        if let Some(found) = holes(pattern, reason) {
+            check_beside(world, base, at, side, &found);
+            return "all that lack it";
+        }
+    }
+    check_reason(world, base, at, "there", "from there", reason).1
+}
+
+/// That these are all neighbours that have the base, and all that were joined and lack it.
+fn check_beside(world: &World, base: &Path, at: BlockId, side: Side, found: &[&str]) {
+    assert!(!world.has(at, base));
+    let (have, lack) = (blocks(found[0]), blocks(found[2]));
+    assert_eq!(found[1], if have.len() == 1 { "has" } else { "have" });
+    assert_eq!(found[3], if lack.len() == 1 { "does not" } else { "do not" });
+    let sorted = |blocks: Vec<BlockId>| blocks.into_iter().collect::<BTreeSet<_>>();
+    let having = world.neighbours(at, side).into_iter().filter(|&near| world.has(near, base));
+    assert_eq!(sorted(have), having.collect());
+    let joined = world.id_list(&world.last_visit(at, side).joined);
+    assert_eq!(sorted(lack), joined.into_iter().filter(|&near| !world.has(near, base)).collect());
+}
+
+/// Why a block did not take the base over. The side is given.
+fn check_reason(
+    world: &World,
+    base: &Path,
+    at: BlockId,
+    there: &str,
+    from: &str,
+    said: &str,
+) -> (Side, &'static str) {
+    assert!(!world.has(at, base), "{said}");
+    for side in SIDES {
+        let (comes, can_come, joint) = match side {
+            Side::Predecessors => {
+                (format!("control comes {there} from"), format!("control can also come {there} from"), "from")
+            }
+            Side::Successors => {
+                (format!("control goes on {from} to"), format!("control can also go on {from} to"), "to")
+            }
+        };
+        if let Some(found) = holes(&format!("{can_come} {{}}, which does not have it"), said) {
+            check_lacking(world, base, at, side, block(found[0]));
+            return (side, "one that lacks it");
+        }
+        let by = format!(
+            "{comes} {{}}, which has it by {{}}, and {joint} {{}}, which has it by {{}}; \
+             only a path that is the same in all is passed on"
+        );
+        if let Some(found) = holes(&by, said) {
+            let one = (block(found[0]), path(found[1]));
+            check_different(world, base, at, side, one, (block(found[2]), path(found[3])));
+            return (side, "different paths");
+        }
+        if let Some(kind) = check_rare(world, base, at, side, said) {
+            return (side, kind);
+        }
+    }
+    panic!("no reason: {said}")
+}
+
+fn check_lacking(world: &World, base: &Path, at: BlockId, side: Side, lacking: BlockId) {
+    assert!(world.neighbours(at, side).contains(&lacking));
+    assert!(world.id_list(&world.last_visit(at, side).joined).contains(&lacking));
+    assert!(!world.has(lacking, base));
+}
+
+fn check_different(
+    world: &World,
+    base: &Path,
+    at: BlockId,
+    side: Side,
+    one: (BlockId, Path),
+    other: (BlockId, Path),
+) {
+    let joined = world.id_list(&world.last_visit(at, side).joined);
+    for (block, path) in [&one, &other] {
+        assert!(joined.contains(block) && world.holds(*block, path) && shows(path, base));
+    }
+    assert!(!world.holds(other.0, &one.1));
+    let mut showing = world.paths().iter().filter(|path| shows(path, base));
+    assert!(!showing.any(|path| joined.iter().all(|&block| world.holds(block, path))));
+    assert!(joined.iter().all(|&block| world.has(block, base)));
+}
+
+/// The reasons that need a loop, or a job that does not settle.
+fn check_rare(world: &World, base: &Path, at: BlockId, side: Side, said: &str) -> Option<&'static str> {
+    let control = match side {
+        Side::Predecessors => "control comes from",
+        Side::Successors => "control goes on to",
+    };
+    let visit = world.last_visit(at, side);
+    let near = world.neighbours(at, side);
+    let unfinished = format!(
+        "all the blocks that {control} are on a loop with block {at} and not finished when it takes over"
+    );
+    if said == unfinished {
+        assert!(visit.joined.is_empty() && !near.is_empty() && visit.passed_over.len() == near.len());
+        assert!(near.iter().all(|&block| world.on_a_loop(at, block)));
+        return Some("unfinished");
+    }
+    if said == format!("block {at} last took over before all the blocks that {control} had it") {
+        assert!(!world.sheet.is_settled() && !visit.joined.is_empty());
+        let had = world.before_last(at, side);
+        let shows_base = |node: &NodeId| shows(world.path(*node), base);
+        let in_all = |node: &NodeId| visit.joined.iter().all(|&block| had[block].contains(node));
+        assert!(!world.replay.nodes().any(|node| shows_base(&node) && in_all(&node)));
+        assert!(world.id_list(&visit.joined).iter().all(|&block| world.has(block, base)));
+        return Some("too late");
+    }
+    None
+}

@@ -1,0 +1,244 @@
+//! What is true of a job: by the job itself, by the library's sheet and answer, and by the events
+//! of the replay.
+//!
+//! Nothing here is taken from the module `explain`. Where that goes back from a block to the blocks
+//! that a path came from, this goes forward through the events.
+
+use scope_deps::replay::{Replay, Side, Visit};
+use scope_deps::{answer, sheet, Answer, BlockId, Job, NodeId, Path, Sheet};
+use std::collections::{BTreeSet, HashMap};
+
+/// The blocks that assume a path, each with the form that it assumes.
+pub type Sources = BTreeSet<(BlockId, String)>;
+
+pub struct World<'j> {
+    pub job: &'j Job,
+    pub sheet: Sheet,
+    pub answer: Answer,
+    pub replay: Replay,
+    /// What each block holds in the end, by the library.
+    held: Vec<Vec<Path>>,
+    /// The path of each node.
+    paths: Vec<Path>,
+    places: HashMap<BlockId, usize>,
+    /// The neighbours of each block: before it, after it.
+    near: [Vec<Vec<usize>>; 2],
+    /// The blocks that can be come to from each, a bit for each: against control, with it, and
+    /// both.
+    reached: [Vec<u128>; 3],
+    /// From where each block has what it holds in the end.
+    sources: HashMap<(usize, NodeId), Sources>,
+    /// The nodes that each block had just before its last visit on each side.
+    before_last: HashMap<(usize, Side), Vec<BTreeSet<NodeId>>>,
+    /// The last visit of each block on each side.
+    last: HashMap<(usize, Side), usize>,
+}
+
+pub fn show(path: &Path) -> String {
+    format!("{path:#}")
+}
+
+/// Whether a path says that the base is there.
+pub fn shows(path: &Path, base: &Path) -> bool {
+    let next = path.entries().get(base.entries().len());
+    base.names_start(path) && next.is_none_or(|entry| !entry.optional)
+}
+
+/// Whether a path leaves open whether the base is there.
+pub fn leaves_open(path: &Path, base: &Path) -> bool {
+    base.names_start(path) && !shows(path, base)
+}
+
+impl<'j> World<'j> {
+    /// Nothing where the stage refuses the job.
+    pub fn new(job: &'j Job) -> Option<Self> {
+        let (sheet, answer, replay) = (sheet(job).ok()?, answer(job).ok()?, Replay::new(job).ok()?);
+        let held = job.blocks().iter().map(|block| sheet.paths(block.id()).collect()).collect();
+        let visits = replay.visits().iter().enumerate();
+        let last = visits.map(|(number, visit)| ((visit.block, visit.side), number)).collect();
+        let (sources, before_last) = (HashMap::new(), HashMap::new());
+        let paths = replay.nodes().map(|node| replay.path(node)).collect();
+        let places = job.blocks().iter().enumerate().map(|(place, block)| (block.id(), place)).collect();
+        let near = neighbours(job, &places);
+        let both: Vec<_> =
+            near[0].iter().zip(&near[1]).map(|(before, after)| [&before[..], after].concat()).collect();
+        let reached = [reached(&near[0]), reached(&near[1]), reached(&both)];
+        let mut world = Self {
+            job,
+            sheet,
+            answer,
+            replay,
+            held,
+            paths,
+            places,
+            near,
+            reached,
+            sources,
+            before_last,
+            last,
+        };
+        world.go_through_events();
+        Some(world)
+    }
+
+    fn go_through_events(&mut self) {
+        let count = self.job.blocks().len();
+        let mut had: Vec<BTreeSet<NodeId>> = vec![BTreeSet::new(); count];
+        let mut sources: HashMap<(usize, NodeId), Sources> = HashMap::new();
+        for block in 0..count {
+            for &node in self.replay.assumed(block) {
+                had[block].insert(node);
+                let source = (self.job.blocks()[block].id(), show(self.path(node)));
+                sources.insert((block, node), Sources::from([source]));
+            }
+        }
+        for (number, visit) in self.replay.visits().iter().enumerate() {
+            if !self.replay.is_settled() && self.last[&(visit.block, visit.side)] == number {
+                self.before_last.insert((visit.block, visit.side), had.clone());
+            }
+            take(visit, &mut had, &mut sources);
+        }
+        self.sources = sources;
+    }
+
+    pub fn place(&self, id: BlockId) -> usize {
+        *self.places.get(&id).unwrap_or_else(|| panic!("block {id} is none of the job"))
+    }
+
+    pub fn assumes(&self, id: BlockId, path: &Path) -> bool {
+        let assumed = self.job.blocks()[self.place(id)].assumed();
+        assumed.iter().any(|other| other.same_entries(path))
+    }
+
+    /// Whether the block holds the very path in the end.
+    pub fn holds(&self, id: BlockId, path: &Path) -> bool {
+        self.held[self.place(id)].iter().any(|other| other.same_entries(path))
+    }
+
+    /// Whether the block has the base in the end, by any path.
+    pub fn has(&self, id: BlockId, base: &Path) -> bool {
+        self.held[self.place(id)].iter().any(|path| shows(path, base))
+    }
+
+    /// All blocks that have the base in the end.
+    pub fn having(&self, base: &Path) -> Vec<BlockId> {
+        self.ids().filter(|&id| self.has(id, base)).collect()
+    }
+
+    pub fn ids(&self) -> impl Iterator<Item = BlockId> + '_ {
+        self.job.blocks().iter().map(|block| block.id())
+    }
+
+    pub fn path(&self, node: NodeId) -> &Path {
+        &self.paths[usize::from(node.0)]
+    }
+
+    /// The path of each node.
+    pub fn paths(&self) -> &[Path] {
+        &self.paths
+    }
+
+    /// The paths of the scope block, in the order in which the first counts.
+    pub fn deciding(&self) -> Vec<&Path> {
+        let held = &self.held[self.place(self.job.scope())];
+        let (ahead, others): (Vec<&Path>, Vec<&Path>) =
+            held.iter().partition(|path| path.entries().first().is_some_and(|entry| entry.optional));
+        ahead.into_iter().chain(others).collect()
+    }
+
+    /// Whether the stage takes the base to be there in the scope block.
+    pub fn is_known(&self, base: &Path) -> bool {
+        let deciding = self.deciding();
+        deciding.iter().find(|path| base.names_start(path)).is_some_and(|path| shows(path, base))
+    }
+
+    pub fn neighbours(&self, id: BlockId, side: Side) -> Vec<BlockId> {
+        self.id_list(&self.near[usize::from(side == Side::Successors)][self.place(id)])
+    }
+
+    /// Whether control can go from the first to the second, by one arrow or more.
+    pub fn leads(&self, from: BlockId, to: BlockId) -> bool {
+        self.reached[1][self.place(from)] >> self.place(to) & 1 == 1
+    }
+
+    /// Whether arrows connect the two, whichever way they point.
+    pub fn connected(&self, one: BlockId, other: BlockId) -> bool {
+        self.reached[2][self.place(one)] >> self.place(other) & 1 == 1
+    }
+
+    pub fn on_a_loop(&self, one: BlockId, other: BlockId) -> bool {
+        self.leads(one, other) && self.leads(other, one)
+    }
+
+    pub fn id_list(&self, places: &[usize]) -> Vec<BlockId> {
+        places.iter().map(|&place| self.job.blocks()[place].id()).collect()
+    }
+
+    /// The last visit of a block on a side.
+    pub fn last_visit(&self, id: BlockId, side: Side) -> &Visit {
+        &self.replay.visits()[self.last[&(self.place(id), side)]]
+    }
+
+    /// What the blocks had before the last visit of a block, in a job that did not settle.
+    pub fn before_last(&self, id: BlockId, side: Side) -> &[BTreeSet<NodeId>] {
+        &self.before_last[&(self.place(id), side)]
+    }
+
+    /// The visits of a block in which a path came in, on a side.
+    pub fn visits_with(&self, id: BlockId, side: Side, path: &Path) -> Vec<&Visit> {
+        let place = self.place(id);
+        let of_path = |node: &NodeId| self.path(*node).same_entries(path);
+        let visits = self.replay.visits().iter();
+        visits
+            .filter(|visit| visit.block == place && visit.side == side && visit.came_in.iter().any(of_path))
+            .collect()
+    }
+
+    /// From where a block has the path that it holds in the end.
+    pub fn sources(&self, id: BlockId, path: &Path) -> &Sources {
+        let node = self.replay.nodes().find(|&node| self.path(node).same_entries(path));
+        &self.sources[&(self.place(id), node.unwrap())]
+    }
+}
+
+/// What an event does. A path that is there already keeps its sources.
+fn take(visit: &Visit, had: &mut [BTreeSet<NodeId>], sources: &mut HashMap<(usize, NodeId), Sources>) {
+    for &node in &visit.came_in {
+        let of_joined = visit.joined.iter().flat_map(|&near| sources[&(near, node)].iter().cloned());
+        let all: Sources = of_joined.collect();
+        sources.insert((visit.block, node), all);
+        had[visit.block].insert(node);
+    }
+    for replaced in &visit.replaced {
+        let before = sources.remove(&(visit.block, replaced.from)).unwrap();
+        sources.entry((visit.block, replaced.to)).or_insert(before);
+        had[visit.block].remove(&replaced.from);
+        had[visit.block].insert(replaced.to);
+    }
+}
+
+/// The blocks before each, in the order of its record, and those after it.
+fn neighbours(job: &Job, places: &HashMap<BlockId, usize>) -> [Vec<Vec<usize>>; 2] {
+    let before = job.blocks().iter().map(|block| block.predecessors().iter().map(|id| places[id]).collect());
+    let before: Vec<Vec<usize>> = before.collect();
+    let after = (0..before.len()).map(|block| {
+        let follows = |&other: &usize| before[other].contains(&block);
+        (0..before.len()).filter(follows).collect()
+    });
+    let after = after.collect();
+    [before, after]
+}
+
+/// The blocks that can be come to from each block, by one step or more.
+fn reached(near: &[Vec<usize>]) -> Vec<u128> {
+    let bits = |near: &Vec<usize>| near.iter().fold(0, |bits, &block| bits | 1 << block);
+    let mut reached: Vec<u128> = near.iter().map(bits).collect();
+    for middle in 0..near.len() {
+        for block in 0..near.len() {
+            if reached[block] >> middle & 1 == 1 {
+                reached[block] |= reached[middle];
+            }
+        }
+    }
+    reached
+}

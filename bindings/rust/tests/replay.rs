@@ -1,0 +1,201 @@
+//! The replay: it ends where the library ends, and its trace is a run of document 01's walks.
+
+mod common;
+
+use common::{all_bytes, jobs};
+use scope_deps::replay::{Replay, Side, Visit};
+use scope_deps::{raw, sheet, Job, NodeId, Refusal, Sheet};
+use std::collections::{BTreeSet, HashMap};
+
+#[test]
+fn the_replay_ends_with_the_library_s_sheet_or_where_it_refuses_by_nine() {
+    let (mut same, mut refused, mut unsettled, mut many_rounds) = (0, 0, 0, 0);
+    for bytes in all_bytes(11, 20_000) {
+        let Ok(job) = Job::from_bytes(&bytes) else { continue };
+        let Ok(replay) = Replay::new(&job) else {
+            assert_eq!(raw::sheet(&bytes), Err(Refusal::ManyNodes), "{job}");
+            refused += 1;
+            continue;
+        };
+        let sheet = sheet(&job).unwrap_or_else(|why| panic!("{why}:\n{job}"));
+        assert!(replay.agrees_with(&job, &sheet), "{job}");
+        same += 1;
+        unsettled += usize::from(!replay.is_settled());
+        many_rounds += usize::from(replay.rounds() > 3);
+    }
+    assert!(same > 10_000, "{same}");
+    assert!(refused > 50 && unsettled > 10 && many_rounds > 100, "{refused} {unsettled} {many_rounds}");
+}
+
+/// The neighbours of each block on a side, in the order in which document 01 takes them.
+fn neighbours(job: &Job, block: usize, side: Side) -> Vec<usize> {
+    let record = &job.blocks()[block];
+    let place = |id| job.place_of(id).unwrap();
+    match side {
+        Side::Predecessors => record.predecessors().iter().map(|&id| place(id)).collect(),
+        Side::Successors => {
+            let after = job.blocks().iter().filter(|other| other.predecessors().contains(&record.id()));
+            let ids: BTreeSet<_> = after.map(|other| other.id()).collect();
+            ids.into_iter().map(place).collect()
+        }
+    }
+}
+
+/// The blocks in the order in which a depth-first walk leaves them, without recursion.
+fn left_in_order(job: &Job, side: Side) -> Vec<usize> {
+    let count = job.blocks().len();
+    let starts: Vec<usize> = match side {
+        Side::Predecessors => (0..count).collect(),
+        Side::Successors => (0..count).rev().collect(),
+    };
+    let (mut seen, mut left) = (vec![false; count], Vec::new());
+    for start in starts {
+        if std::mem::replace(&mut seen[start], true) {
+            continue;
+        }
+        let mut open = vec![(start, neighbours(job, start, side).into_iter())];
+        while let Some((block, rest)) = open.last_mut() {
+            let block = *block;
+            match rest.find(|&near| !seen[near]) {
+                Some(near) => {
+                    seen[near] = true;
+                    open.push((near, neighbours(job, near, side).into_iter()));
+                }
+                None => {
+                    left.push(block);
+                    open.pop();
+                }
+            }
+        }
+    }
+    left
+}
+
+/// The sets of all blocks, as the events so far make them.
+struct Sets(Vec<BTreeSet<NodeId>>);
+
+impl Sets {
+    fn at_the_start(job: &Job, replay: &Replay) -> Self {
+        let assumed = |block: usize| replay.assumed(block).iter().copied().collect();
+        let sets = Self((0..job.blocks().len()).map(assumed).collect());
+        for (block, record) in job.blocks().iter().enumerate() {
+            let nodes = replay.assumed(block);
+            assert_eq!(nodes.len(), record.assumed().len());
+            let same = |(node, path): (&NodeId, &scope_deps::Path)| replay.path(*node).same_entries(path);
+            assert!(nodes.iter().zip(record.assumed()).all(same), "{job}");
+        }
+        sets
+    }
+
+    /// That the event can have happened to these sets; then what it makes of them.
+    fn take(&mut self, job: &Job, replay: &Replay, visit: &Visit) {
+        let mut in_common: Option<BTreeSet<NodeId>> = None;
+        for &near in &visit.joined {
+            let set = &self.0[near];
+            in_common = Some(in_common.map_or_else(|| set.clone(), |common| &common & set));
+        }
+        let new: Vec<NodeId> = (&in_common.unwrap_or_default() - &self.0[visit.block]).into_iter().collect();
+        assert_eq!(new, visit.came_in, "{job}");
+        let set = &mut self.0[visit.block];
+        set.extend(new);
+        for replaced in &visit.replaced {
+            let (from, to) = (replay.path(replaced.from), replay.path(replaced.to));
+            assert!(from.same_names(&to) && set.remove(&replaced.from), "{job}");
+            let marks = from.entries().iter().zip(to.entries()).enumerate();
+            let made_plain = marks.filter(|(_, (from, to))| {
+                assert!(from.optional || !to.optional);
+                from.optional && !to.optional
+            });
+            let bases: Vec<_> = made_plain.map(|(level, _)| to.prefix(level)).collect();
+            assert!(!bases.is_empty() && bases.len() == replaced.bases.len());
+            for (base, &node) in bases.iter().zip(&replaced.bases) {
+                assert!(replay.path(node).same_entries(base), "{job}");
+                assert!(set.contains(&node) || node == replaced.from, "{job}");
+            }
+            set.insert(replaced.to);
+        }
+    }
+}
+
+/// That the visits are whole walks, in the order in which a depth-first walk leaves the blocks.
+fn check_walks(job: &Job, replay: &Replay) {
+    let count = job.blocks().len();
+    let sides = [Side::Predecessors, Side::Successors];
+    let orders: HashMap<Side, Vec<usize>> = sides.map(|side| (side, left_in_order(job, side))).into();
+    assert_eq!(replay.visits().len(), 2 * count * usize::from(replay.rounds()));
+    for (number, walk) in replay.visits().chunks(count).enumerate() {
+        let (round, side) = (1 + number / 2, sides[number % 2]);
+        let left: Vec<usize> = walk.iter().map(|visit| visit.block).collect();
+        assert_eq!(left, orders[&side], "{job}");
+        for (at, visit) in walk.iter().enumerate() {
+            assert_eq!((usize::from(visit.round), visit.side), (round, side));
+            let done = |near: &usize| left[..at].contains(near);
+            let (joined, passed_over): (Vec<usize>, Vec<usize>) =
+                neighbours(job, visit.block, side).into_iter().partition(done);
+            assert_eq!((&joined, &passed_over), (&visit.joined, &visit.passed_over), "{job}");
+        }
+    }
+}
+
+/// That the sets that the events make are the library's.
+fn check_sets(job: &Job, replay: &Replay, sheet: &Sheet) {
+    let mut sets = Sets::at_the_start(job, replay);
+    replay.visits().iter().for_each(|visit| sets.take(job, replay, visit));
+    for (set, (_, held)) in sets.0.iter().zip(sheet.sets()) {
+        assert!(set.iter().copied().eq(held.iter()), "{job}");
+    }
+}
+
+#[test]
+fn the_trace_is_a_run_of_the_walks_and_its_events_make_the_sheet() {
+    let (mut came_in, mut replaced, mut passed_over) = (0, 0, 0);
+    for job in jobs(12, 3_000) {
+        let Ok(replay) = Replay::new(&job) else { continue };
+        check_walks(&job, &replay);
+        check_sets(&job, &replay, &sheet(&job).unwrap());
+        came_in += replay.visits().iter().map(|visit| visit.came_in.len()).sum::<usize>();
+        replaced += replay.visits().iter().map(|visit| visit.replaced.len()).sum::<usize>();
+        passed_over += replay.visits().iter().map(|visit| visit.passed_over.len()).sum::<usize>();
+    }
+    assert!(
+        came_in > 10_000 && replaced > 1_000 && passed_over > 10_000,
+        "{came_in} {replaced} {passed_over}"
+    );
+}
+
+#[test]
+fn a_sheet_with_one_thing_changed_is_not_agreed_with() {
+    let job: Job = "scope 1 block 0 assumes 1, 1?.10@4 block 1 after 0".parse().unwrap();
+    let replay = Replay::new(&job).unwrap();
+    let bytes = raw::sheet(&job.to_bytes()).unwrap();
+    assert!(replay.agrees_with(&job, &Sheet::from_bytes(&bytes).unwrap()));
+    let mut changed = 0;
+    for (place, bit) in (0..bytes.len()).flat_map(|place| (0..8).map(move |bit| (place, bit))) {
+        let mut other = bytes.clone();
+        other[place] ^= 1 << bit;
+        // Some bits make it no sheet at all, or one of a root's bytes that stand for nothing.
+        let Ok(other) = Sheet::from_bytes(&other) else { continue };
+        if other != Sheet::from_bytes(&bytes).unwrap() {
+            assert!(!replay.agrees_with(&job, &other), "bit {bit} of byte {place}");
+            changed += 1;
+        }
+    }
+    assert!(changed > 100, "{changed}");
+}
+
+#[test]
+fn a_block_that_is_being_visited_is_passed_over() {
+    let text =
+        "scope 2 block 2 block 0 after 3, 1, 2 block 3 after 0, 1 block 1 after 0 assumes 2 candidate 2.10";
+    let job: Job = text.parse().unwrap();
+    let replay = Replay::new(&job).unwrap();
+    let place = |id| job.place_of(scope_deps::BlockId(id)).unwrap();
+    let of_0 = |visit: &&Visit| visit.block == place(0) && visit.side == Side::Predecessors;
+    let visit = replay.visits().iter().find(of_0).unwrap();
+    assert_eq!(visit.joined, [place(3), place(1), place(2)]);
+    let of_3 = |visit: &&Visit| visit.block == place(3) && visit.side == Side::Predecessors;
+    assert_eq!(replay.visits().iter().find(of_3).unwrap().passed_over, [place(0)]);
+    let of_0 = |visit: &&Visit| visit.block == place(0) && visit.side == Side::Successors;
+    let visit = replay.visits().iter().find(of_0).unwrap();
+    assert_eq!((&visit.joined[..], &visit.passed_over[..]), (&[place(3)][..], &[place(1)][..]));
+}

@@ -1,0 +1,227 @@
+//! A small repository with the real scripts, in which the toolchain and cargo only pretend.
+
+use std::collections::BTreeMap;
+use std::fs::{self, Permissions};
+use std::os::unix::fs::{PermissionsExt, symlink};
+use std::path::{Path, PathBuf};
+use std::process::{Command, Stdio};
+use std::time::SystemTime;
+
+/// The commands that the scripts may use beside the toolchain and cargo.
+const TOOLS: [&str; 26] = [
+    "awk",
+    "bash",
+    "cat",
+    "chmod",
+    "cmp",
+    "cut",
+    "dirname",
+    "env",
+    "find",
+    "flock",
+    "grep",
+    "ln",
+    "mkdir",
+    "od",
+    "readlink",
+    "realpath",
+    "rm",
+    "sed",
+    "sha256sum",
+    "sort",
+    "tee",
+    "touch",
+    "tr",
+    "wc",
+    "xargs",
+    "mktemp",
+];
+
+const SCRIPTS: [&str; 7] = [
+    "bin/library",
+    "bin/programs",
+    "bin/proved.sh",
+    "bin/build-and-run.sh",
+    "bin/scope-deps",
+    "compare/oracle",
+    "demo",
+];
+
+const FILES: [(&str, &str); 13] = [
+    ("crates.txt", "# a comment: none\nleaf:\nstage: leaf\nrun: stage io\nanswer: run\nsheet: run\nother:\n"),
+    ("crates/leaf/src/lib.rt", "leaf\n"),
+    ("crates/stage/src/lib.rt", "stage\n"),
+    ("crates/run/src/lib.rt", "run\n"),
+    ("crates/answer/src/main.rt", "answer\n"),
+    ("crates/sheet/src/main.rt", "sheet\n"),
+    ("crates/other/src/lib.rt", "other\n"),
+    ("bindings/rust/src/main.rs", "tool\n"),
+    ("bindings/rust/build.rs", "build\n"),
+    ("compare/src/main.rs", "harness\n"),
+    ("interface/scope_deps.rs", "interface\n"),
+    ("examples/a.job", "job\n"),
+    ("shared/docs/src/src/react_compiler_hir/mod.rs", "types\n"),
+];
+
+/// Proves each crate without the word `unproved`. FAKE_EDIT stands for an edit made meanwhile.
+const RT: &str = r#"#!/usr/bin/env bash
+[ "$1" != version ] || { echo "${FAKE_KIT:-kit 1}"; exit; }
+echo "rt $*" >>"$FAKE_CALLS"
+case $1 in staticlib) crates=leaf ;; check) crates='leaf stage run answer sheet' ;; esac
+mkdir -p target/staticlib target/bin
+for crate in $crates; do
+  if grep -q unproved "crates/$crate/src/"*; then echo "rt: $crate NOT PROVED (exit 1, 0 s)"; exit 1; fi
+  printf '%s\n' "fn $crate::f: proved" "rt: $crate proved (0 s)"
+done
+[ -z "${FAKE_EDIT:-}" ] || echo "$FAKE_EDIT" >>crates/leaf/src/lib.rt
+if [ "$1" = check ]; then
+  for program in answer sheet; do
+    printf '%s\n' '#!/usr/bin/env bash' 'cat >/dev/null' "printf '${FAKE_ANSWER:-RF\\003}'" >target/bin/$program
+    chmod +x target/bin/$program
+  done
+else
+  cat crates/leaf/src/lib.rt crates/stage/src/lib.rt >target/staticlib/libstage.a
+  echo 'rt: target/staticlib/libstage.a has the functions of stage'
+fi
+"#;
+
+/// Builds programs that say how they were built, and their words.
+const CARGO: &str = r#"#!/usr/bin/env bash
+echo "cargo $*" >>"$FAKE_CALLS"
+kind=whole
+while [ $# -gt 0 ]; do
+  case $1 in --target-dir) target=$2 ;; --bin) program=$2 ;; --no-default-features) kind=light ;; esac
+  shift
+done
+mkdir -p "$target/release"
+printf '%s\n' '#!/usr/bin/env bash' "echo $kind: \$*" >"$target/release/$program"
+chmod +x "$target/release/$program"
+"#;
+
+pub struct Fake {
+    folder: PathBuf,
+    pub root: PathBuf,
+    /// The directories in which commands are found.
+    path: Vec<PathBuf>,
+    environment: BTreeMap<&'static str, String>,
+}
+
+/// What a script wrote, and its exit status.
+#[derive(Debug)]
+pub struct Said {
+    pub out: String,
+    pub messages: String,
+    pub status: i32,
+}
+
+impl Fake {
+    /// A new repository, in a folder of this name.
+    pub fn new(name: &str) -> Self {
+        let folder = Path::new(env!("CARGO_TARGET_TMPDIR")).join("scripts").join(name);
+        let _ = fs::remove_dir_all(&folder);
+        let root = folder.join("a repository");
+        let path = ["rt", "cargo", "tools"].map(|part| folder.join(part)).to_vec();
+        let fake = Self { folder, root, path, environment: BTreeMap::new() };
+        for (file, text) in FILES {
+            fake.write(file, text);
+        }
+        fs::rename(fake.root.join("shared"), fake.folder.join("shared")).unwrap();
+        for script in SCRIPTS {
+            let real = Path::new(env!("CARGO_MANIFEST_DIR")).join("..").join(script);
+            fake.write_program(&fake.root.join(script), &fs::read_to_string(real).unwrap());
+        }
+        fake.write_program(&fake.path[0].join("rt"), RT);
+        fake.write_program(&fake.path[1].join("cargo"), CARGO);
+        fake.link_tools();
+        fake
+    }
+
+    fn link_tools(&self) {
+        fs::create_dir_all(&self.path[2]).unwrap();
+        let path = std::env::var_os("PATH").unwrap();
+        for tool in TOOLS {
+            let real = std::env::split_paths(&path).map(|place| place.join(tool)).find(|file| file.is_file());
+            symlink(real.unwrap_or_else(|| panic!("{tool} was not found")), self.path[2].join(tool)).unwrap();
+        }
+    }
+
+    pub fn write(&self, file: &str, text: &str) {
+        let file = self.root.join(file);
+        fs::create_dir_all(file.parent().unwrap()).unwrap();
+        fs::write(file, text).unwrap();
+    }
+
+    fn write_program(&self, file: &Path, text: &str) {
+        fs::create_dir_all(file.parent().unwrap()).unwrap();
+        fs::write(file, text).unwrap();
+        fs::set_permissions(file, Permissions::from_mode(0o755)).unwrap();
+    }
+
+    pub fn read(&self, file: &str) -> String {
+        fs::read_to_string(self.root.join(file)).unwrap()
+    }
+
+    pub fn has(&self, file: &str) -> bool {
+        self.root.join(file).exists()
+    }
+
+    /// From now on this command, `rt` or `cargo`, is not found.
+    pub fn without(&mut self, command: &str) {
+        self.path.retain(|place| !place.ends_with(command));
+    }
+
+    pub fn set(&mut self, variable: &'static str, value: impl Into<String>) {
+        self.environment.insert(variable, value.into());
+    }
+
+    pub fn unset(&mut self, variable: &'static str) {
+        self.environment.remove(variable);
+    }
+
+    /// Runs a script of the repository, by way of a link in another folder.
+    pub fn run(&self, script: &str, words: &[&str]) -> Said {
+        let link = self.folder.join("link");
+        let _ = fs::remove_file(&link);
+        symlink(self.root.join(script), &link).unwrap();
+        let output = Command::new(&link)
+            .args(words)
+            .current_dir(&self.folder)
+            .stdin(Stdio::null())
+            .env_clear()
+            .env("PATH", std::env::join_paths(&self.path).unwrap())
+            .env("FAKE_CALLS", self.folder.join("calls"))
+            .envs(&self.environment)
+            .output()
+            .unwrap();
+        let text = |bytes| String::from_utf8(bytes).unwrap();
+        Said {
+            out: text(output.stdout),
+            messages: text(output.stderr),
+            status: output.status.code().unwrap(),
+        }
+    }
+
+    /// The calls of toolchain and cargo since the last time, each by its first two words. That of
+    /// `rt version` is not counted.
+    pub fn calls(&self) -> Vec<String> {
+        let calls = self.folder.join("calls");
+        let text = fs::read_to_string(&calls).unwrap_or_default();
+        let _ = fs::remove_file(calls);
+        text.lines().map(|call| call.split(' ').take(2).collect::<Vec<_>>().join(" ")).collect()
+    }
+
+    /// All files below the repository, with the time of their last change.
+    pub fn files(&self) -> BTreeMap<PathBuf, SystemTime> {
+        let mut files = BTreeMap::new();
+        let mut folders = vec![self.root.clone()];
+        while let Some(folder) = folders.pop() {
+            for entry in fs::read_dir(&folder).unwrap() {
+                let file = entry.unwrap().path();
+                let data = fs::symlink_metadata(&file).unwrap();
+                folders.extend(data.is_dir().then(|| file.clone()));
+                files.insert(file, data.modified().unwrap());
+            }
+        }
+        files
+    }
+}

@@ -1,0 +1,61 @@
+-- What was read once can be read again: a block's head and its predecessors, and ids one after the
+-- other.
+use Prim.Native.Nat.{ℕ, _<_, _+_, _-_}
+use mathlib.Core.Path.{_≡_, sym, ap, _∙_}
+use mathlib.Core.List.{List}
+use native.Mathlib.Omega.{arith}
+use lib.ListN.{length, length-map}
+use Rattle.entries.specs.declared.BlockId.{BlockId}
+use Rattle.entries.specs.declared.Refusal.{Refusal}
+use Rattle.model.specs.Read.{Read, got, refused, readMany, readNumber}
+use Rattle.model.specs.Job.{PA, readBlockId, readPath, readBlock}
+use Rattle.job.specs.Passing.{IsRead, notes, noteValue}
+use Rattle.job.specs.Head.{readBlockHead}
+use Rattle.job.specs.Ids.{blockId, blockIds}
+use Rattle.job.specs.declared.BlockHead.{BlockHead}
+use Rattle.job.proofs.Bounds.{held}
+use Rattle.job.proofs.Passing.{not-both, mapped-got, then-got, both-got}
+use Rattle.job.proofs.Heads.{blockOf, block-by-head}
+use Rattle.job.proofs.Many.{many-first, many-length}
+use Rattle.job.proofs.Noted.{numbers-noted}
+
+-- the head of a block that was read is no refusal
+pub head-again : {B : Type 0} (s : List ℕ) (at : ℕ) {r : Refusal} → IsRead (readBlock 4 s at) → readBlockHead s at ≡ refused r → B
+head-again s at b e = not-both (then-got (readBlockHead s at) _ (sym (block-by-head s at) ∙ b .read) .2) e
+
+-- and its predecessors were read
+pub ids-again : (s : List ℕ) (at : ℕ) {head : BlockHead} {idsAt : ℕ} → IsRead (readBlock 4 s at) → readBlockHead s at ≡ got head idsAt
+    → IsRead (readMany (head .predecessors) readBlockId s idsAt)
+ids-again s at {head} {idsAt} b e =
+    let parts = rw e at (sym (block-by-head s at) ∙ b .read) in
+    let t = both-got (blockOf head) (readMany (head .predecessors) readBlockId s idsAt) (readMany (head .assumed) (readPath 4 PA) s) parts in
+    record { value = t .0; next = t .1; read = t .3 }
+
+same-place : {A : Type 0} {a b : A} {n m : ℕ} → got a n ≡ got b m → n ≡ m
+same-place e = cc
+
+-- ids that were read, from the i-th of n on
+module _ (s : List ℕ) (n i at : ℕ) (more : i < n) (ids : IsRead (readMany (n - i) readBlockId s at)) where
+  first : (x : ℕ) × (next : ℕ) × (readNumber 4 s at ≡ got x next) × IsRead (readMany (n - i - 1) readBlockId s next)
+  first =
+      let t = many-first readBlockId s (n - i) at (omega arith) (ids .read) in
+      let m = mapped-got blockId (readNumber 4 s at) (t .3) in
+      (m .0, t .1, m .1, record { value = t .2; next = ids .next; read = t .4 })
+
+  -- the first is no refusal, and the others follow it
+  pub id-again : {B : Type 0} {r : Refusal} → readNumber 4 s at ≡ refused r → B
+  id-again e = not-both (first .2) e
+
+  pub others-again : {x next : ℕ} → readNumber 4 s at ≡ got x next → IsRead (readMany (n - (i + 1)) readBlockId s next)
+  others-again e =
+      let z : n - i - 1 ≡ n - (i + 1) = omega arith in
+      let p : first .1 ≡ _ = same-place (sym (first .2) ∙ e) in
+      rw (← z, ← p) (first .3)
+
+-- as many numbers are noted as ids were read
+pub count-again : (s : List ℕ) (n at : ℕ) → IsRead (readMany n readBlockId s at) → length (notes noteValue n (readNumber 4) s at) ≡ n
+count-again s n at ids =
+    let numbers = notes noteValue n (readNumber 4) s at in
+    sym (length-map numbers blockId)
+    ∙ ap length (held (λ all. blockIds numbers ≡ all) (ids .read) (numbers-noted s n at))
+    ∙ many-length readBlockId s n at (ids .read)

@@ -1,0 +1,68 @@
+-- Examples of reading a path and of prefixes, in the notation of `Examples`, proved by computation.
+use Prim.Native.Nat.{ℕ}
+use mathlib.Core.Path.{_≡_, refl}
+use mathlib.Core.Bool.{Bool, true, false, cond}
+use mathlib.Core.List.{List, [], _∷_}
+use lib.Dec.{eqb}
+use Rattle.entries.specs.declared.PropertyLiteral.the-variants.{Number}
+use Rattle.entries.specs.declared.DependencyPathEntry.{DependencyPathEntry}
+use Rattle.entries.specs.Path.{ReactiveScopeDependency, prefixOf}
+use Rattle.entries.specs.Property.{valueOf}
+use Rattle.model.specs.Reading.{Value, null, undefined, value, Store, Outcome, throws, readsTo, read}
+use Rattle.model.specs.Examples.{plain, optional, known, knownOptional, pathOf, candidate}
+
+-- Reading a path.
+
+-- null for the first number, undefined for the second, a value for any other
+abbrev valueFor : ℕ → ℕ → ℕ → Value ℕ
+valueFor forNull forUndefined n = cond (eqb n forNull) null (cond (eqb n forUndefined) undefined (value n))
+
+-- Identifier 1 is null and 2 undefined; of each value, property 10 is null and 11 undefined.
+abbrev store : Store ℕ
+store = record { ofIdentifier = λ i. valueFor 1 2 (i .0); ofProperty = λ x p. valueFor 10 11 (valueOf p) }
+
+-- a path of an identifier, read in this store
+abbrev reading : ℕ → List DependencyPathEntry → Outcome ℕ
+reading i es = read store (pathOf i false 0 es)
+
+-- 1.12 and 2.12: "a plain entry throws" at null and at undefined.
+pub plain-at-nullish : (reading 1 (plain 12 ∷ []) ≡ throws) × (reading 2 (plain 12 ∷ []) ≡ throws)
+plain-at-nullish = (refl, refl)
+
+-- 1?.12 and 2?.12: "an optional one ends the whole chain with undefined", at null too.
+pub optional-at-nullish : (reading 1 (optional 12 ∷ []) ≡ readsTo undefined) × (reading 2 (optional 12 ∷ []) ≡ readsTo undefined)
+optional-at-nullish = (refl, refl)
+
+-- 3.10?.12.13 ends in the middle, and .13 is not read; 3?.10.12 throws there, since `?.` looks at
+-- its own base alone.
+pub middle-of-a-chain :
+    (reading 3 (plain 10 ∷ optional 12 ∷ plain 13 ∷ []) ≡ readsTo undefined) × (reading 3 (optional 10 ∷ plain 12 ∷ []) ≡ throws)
+middle-of-a-chain = (refl, refl)
+
+-- 3.10, 3.11 and 3.12 read "to the value reached last": null, undefined, and a value.
+pub null-is-not-undefined :
+    (reading 3 (plain 10 ∷ []) ≡ readsTo null) × (reading 3 (plain 11 ∷ []) ≡ readsTo undefined)
+    × (reading 3 (plain 12 ∷ []) ≡ readsTo (value 12))
+null-is-not-undefined = (refl, refl, refl)
+
+-- Prefixes of the candidate 1.10?.11.
+
+abbrev isPrefix : ℕ → List DependencyPathEntry → Bool
+isPrefix i es = prefixOf (pathOf i false 0 es) (candidate (plain 10 ∷ optional 11 ∷ []))
+
+-- 1 and 1.10?.11: "the empty and the whole list are prefixes too".
+pub empty-and-whole : (isPrefix 1 [] ≡ true) × (isPrefix 1 (plain 10 ∷ optional 11 ∷ []) ≡ true)
+empty-and-whole = (refl, refl)
+
+-- 1?.10.11, with other spans: "optional marks and spans don't count".
+pub marks-do-not-count : isPrefix 1 (knownOptional 10 ∷ known 11 ∷ []) ≡ true
+marks-do-not-count = refl
+
+-- 1.10?.11.12 and 1.11: "no more entries than the other", and equal "at each of its places".
+pub longer-or-other : (isPrefix 1 (plain 10 ∷ optional 11 ∷ plain 12 ∷ []) ≡ false) × (isPrefix 1 (plain 11 ∷ []) ≡ false)
+longer-or-other = (refl, refl)
+
+-- 2.10, of another identifier, and 1[10], a number whose value is that of the name.
+pub identifier-and-kind-count :
+    (isPrefix 2 (plain 10 ∷ []) ≡ false) × (isPrefix 1 (record { property = Number 10; optional = false; span = 0 } ∷ []) ≡ false)
+identifier-and-kind-count = (refl, refl)

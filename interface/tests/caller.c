@@ -1,0 +1,58 @@
+/* A caller in C: an answer, a sheet and two refusals, held to the bytes of document 01. */
+#include "../scope_deps.h"
+
+#include <stdio.h>
+#include <string.h>
+
+/* One block, 7, which assumes the path 1; the candidate 1.10. */
+static const uint8_t job[] = {
+    'H', 'D', 1, 0, 1, 0, 7, 0, 0, 0,
+    'B', 'L', 7, 0, 0, 0, 0, 1,
+    'P', 'A', 1, 0, 0, 0, 1, 0, 0, 0, 0, 0,
+    'C', 'A', 1, 0, 0, 0, 1, 5, 0, 0, 0, 1, 0, 0, 10, 0, 0, 0, 0, 0, 0, 0, 6, 0, 0, 0,
+};
+
+static const uint8_t answer[] = {
+    'A', 'N', 1, 0, 1, 1,
+    'D', 'E', 1, 0, 0, 0, 1, 6, 0, 0, 0, 1, 0, 0, 10, 0, 0, 0, 0, 0, 0, 0, 6, 0, 0, 0,
+};
+
+/* A head of 8 bytes, a node of 23, and a set of 70 bytes in which node 0 is. */
+enum { SHEET_BYTES = 8 + 23 + 70, SHEET_SET = 8 + 23 + 6 };
+
+static uint8_t out[SCOPE_DEPS_OUT_BYTES];
+
+static int failures;
+
+static void expect(int holds, const char *what) {
+  if (!holds) {
+    fprintf(stderr, "caller.c: not so: %s\n", what);
+    failures += 1;
+  }
+}
+
+/* Whether all bytes of `out` from this one on are as they were. */
+static int untouched_from(size_t start) {
+  for (size_t i = start; i < sizeof out; i++) {
+    if (out[i] != 0xA5) {
+      return 0;
+    }
+  }
+  return 1;
+}
+
+int main(void) {
+  memset(out, 0xA5, sizeof out);
+  expect(scope_deps_answer(job, sizeof job, out, sizeof out - 1) == -SCOPE_DEPS_SHORT_BUFFER, "a short buffer is refused");
+  expect(scope_deps_sheet(job, sizeof job - 1, out, sizeof out) == -SCOPE_DEPS_MISSING_BYTE, "a cut job is refused");
+  expect(untouched_from(0), "a refusal leaves the buffer as it was");
+
+  expect(scope_deps_answer(job, sizeof job, out, sizeof out) == (int64_t)sizeof answer, "the answer has its length");
+  expect(memcmp(out, answer, sizeof answer) == 0, "the answer is document 01's");
+  expect(untouched_from(sizeof answer), "bytes beyond the answer are as they were");
+
+  expect(scope_deps_sheet(job, sizeof job, out, sizeof out) == SHEET_BYTES, "the sheet has its length");
+  expect(memcmp(out, "SH", 2) == 0 && out[SHEET_SET] == 1, "the block's set has the path");
+  expect(untouched_from(SHEET_BYTES), "bytes beyond the sheet are as they were");
+  return failures == 0 ? 0 : 1;
+}

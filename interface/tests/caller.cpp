@@ -1,0 +1,66 @@
+// A caller in C++: an answer of the library, and the refusals that a small job can get.
+#include "../scope_deps.h"
+
+#include <cstdio>
+#include <string>
+#include <vector>
+
+namespace {
+
+// What the library made of a job: the bytes written, or the number of the refusal.
+struct Outcome {
+  std::vector<std::uint8_t> bytes;
+  int refusal = 0;
+};
+
+Outcome answer(const std::vector<std::uint8_t> &job) {
+  // The library takes no null, and a vector without bytes may have no other pointer.
+  static const std::uint8_t no_byte = 0;
+  const std::uint8_t *start = job.empty() ? &no_byte : job.data();
+  std::vector<std::uint8_t> out(SCOPE_DEPS_OUT_BYTES);
+  const std::int64_t returned = scope_deps_answer(start, job.size(), out.data(), out.size());
+  if (returned < 0) {
+    return {{}, static_cast<int>(-returned)};
+  }
+  out.resize(static_cast<std::size_t>(returned));
+  return {out, 0};
+}
+
+int failures = 0;
+
+void expect(bool holds, const std::string &what) {
+  if (!holds) {
+    std::fprintf(stderr, "caller.cpp: not so: %s\n", what.c_str());
+    failures += 1;
+  }
+}
+
+void expect_refusal(const std::vector<std::uint8_t> &job, scope_deps_refusal refusal, const std::string &what) {
+  const Outcome outcome = answer(job);
+  expect(outcome.bytes.empty() && outcome.refusal == refusal, what);
+}
+
+}  // namespace
+
+int main() {
+  // One block, 0, without predecessors and paths; no candidate.
+  const std::vector<std::uint8_t> job = {'H', 'D', 1, 0, 0, 0, 0, 0, 0, 0, 'B', 'L', 0, 0, 0, 0, 0, 0};
+  const std::vector<std::uint8_t> due = {'A', 'N', 0, 0, 1, 1};
+  const Outcome outcome = answer(job);
+  expect(outcome.refusal == 0 && outcome.bytes == due, "a job without candidates has an empty answer");
+
+  const auto changed = [&job](std::size_t place, std::uint8_t byte) {
+    std::vector<std::uint8_t> other = job;
+    other.at(place) = byte;
+    return other;
+  };
+  expect_refusal(std::vector<std::uint8_t>(SCOPE_DEPS_JOB_BYTES + 1), SCOPE_DEPS_LONG_JOB, "a long job is refused");
+  expect_refusal({}, SCOPE_DEPS_MISSING_BYTE, "no bytes are refused");
+  expect_refusal(changed(0, 'X'), SCOPE_DEPS_WRONG_MARK, "a wrong mark is refused");
+  expect_refusal(changed(2, 0), SCOPE_DEPS_OUT_OF_RANGE, "a job without blocks is refused");
+  expect_refusal(changed(6, 1), SCOPE_DEPS_UNKNOWN_BLOCK, "an unknown scope block is refused");
+  std::vector<std::uint8_t> longer = job;
+  longer.push_back(0);
+  expect_refusal(longer, SCOPE_DEPS_EXTRA_BYTE, "a byte after the job is refused");
+  return failures == 0 ? 0 : 1;
+}
