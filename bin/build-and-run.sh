@@ -6,9 +6,10 @@
 # and one for the program itself. Where they agree cargo is not asked: a tree that is built needs no
 # cargo, and nothing is written to it.
 
-# A digest of all files in these, named from the current directory; absent ones are left out.
+# A digest of all files in these, named from the current directory, but for what cargo built there.
+# Absent ones are left out.
 digest_of() { # FILE..
-  find -H "$@" -type f -print0 2>/dev/null | LC_ALL=C sort -z | xargs -0 -r sha256sum | sha256sum | cut -d' ' -f1
+  find -H "$@" -name target -prune -o -type f -print0 2>/dev/null | LC_ALL=C sort -z | xargs -0 -r sha256sum | sha256sum | cut -d' ' -f1
 }
 
 # The same of one file, wherever it is.

@@ -68,9 +68,10 @@ recorded() {
 # it counts as the right one.
 why_stale() {
   local file tool
-  for file in $made $record; do
+  for file in $made; do
     [ -r "$place/target/$file" ] || { echo "is missing"; return; }
   done
+  [ -r "$place/target/$record" ] || { echo "has no record of what it was made from"; return; }
   tool=$(toolchain)
   if [ "$(recorded sources)" != "$(sources_digest)" ]; then
     echo "was made from other sources"

@@ -42,6 +42,7 @@ mod library {
         }
         println!("cargo::rerun-if-changed=../../crates");
         println!("cargo::rerun-if-changed=../../crates.txt");
+        warn(folder);
         let run = Command::new("bash").args([SCRIPT, "--into"]).arg(folder).stderr(terminal()).output();
         let output = run.unwrap_or_else(|why| {
             fail(&format!("{SCRIPT} cannot be run ({why}); {VARIABLE} may name a library that is ready"))
@@ -51,6 +52,17 @@ mod library {
             fail(&format!("{SCRIPT} failed; {VARIABLE} may name a library that is ready"));
         }
         PathBuf::from(String::from_utf8_lossy(&output.stdout).trim())
+    }
+
+    /// Warns where the library has to be proved. What is made in the meantime is newer than this
+    /// script's start, so cargo runs it again at the next build, and then there is nothing to say.
+    fn warn(folder: &Path) {
+        let checked = Command::new("bash").args([SCRIPT, "--check", "--into"]).arg(folder).output();
+        if let Some(output) = checked.ok().filter(|output| !output.status.success()) {
+            String::from_utf8_lossy(&output.stderr)
+                .lines()
+                .for_each(|line| println!("cargo::warning={line}"));
+        }
     }
 
     /// The terminal, or a pipe where there is none. Cargo shows what a build script says when the

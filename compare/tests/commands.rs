@@ -2,6 +2,7 @@
 
 mod common;
 
+use std::collections::BTreeSet;
 use std::fs::{self, Permissions};
 use std::io::Write;
 use std::os::unix::fs::PermissionsExt;
@@ -59,17 +60,30 @@ fn written(words: &[&str]) -> Vec<u8> {
     output.stdout
 }
 
+fn text(words: &[&str]) -> String {
+    String::from_utf8(written(words)).unwrap()
+}
+
+/// The commands that the help lists.
+fn listed_commands(help: &str) -> Vec<&str> {
+    let lines = help.lines().filter_map(|line| line.strip_prefix("  ")?.split_once("  "));
+    lines.map(|(name, _)| name).collect()
+}
+
+#[test]
+fn the_readme_has_each_command() {
+    let readme = fs::read_to_string(PathBuf::from(env!("CARGO_MANIFEST_DIR")).join("README.md")).unwrap();
+    let rows = readme.lines().filter_map(|line| line.strip_prefix("| `compare/oracle "));
+    let named: BTreeSet<&str> = rows.filter_map(|row| row.split([' ', '`']).next()).collect();
+    assert_eq!(named, BTreeSet::from_iter(listed_commands(&text(&["help"]))));
+}
+
 #[test]
 fn help_is_there_for_every_command() {
-    let text = |words: &[&str]| String::from_utf8(written(words)).unwrap();
     let all = text(&["--help"]);
     assert_eq!(all, text(&["help"]));
     assert_eq!(all, text(&["-h"]));
-    let commands: Vec<&str> = all
-        .lines()
-        .filter_map(|line| line.strip_prefix("  ")?.split_once("  "))
-        .map(|(name, _)| name)
-        .collect();
+    let commands = listed_commands(&all);
     assert_eq!(
         commands,
         ["answer", "sheet", "check", "compare", "programs", "memory", "bench", "generate", "store", "help"]

@@ -1,4 +1,4 @@
-/* A caller in C: an answer, a sheet and two refusals of the library, held to the bytes of document 01. */
+/* A caller in C: an answer, a sheet and two refusals, held to the bytes of document 01. */
 #include "../scope_deps.h"
 
 #include <stdio.h>

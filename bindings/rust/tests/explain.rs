@@ -231,6 +231,8 @@ fn a_path_that_changed_its_form_on_the_way() {
     block 1 took 1.10 over from block 0, the only block that control comes from
     block 2 took 1.10 over from block 1, the only block that control comes from\n";
     assert!(said.ends_with(way), "{said}");
+    let said = short("scope 7 block 7 assumes 1, 1?.10 candidate 1.10.11");
+    assert!(said.contains("1.10 is known to be there in block 7; block 7 assumes 1?.10\n"), "{said}");
     let said = short("scope 2 block 0 assumes 1, 1?.10 block 1 after 0 block 2 after 1 candidate 1.10.11");
     assert!(
         said.contains("1.10 is known to be there in block 2; it comes from block 0, which assumes 1?.10\n"),

@@ -120,7 +120,7 @@ fn sources_changed_meanwhile_are_no_sources_of_the_library() {
     fake.set("FAKE_EDIT", "edited meanwhile");
     failing(fake.run("bin/library", &[]), &["the sources were changed while they were proved"]);
     fake.unset("FAKE_EDIT");
-    saying(fake.run("bin/library", &[]), &["library is missing"]);
+    saying(fake.run("bin/library", &[]), &["library has no record of what it was made from"]);
 }
 
 #[test]
@@ -179,6 +179,8 @@ fn words_that_make_no_sense_are_told_and_help_is_there() {
         assert!(said.status == 2 && said.messages.contains("`--bogus` is no option"), "{said:?}");
         assert!(quiet(fake.run(script, &["--help"])).starts_with(&format!("usage: {script} ")));
     }
+    let said = fake.run("bin/library", &["--into"]);
+    assert!(said.status == 2 && said.messages.contains("a directory is missing after --into"), "{said:?}");
     assert!(fake.calls().is_empty());
 }
 

@@ -7,9 +7,8 @@ use mathlib.Core.List.{List, [], _∷_}
 use lib.ListN.{length, getD, set}
 use lib.Seq.{sets}
 use Rattle.entries.specs.declared.BlockId.{BlockId}
-use Rattle.entries.specs.declared.Refusal.{Refusal}
 use Rattle.model.specs.Tests.{by-cond, eqb-equal, eqb-apart}
-use Rattle.model.specs.Read.{got, refused, readNumber}
+use Rattle.model.specs.Read.{got, readNumber}
 use Rattle.model.specs.Job.{sameBlock}
 use Rattle.job.specs.Head.{readBlockHead}
 use Rattle.job.specs.declared.BlockHead.{BlockHead}
@@ -63,10 +62,6 @@ module _ (s : List ℕ) (ids : List ℕ) (blocks : ℕ) where
     unfolding placesNoted
     noted-more e = rw (again, e)
 
-    pub noted-stop : {r : Refusal} → readNumber 4 s at ≡ refused r → placesNoted s at (count - i) ids blocks ≡ []
-    unfolding placesNoted
-    noted-stop e = rw (again, e)
-
   pub noted-end : (count i at : ℕ) → count ≤ i → placesNoted s at (count - i) ids blocks ≡ []
   unfolding placesNoted
   noted-end count i at l = let none : count - i ≡ 0 = omega arith in rw none
@@ -94,10 +89,6 @@ module _ {whole : List ℕ} {from : ℕ} {before now′ left : List ℕ} {i : �
       }
 
 -- The row of the block whose record stands at a place.
-
-pub row-none : (s : List ℕ) (at : ℕ) (ids : List ℕ) (n : ℕ) {r : Refusal} → readBlockHead s at ≡ refused r → rowAt s at ids n ≡ []
-unfolding rowAt
-row-none s at ids n e = rw e
 
 pub row-noted : (s : List ℕ) (at : ℕ) (ids : List ℕ) (n : ℕ) {head : BlockHead} {idsAt : ℕ} → readBlockHead s at ≡ got head idsAt → rowAt s at ids n ≡ placesNoted s idsAt (head .predecessors) ids n
 unfolding rowAt

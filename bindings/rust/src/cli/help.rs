@@ -25,6 +25,7 @@ and `draw` take the job as text or in bytes, and see for themselves which it is.
   --all                of `explain`: write all that is known, step by step
   --focus              of `draw`: draw only the blocks that matter to the candidates
   -h, --help           this, or after a command help on it
+  -V, --version        the tool's version
   --                   end the options, so that FILE may start with `-`
 
 A first job: block 7 assumes that variable 1 is neither null nor undefined. What becomes of property 11

@@ -29,6 +29,8 @@ const FORMS: [(&str, Form); 3] = [("text", Form::Text), ("bytes", Form::Bytes), 
 pub enum Request {
     /// Help on this, or on all.
     Help(Option<String>),
+    /// The tool's name and version.
+    Version,
     Run(Run),
 }
 
@@ -70,6 +72,7 @@ impl Request {
         match words[..] {
             [] => Err(misused("a command is missing")),
             ["--help" | "-h" | "help"] => Ok(Self::Help(None)),
+            ["--version" | "-V"] => Ok(Self::Version),
             ["help", topic] => Ok(Self::Help(Some(topic.to_string()))),
             [command, ref rest @ ..] => match COMMANDS.iter().find(|(name, _)| *name == command) {
                 Some(_) if asks_for_help(rest) => Ok(Self::Help(Some(command.to_string()))),

@@ -57,3 +57,29 @@ impl Noting {
         self.there[block][usize::from(node.0)] = false;
     }
 }
+
+#[cfg(test)]
+mod tests {
+    use super::*;
+    use crate::job::Job;
+
+    /// In each round block 1 takes `1?.10` over from block 0, and makes it `1.10`.
+    #[test]
+    fn a_path_that_goes_and_comes_again_has_arrived_twice() {
+        let text = "scope 1 block 0 assumes 1?.10 block 1 after 0 assumes 1 block 2 after 0";
+        let job: Job = text.parse().unwrap();
+        let replay = Replay::new(&job).unwrap();
+        let (block, optional) = (1, replay.assumed(0)[0]);
+        let visits = replay.visits().iter().enumerate();
+        let came_in = visits.filter(|(_, visit)| visit.block == block && visit.came_in.contains(&optional));
+        let visits: Vec<usize> = came_in.map(|(number, _)| number).collect();
+        assert_eq!(visits.len(), 2);
+        let arrivals = Arrivals::new(&replay, job.blocks().len());
+        for visit in visits {
+            assert_eq!(arrivals.last_before(block, optional, Some((visit, 1))), Some((visit, 0)));
+        }
+        let plain = replay.held(block).last().unwrap();
+        assert_eq!(replay.path(plain).to_string(), "1.10");
+        assert_eq!(arrivals.last_before(block, plain, END), Some((1, 1)));
+    }
+}

@@ -31,7 +31,7 @@ impl<'a> Blocks<'a> {
     }
 
     pub(super) fn len(&self) -> usize {
-        self.job.blocks().len()
+        self.graph.len()
     }
 
     pub(super) fn id(&self, block: usize) -> BlockId {

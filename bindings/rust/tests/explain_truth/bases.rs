@@ -21,8 +21,10 @@ pub fn check_known(world: &World, base: &Path, said: &str, sections: &[Path]) ->
     assert!(world.holds(scope, &held) && shows(&held, base), "{said}");
     if let Some(found) = holes(" [{}]", rest) {
         assert!(sections[found[0].parse::<usize>().unwrap() - 1].same_names(&held), "{said}");
-    } else if rest == format!("; block {scope} assumes it") {
-        assert!(world.assumes(scope, &held), "{said}");
+    } else if let Some(found) = holes(&format!("; block {scope} assumes {{}}"), rest) {
+        let form = if found[0] == "it" { held.clone() } else { path(found[0]) };
+        assert!(world.assumes(scope, &form), "{said}");
+        assert_eq!(*world.sources(scope, &held), [(scope, show(&form))].into(), "{said}");
     } else {
         let found = holes("; it comes from {}", rest).unwrap_or_else(|| panic!("no source: {said}"));
         check_sources(world, scope, &held, found[0]);

@@ -9,6 +9,7 @@
 mod common;
 
 mod bases;
+mod events;
 mod parse;
 mod sources;
 mod steps;
@@ -57,6 +58,7 @@ fn check(job: &Job, kinds: &mut Kinds) -> Option<Explanation> {
             panic!("the explanation of\n{job}\nis\n{text}");
         }
     }
+    events::check_events(&world, &explanation);
     Some(explanation)
 }
 

@@ -3,7 +3,7 @@
 use super::show::{for_count, show_block, show_some_blocks};
 use super::Text;
 use crate::explain::bases::on_the_way;
-use crate::explain::{How, Known, LeftOut, Step};
+use crate::explain::{How, Known, LeftOut};
 use crate::ids::BlockId;
 use crate::path::Path;
 use crate::replay::Side;
@@ -30,8 +30,10 @@ pub(super) fn known(text: &Text, base: &Path, by: &Known) -> Vec<String> {
 /// From where the scope block has its path.
 fn origin(text: &Text, step: usize) -> String {
     let at = &text.explanation.steps[step];
-    match at.how {
-        How::Assumed => format!("{} assumes it", show_block(at.block)),
+    match &forms(text, step)[..] {
+        [(form, blocks)] if blocks[..] == [at.block] => {
+            format!("{} assumes {}", show_block(at.block), it(text, form, &at.path))
+        }
         _ => format!("it comes from {}", sources(text, step)),
     }
 }
@@ -39,28 +41,39 @@ fn origin(text: &Text, step: usize) -> String {
 /// The blocks that assume the path of a step, or a form of which it was made, on its way to the
 /// block of the step.
 pub(super) fn sources(text: &Text, step: usize) -> String {
-    let steps = &text.explanation.steps;
-    let path = &steps[step].path;
-    let way = on_the_way(steps, step).into_iter().map(|step| &steps[step]);
-    let forms = by_form(way.filter(|step| step.how == How::Assumed));
+    let path = &text.explanation.steps[step].path;
+    let forms = forms(text, step);
     let mut said: Vec<String> =
         forms.iter().take(FORMS).map(|(form, blocks)| source(text, form, blocks, path)).collect();
     if forms.len() > FORMS {
-        said.push("from others".to_string());
+        said.push("others".to_string());
     }
-    said.join(", and ").trim_start_matches("from ").to_string()
+    said.join(", and from ")
 }
 
 fn source(text: &Text, form: &Path, blocks: &[BlockId], path: &Path) -> String {
     let assume = for_count(blocks.len(), "assumes", "assume");
-    let it = if form.same_entries(path) { "it".to_string() } else { text.path(form) };
-    format!("from {}, which {assume} {it}", show_some_blocks(blocks))
+    format!("{}, which {assume} {}", show_some_blocks(blocks), it(text, form, path))
 }
 
-/// The forms in which a path is assumed, each with the blocks that assume it.
-fn by_form<'a>(steps: impl Iterator<Item = &'a Step>) -> Vec<(&'a Path, Vec<BlockId>)> {
+/// The form, where it is not that of the path spoken of.
+fn it(text: &Text, form: &Path, path: &Path) -> String {
+    if form.same_entries(path) {
+        "it".to_string()
+    } else {
+        text.path(form)
+    }
+}
+
+/// The forms in which the path of a step is assumed on its way, each with the blocks that assume
+/// it.
+fn forms<'a>(text: &'a Text, step: usize) -> Vec<(&'a Path, Vec<BlockId>)> {
+    let steps = &text.explanation.steps;
     let mut forms: Vec<(&Path, Vec<BlockId>)> = Vec::new();
-    for step in steps {
+    for step in on_the_way(steps, step).into_iter().map(|step| &steps[step]) {
+        if step.how != How::Assumed {
+            continue;
+        }
         match forms.iter_mut().find(|(form, _)| form.same_entries(&step.path)) {
             Some((_, blocks)) => blocks.push(step.block),
             None => forms.push((&step.path, vec![step.block])),
