@@ -50,6 +50,8 @@ pub struct Run {
     pub bytes: bool,
     /// Whether an explanation is written in full.
     pub all: bool,
+    /// Whether a picture has only the blocks that matter to the candidates.
+    pub focus: bool,
 }
 
 /// The words of the command line.
@@ -88,8 +90,16 @@ fn asks_for_help(words: &[&str]) -> bool {
 
 impl Run {
     fn read(command: Command, words: &[&str]) -> Result<Self, Failure> {
-        let mut run =
-            Self { command, input: None, output: None, from: None, names: None, bytes: false, all: false };
+        let mut run = Self {
+            command,
+            input: None,
+            output: None,
+            from: None,
+            names: None,
+            bytes: false,
+            all: false,
+            focus: false,
+        };
         let (mut files, mut options_end) = (Vec::new(), false);
         let mut words = words.iter().copied();
         while let Some(word) = words.next() {
@@ -120,6 +130,7 @@ impl Run {
             "--names" => self.names = Some(value()?.to_string()),
             "--bytes" if asks_to_show && given.is_none() => self.bytes = true,
             "--all" if self.command == Command::Explain && given.is_none() => self.all = true,
+            "--focus" if self.command == Command::Draw && given.is_none() => self.focus = true,
             _ => return Err(misused(format!("`{word}` is no option of this command"))),
         }
         Ok(())
