@@ -114,9 +114,13 @@ fn library() -> Result<PathBuf, String> {
     }
     let run = Command::new("bash").args([LIBRARY_SCRIPT, "--check"]).output();
     let output = run.map_err(|why| format!("{LIBRARY_SCRIPT} cannot be run: {why}"))?;
-    let said = if output.status.success() { output.stdout } else { output.stderr };
-    let said = String::from_utf8_lossy(&said).trim().replace('\n', " ");
-    if output.status.success() { Ok(PathBuf::from(said)) } else { Err(said) }
+    if output.status.success() {
+        return Ok(PathBuf::from(String::from_utf8_lossy(&output.stdout).trim()));
+    }
+    // One line, `library: WHY; HOW LONG`.
+    let said = String::from_utf8_lossy(&output.stderr);
+    let why = said.trim_start_matches("library: ").split([';', '\n']).next().unwrap_or_default();
+    Err(format!("{why}; `bin/library` makes it"))
 }
 
 /// The file, or where it is absent the nearest directory in which it would appear:

@@ -130,7 +130,7 @@ impl Job {
 
     /// The same job with these names in place of those that it has.
     #[must_use]
-    pub fn with_names(self, names: Names) -> Self {
+    pub fn named(self, names: Names) -> Self {
         Self { names, ..self }
     }
 

@@ -62,15 +62,18 @@ fn the_pictures_in_the_readme_are_those_that_are_drawn() {
 fn jobs_of(document: &str) -> Vec<String> {
     let lines: Vec<&str> = document.lines().collect();
     let parts = lines.split(|line| !line.starts_with("    ") && !line.is_empty());
-    let texts = parts.map(|part| part.join("\n"));
+    let is_job = |line: &&&str| !line.trim_start().starts_with('$');
+    let texts = parts.map(|part| part.iter().take_while(is_job).copied().collect::<Vec<_>>().join("\n"));
     let starts_job = |text: &str| text.starts_with("scope ") || text.starts_with("name ");
     texts.filter(|text| starts_job(text.trim_start())).collect()
 }
 
 #[test]
-fn the_jobs_in_the_document_on_the_notation_are_jobs() {
-    let jobs = jobs_of(&read(repository("docs/NOTATION.md")));
-    assert_eq!(jobs.len(), 2);
+fn the_jobs_in_the_documents_are_jobs() {
+    let notation = jobs_of(&read(repository("docs/NOTATION.md")));
+    let readme = jobs_of(&read(repository("README.md")));
+    assert_eq!((notation.len(), readme.len()), (2, 1));
+    let jobs = notation.into_iter().chain(readme);
     for text in jobs {
         let job: Job = text.parse().unwrap_or_else(|why| panic!("{why}\n{text}"));
         assert!(answer(&job).is_ok());

@@ -44,7 +44,7 @@ fn text_keeps_names_and_uses_them() {
     );
     let back = job(&shown);
     assert_eq!((&back, back.names()), (&job(NAMED), job(NAMED).names()));
-    assert_eq!(back.with_names(Names::new()).to_string(), job(NUMBERS).to_string());
+    assert_eq!(back.named(Names::new()).to_string(), job(NUMBERS).to_string());
 }
 
 #[test]

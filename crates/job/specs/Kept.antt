@@ -47,7 +47,7 @@ candidatesAt s =
     placeAfter
     (andThen (readHeader HD s 0) (λ (header : Header) blocksAt. readMany (header .blocks) (readBlock spanWidth) s blocksAt))
 
--- the place after a header that was looked for at a place; a refusal moves on to nowhere
+-- the place after a header that was looked for at a place; a refusal leaves it where it was
 abbrev pub afterHeader : ReadHeader → ℕ → ℕ
 afterHeader (header.Value h next) at = next
 afterHeader (header.Refused r) at = at

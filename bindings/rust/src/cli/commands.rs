@@ -8,9 +8,12 @@ use super::output;
 use super::stage;
 use scope_deps::Names;
 
+const VERSION: &str = concat!("scope-deps ", env!("CARGO_PKG_VERSION"), "\n");
+
 pub fn run(request: Request) -> Result<(), Failure> {
     match request {
         Request::Help(topic) => output::write(help::text(topic.as_deref())?.as_bytes(), None),
+        Request::Version => output::write(VERSION.as_bytes(), None),
         Request::Run(run) => {
             output::check_not_read(&run)?;
             let names = names(&run)?;

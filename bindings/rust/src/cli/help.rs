@@ -23,7 +23,9 @@ and `draw` take the job as text or in bytes, and see for themselves which it is.
   --names FILE         names of variables and properties, for a job that does not give them
   --bytes              of `answer` and `sheet`: write bytes, and not text
   --all                of `explain`: write all that is known, step by step
+  --focus              of `draw`: draw only the blocks that matter to the candidates
   -h, --help           this, or after a command help on it
+  -V, --version        the tool's version
   --                   end the options, so that FILE may start with `-`
 
 A first job: block 7 assumes that variable 1 is neither null nor undefined. What becomes of property 11
@@ -150,14 +152,21 @@ library says, nothing is explained, and the exit status is 1.
 ";
 
 const DRAW: &str = "\
-usage: scope-deps draw [-o FILE.svg] [--from FORM] [--names FILE] [FILE]
+usage: scope-deps draw [-o FILE.svg] [--focus] [--from FORM] [--names FILE] [FILE]
 
 Draws a job, with its sheet and its answer, as one SVG file that a browser shows: the blocks in layers
 from the first down, arrows for control, those that close a loop dashed; in each block the paths that
 it assumes and those that it holds in the end; beside the scope block each candidate with what is
-returned of it and where it is cut. What is too long for its box is there in full under the pointer.
+returned of it and where it is cut. A block that holds what its only predecessor holds says so.
+
+Under the pointer, a block's arrows are lit and the others dimmed; after a click they stay so. Paths for
+which a box has no more lines are there under the pointer. On a dark screen the picture is dark.
+
+With `--focus`, only the blocks are drawn that matter to the candidates: those that bring a known path
+to the scope block, and those that stop one. Where others are left out, it says how many.
 
   $ scope-deps draw -o job.svg job.txt
+  $ scope-deps draw --focus -o job.svg job.txt
 ";
 
 /// The help on a topic, or on all.

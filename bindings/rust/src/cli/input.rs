@@ -54,7 +54,7 @@ impl Input {
             Form::Bytes => self.job_of_bytes(&self.bytes),
             Form::Hex => self.job_of_bytes(&self.bytes_of_hex()?),
         };
-        Ok(job?.with_names(names.clone()))
+        Ok(job?.named(names.clone()))
     }
 
     /// The names.

@@ -29,6 +29,8 @@ const FORMS: [(&str, Form); 3] = [("text", Form::Text), ("bytes", Form::Bytes), 
 pub enum Request {
     /// Help on this, or on all.
     Help(Option<String>),
+    /// The tool's name and version.
+    Version,
     Run(Run),
 }
 
@@ -48,6 +50,8 @@ pub struct Run {
     pub bytes: bool,
     /// Whether an explanation is written in full.
     pub all: bool,
+    /// Whether a picture has only the blocks that matter to the candidates.
+    pub focus: bool,
 }
 
 /// The words of the command line.
@@ -68,6 +72,7 @@ impl Request {
         match words[..] {
             [] => Err(misused("a command is missing")),
             ["--help" | "-h" | "help"] => Ok(Self::Help(None)),
+            ["--version" | "-V"] => Ok(Self::Version),
             ["help", topic] => Ok(Self::Help(Some(topic.to_string()))),
             [command, ref rest @ ..] => match COMMANDS.iter().find(|(name, _)| *name == command) {
                 Some(_) if asks_for_help(rest) => Ok(Self::Help(Some(command.to_string()))),
@@ -85,8 +90,16 @@ fn asks_for_help(words: &[&str]) -> bool {
 
 impl Run {
     fn read(command: Command, words: &[&str]) -> Result<Self, Failure> {
-        let mut run =
-            Self { command, input: None, output: None, from: None, names: None, bytes: false, all: false };
+        let mut run = Self {
+            command,
+            input: None,
+            output: None,
+            from: None,
+            names: None,
+            bytes: false,
+            all: false,
+            focus: false,
+        };
         let (mut files, mut options_end) = (Vec::new(), false);
         let mut words = words.iter().copied();
         while let Some(word) = words.next() {
@@ -117,6 +130,7 @@ impl Run {
             "--names" => self.names = Some(value()?.to_string()),
             "--bytes" if asks_to_show && given.is_none() => self.bytes = true,
             "--all" if self.command == Command::Explain && given.is_none() => self.all = true,
+            "--focus" if self.command == Command::Draw && given.is_none() => self.focus = true,
             _ => return Err(misused(format!("`{word}` is no option of this command"))),
         }
         Ok(())

@@ -49,8 +49,10 @@ fn explained(_: &Run, _: &Job, _: &Sheet, _: &Answer) -> Result<String, Failure>
 }
 
 #[cfg(feature = "draw")]
-fn drawn(_: &Run, job: &Job, sheet: &Sheet, answer: &Answer) -> Result<String, Failure> {
-    scope_deps::draw::draw(job, sheet, answer).map_err(Failure::Mismatch)
+fn drawn(run: &Run, job: &Job, sheet: &Sheet, answer: &Answer) -> Result<String, Failure> {
+    use scope_deps::draw::{draw, draw_focused};
+    let draw = if run.focus { draw_focused } else { draw };
+    draw(job, sheet, answer).map_err(Failure::Mismatch)
 }
 
 #[cfg(not(feature = "draw"))]

@@ -1,14 +1,20 @@
-//! The blocks in layers, so that every arrow but those that close a loop goes down.
+//! Blocks and gaps in layers, so that every arrow but those that close a loop goes down.
 
 use crate::graph::Graph;
 use std::collections::{BTreeSet, HashMap};
 
-/// The most bends of all arrows together. Where there would be more, the longest arrows go straight.
+/// The most bends of all arrows together. Where there would be more, the longest arrows go
+/// straight.
 const MOST_BENDS: usize = 6_000;
+
+/// The space between two blocks of a layer, and between two bends.
+const BETWEEN_BLOCKS: f64 = 30.0;
+const BETWEEN_BENDS: f64 = 12.0;
 
 /// An arrow of control. It goes down from its upper end, or closes a loop and goes up.
 pub(super) struct Arrow {
-    /// The points by which it passes: a block, a bend for each layer between, and a block; from the top down.
+    /// The points by which it passes: a block, a bend for each layer between, and a block; from the
+    /// top down.
     pub(super) points: Vec<usize>,
     /// Whether it closes a loop, and points to its upper end.
     pub(super) closes_loop: bool,
@@ -16,7 +22,8 @@ pub(super) struct Arrow {
     pub(super) straight: bool,
 }
 
-/// Points in layers. A point is a block, by its place in the job, or a bend, by a number after those.
+/// Points in layers. A point is a block, by its place in the job, or a bend, by a number after
+/// those.
 pub(super) struct Layers {
     pub(super) layers: Vec<Vec<usize>>,
     pub(super) arrows: Vec<Arrow>,
@@ -47,13 +54,31 @@ impl Layers {
         point >= self.blocks
     }
 
+    /// The space between two neighbours in a layer.
+    pub(super) fn between(&self, one: usize, other: usize) -> f64 {
+        if self.is_bend(one) && self.is_bend(other) {
+            BETWEEN_BENDS
+        } else {
+            BETWEEN_BLOCKS
+        }
+    }
+
+    /// The layer of each point, and its place there.
+    pub(super) fn places(&self) -> Vec<(usize, usize)> {
+        let mut places = vec![(0, 0); self.points()];
+        for (layer, points) in self.layers.iter().enumerate() {
+            points.iter().enumerate().for_each(|(place, &point)| places[point] = (layer, place));
+        }
+        places
+    }
+
     /// How many points there are.
     pub(super) fn points(&self) -> usize {
         self.layers.iter().map(Vec::len).sum()
     }
 
-    /// Adds the arrows, the shortest first, with their bends. Arrows below one block share theirs, so that they are seen
-    /// as one line with branches.
+    /// Adds the arrows, the shortest first, with their bends. Arrows below one block share theirs,
+    /// so that they are seen as one line with branches.
     fn add_arrows(&mut self, graph: &Graph, walk: &Walk, layer_of: &[usize]) {
         let mut ends = Vec::new();
         for from in 0..graph.len() {
@@ -71,7 +96,8 @@ impl Layers {
         }
     }
 
-    /// A bend in each layer between the two, of those that the block's arrows share; `None` where there are too many.
+    /// A bend in each layer between the two, of those that the block's arrows share; `None` where
+    /// there are too many.
     fn bends(&mut self, upper: usize, closes_loop: bool, from: usize, to: usize) -> Option<Vec<usize>> {
         let mut bends = self.shared.remove(&(upper, closes_loop)).unwrap_or_default();
         let (count, mut point) = (to - from - 1, self.points());
@@ -134,7 +160,8 @@ impl Walk {
     }
 }
 
-/// One layer below the lowest predecessor; a block without one stands just above its highest successor.
+/// One layer below the lowest predecessor; a block without one stands just above its highest
+/// successor.
 fn layer_of(graph: &Graph, walk: &Walk) -> Vec<usize> {
     let mut layer_of = vec![0; graph.len()];
     for &block in walk.left.iter().rev() {

@@ -1,8 +1,12 @@
 //! A picture of a job with its sheet and its answer.
 //!
-//! The blocks stand in layers, from the first down. Arrows are control, dashed where they close a loop. Each block has the
-//! paths that it assumes and those that it holds in the end. Beside the scope block stands each candidate, with what is
-//! returned of it and where it is cut.
+//! The blocks stand in layers, from the first down. Arrows are control, dashed where they close a
+//! loop. Each block has the paths that it assumes and those that it holds in the end. Beside the
+//! scope block stands each candidate, with what is returned of it and where it is cut.
+//!
+//! A block under the pointer lights its arrows and dims the others, and on a dark screen the picture
+//! is dark: both by the style sheet in the file, without a script. [`draw_focused`] leaves out the
+//! blocks that do not matter to the candidates.
 //!
 //! ```
 //! use scope_deps::{answer, draw::draw, sheet, Job};
@@ -13,24 +17,37 @@
 //! # Ok::<(), Box<dyn std::error::Error>>(())
 //! ```
 
+mod align;
 mod arrows;
 mod boxes;
+mod columns;
+mod focus;
+mod gaps;
 mod layers;
+mod legend;
+mod line;
 mod order;
 mod panel;
 mod place;
+mod relax;
+mod shared;
+mod shown;
+mod style;
 mod svg;
+mod view;
 
 use crate::answer::Answer;
-use crate::explain::{explain, Mismatch};
-use crate::graph::Graph;
+use crate::explain::{explain, Explanation, Mismatch};
 use crate::job::Job;
 use crate::sheet::Sheet;
+use arrows::Drawn;
 use boxes::BlockBox;
+use gaps::Gap;
 use layers::Layers;
 use panel::Panel;
-use place::{Extent, Placed};
+use place::{At, Extent, Placed};
 use svg::Svg;
+use view::View;
 
 /// The space around the picture.
 const MARGIN: f64 = 24.0;
@@ -42,43 +59,103 @@ const ABOVE_LEGEND: f64 = 40.0;
 /// One self-contained SVG file.
 pub fn draw(job: &Job, sheet: &Sheet, answer: &Answer) -> Result<String, Mismatch> {
     let explanation = explain(job, sheet, answer)?;
-    let boxes: Vec<BlockBox> = job.blocks().iter().map(|block| BlockBox::new(job, block, sheet)).collect();
-    let panel = Panel::new(&explanation);
-    let mut layers = Layers::new(&Graph::new(job));
-    order::order(&mut layers);
-    let scope = job.place_of(job.scope()).ok_or(Mismatch)?;
-    let placed = place::place(&layers, &extents(&boxes, &panel, scope));
-    let mut svg = Svg::new();
-    arrows::draw(&layers, &placed, &boxes, &mut svg);
-    for (block, of_block) in boxes.iter().enumerate() {
-        let at = placed.at(block);
-        of_block.draw(at.x - of_block.width / 2.0, at.y, &mut svg);
+    Ok(Picture { job, sheet, view: View::whole(job) }.drawn(&explanation))
+}
+
+/// The same with only the blocks that matter to the candidates: those that bring a known path to
+/// the scope block, or stop one. Where others are left out, it says how many.
+pub fn draw_focused(job: &Job, sheet: &Sheet, answer: &Answer) -> Result<String, Mismatch> {
+    let explanation = explain(job, sheet, answer)?;
+    let view = View::only(job, &focus::blocks_in_focus(&explanation));
+    Ok(Picture { job, sheet, view }.drawn(&explanation))
+}
+
+/// What is drawn.
+struct Picture<'a> {
+    job: &'a Job,
+    sheet: &'a Sheet,
+    view: View,
+}
+
+impl Picture<'_> {
+    fn drawn(&self, explanation: &Explanation) -> String {
+        let (boxes, panel) = (self.boxes(), Panel::new(explanation));
+        let gaps: Vec<Gap> = self.view.gaps.iter().map(|&count| Gap::new(count)).collect();
+        let extents = self.extents(&boxes, &gaps, &panel);
+        let names = boxes.iter().map(BlockBox::name).chain(gaps.iter().map(Gap::name)).collect();
+        let mut layers = Layers::new(&self.view.graph);
+        order::order(&mut layers);
+        let placed = place::place(&layers, &extents);
+        let mut svg = Svg::new();
+        for (number, of_block) in boxes.iter().enumerate() {
+            let beside = self.is_scope(number).then_some(&panel);
+            self.draw_block(of_block, beside, number, placed.at(number), &mut svg);
+        }
+        let at = (boxes.len()..).map(|number| placed.at(number));
+        gaps.iter().zip(at).for_each(|(gap, at)| gap.draw(at, &mut svg));
+        let (view, layers, placed, extents) = (&self.view, &layers, &placed, &extents[..]);
+        Drawn { view, layers, placed, extents, names }.draw_arrows(&mut svg);
+        self.finished(svg, placed)
     }
-    let beside = placed.at(scope);
-    panel.draw(beside.x + boxes[scope].width / 2.0, beside.y, &mut svg);
-    Ok(finish(svg, &placed, job, sheet))
+
+    /// Draws a block, with the panel beside it where it is the scope block, in a group of its own.
+    fn draw_block(&self, of_block: &BlockBox, beside: Option<&Panel>, number: usize, at: At, svg: &mut Svg) {
+        let half = of_block.extent().half;
+        let class = style::of_block(self.view.blocks[number]);
+        svg.open(&format!(" class=\"block {class}\" tabindex=\"0\""));
+        of_block.draw(at.x - half, at.y, svg);
+        beside.into_iter().for_each(|panel| panel.draw(at.x + half, at.y, svg));
+        svg.close();
+    }
+
+    fn is_scope(&self, number: usize) -> bool {
+        self.job.blocks()[self.view.blocks[number]].id() == self.job.scope()
+    }
+
+    fn boxes(&self) -> Vec<BlockBox> {
+        let blocks = self.view.blocks.iter().map(|&place| &self.job.blocks()[place]);
+        let is_drawn = |id| blocks.clone().any(|block| block.id() == id);
+        let many = self.view.blocks.len();
+        blocks.clone().map(|block| BlockBox::new(self.job, block, self.sheet, many, is_drawn)).collect()
+    }
+
+    /// How much room each block and gap takes, the scope block with the panel beside it.
+    fn extents(&self, boxes: &[BlockBox], gaps: &[Gap], panel: &Panel) -> Vec<Extent> {
+        let of_block = |(number, of_block): (usize, &BlockBox)| {
+            let mut extent = of_block.extent();
+            if self.is_scope(number) {
+                extent.after += panel.width;
+                extent.height = extent.height.max(panel.height);
+            }
+            extent
+        };
+        boxes.iter().enumerate().map(of_block).chain(gaps.iter().map(Gap::extent)).collect()
+    }
+
+    /// The whole file: what was drawn, under a title and over a legend.
+    fn finished(&self, mut svg: Svg, placed: &Placed) -> String {
+        let title = self.title();
+        svg.text(0.0, 22.0 - TITLE, "title", &title);
+        let width = placed.width.max(legend::WIDTH).max(svg::width(&title, svg::LARGE));
+        legend::draw(placed.height + ABOVE_LEGEND, &mut svg);
+        let height = placed.height + TITLE + ABOVE_LEGEND + legend::HEIGHT;
+        let style = style::style(self.view.blocks.iter().copied());
+        let size = [width + 2.0 * MARGIN, height + 2.0 * MARGIN];
+        svg.file(&style, &title, size, [MARGIN, MARGIN + TITLE])
+    }
+
+    fn title(&self) -> String {
+        let settled = if self.sheet.is_settled() { "settled" } else { "not settled" };
+        let (blocks, rounds) = (self.job.blocks().len(), counted(self.sheet.rounds().into(), "round"));
+        let drawn = match self.view.blocks.len() {
+            all if all == blocks => counted(blocks, "block"),
+            some => format!("{some} of {}", counted(blocks, "block")),
+        };
+        format!("{drawn}, scope block {}; {rounds}, {settled}", self.job.scope())
+    }
 }
 
-/// How much room each block takes, the scope block with the panel beside it.
-fn extents(boxes: &[BlockBox], panel: &Panel, scope: usize) -> Vec<Extent> {
-    let mut extents: Vec<Extent> = boxes.iter().map(BlockBox::extent).collect();
-    extents[scope].right += panel.width;
-    extents[scope].height = extents[scope].height.max(panel.height);
-    extents
-}
-
-/// The whole file: what was drawn, under a title and over a legend.
-fn finish(mut svg: Svg, placed: &Placed, job: &Job, sheet: &Sheet) -> String {
-    let settled = if sheet.is_settled() { "settled" } else { "not settled" };
-    let (blocks, rounds) = (counted(job.blocks().len(), "block"), counted(sheet.rounds().into(), "round"));
-    let title = format!("{blocks}, scope block {}; {rounds}, {settled}", job.scope());
-    svg.text(0.0, 22.0 - TITLE, "title", &title);
-    let width = placed.width.max(svg::LEGEND_WIDTH).max(svg::width(&title, svg::LARGE));
-    svg.legend(placed.height + ABOVE_LEGEND);
-    let height = placed.height + TITLE + ABOVE_LEGEND + svg::LEGEND_HEIGHT;
-    svg.file(&title, width + 2.0 * MARGIN, height + 2.0 * MARGIN, MARGIN, MARGIN + TITLE)
-}
-
+/// How many of what there are.
 fn counted(count: usize, what: &str) -> String {
     format!("{count} {what}{}", if count == 1 { "" } else { "s" })
 }

@@ -23,7 +23,8 @@ impl Near {
     }
 }
 
-/// Puts each point near the middle of its neighbours, down and up again, and keeps the best order met.
+/// Puts each point near the middle of its neighbours, down and up again, and keeps the best order
+/// met.
 pub(super) fn order(layers: &mut Layers) {
     let near = Near::new(layers);
     let mut best = (crossings(layers, &near), layers.layers.clone());
@@ -42,22 +43,13 @@ pub(super) fn order(layers: &mut Layers) {
     layers.layers = best.1;
 }
 
-/// The place of each point in its layer.
-fn places(layers: &Layers) -> Vec<usize> {
-    let mut places = vec![0; layers.points()];
-    for layer in &layers.layers {
-        layer.iter().enumerate().for_each(|(place, &point)| places[point] = place);
-    }
-    places
-}
-
 /// Sorts a layer by the middle of each point's neighbours; a point without any keeps its place.
 fn sort(layers: &mut Layers, layer: usize, near: &[Vec<usize>]) {
-    let places = places(layers);
+    let places = layers.places();
     let middle = |point: usize| {
-        let sum: usize = near[point].iter().map(|&other| places[other]).sum();
+        let sum: usize = near[point].iter().map(|&other| places[other].1).sum();
         match near[point].len() {
-            0 => places[point] as f64,
+            0 => places[point].1 as f64,
             count => sum as f64 / count as f64,
         }
     };
@@ -66,15 +58,15 @@ fn sort(layers: &mut Layers, layer: usize, near: &[Vec<usize>]) {
 
 /// How many pairs of arrows cross between neighbouring layers.
 fn crossings(layers: &Layers, near: &Near) -> usize {
-    let places = places(layers);
+    let places = layers.places();
     layers.layers.iter().map(|layer| crossings_below(layer, near, &places)).sum()
 }
 
-fn crossings_below(layer: &[usize], near: &Near, places: &[usize]) -> usize {
+fn crossings_below(layer: &[usize], near: &Near, places: &[(usize, usize)]) -> usize {
     let mut count = 0;
     let mut ends_before: Vec<usize> = Vec::new();
     for &point in layer {
-        let ends = near.below[point].iter().map(|&other| places[other]);
+        let ends = near.below[point].iter().map(|&other| places[other].1);
         count +=
             ends.clone().map(|end| ends_before.iter().filter(|&&before| before > end).count()).sum::<usize>();
         ends_before.extend(ends);

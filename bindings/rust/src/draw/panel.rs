@@ -1,16 +1,13 @@
 //! The panel beside the scope block: each candidate, where it is cut, and what is returned of it.
 
-use super::boxes::LINE;
-use super::svg::{shortened, width, Svg, SMALL};
+use super::boxes::{LINE, PADDING};
+use super::shown::{self, Piece};
+use super::svg::{width, Svg, SMALL};
 use crate::explain::{End, Explanation, Reason};
-use crate::path::Path;
+use crate::names::Names;
 
-const PADDING: f64 = 9.0;
 /// The space between the two columns.
 const BETWEEN: f64 = 26.0;
-/// The most characters of what is returned, and of what is not.
-const LONGEST: usize = 34;
-const LONGEST_REST: usize = 20;
 
 pub(super) struct Panel {
     rows: Vec<Row>,
@@ -20,47 +17,47 @@ pub(super) struct Panel {
     pub(super) height: f64,
 }
 
-/// A candidate: the part that is returned, the rest, and the returned path.
+/// A candidate, with what is not returned of it marked, and the returned path.
 struct Row {
-    kept: String,
-    knife: &'static str,
-    rest: String,
-    rest_class: &'static str,
-    returned: String,
+    candidate: Vec<Vec<Piece>>,
+    returned: Vec<Vec<Piece>>,
     full: String,
 }
 
 impl Row {
-    fn new(reason: &Reason) -> Self {
-        let (candidate, count) = (&reason.candidate, reason.returned.entries().len());
-        let rest: String = candidate.entries()[count..].iter().map(|entry| format!("{entry:#}")).collect();
-        let (knife, rest_class, why) = match &reason.end {
+    fn new(reason: &Reason, names: &Names) -> Self {
+        let (candidate, returned) =
+            (shown::parts(&reason.candidate, names), shown::parts(&reason.returned, names));
+        let (knife, rest, why) = match &reason.end {
             End::Whole => ("", "", "returned whole"),
             End::Cut { .. } => ("|", "cut", "cut: the base is not known there"),
             End::Covered { .. } => ("|", "covered", "another candidate ends there"),
         };
-        let full = format!("{candidate:#} is returned as {:#} ({why})", reason.returned);
-        let short = |path: &Path| shortened(&format!("{path:#}"), LONGEST);
-        let (kept, returned) = (short(&candidate.prefix(count)), short(&reason.returned));
-        Self { kept, knife, rest: shortened(&rest, LONGEST_REST), rest_class, returned, full }
+        let full = format!("{} is returned as {} ({why})", candidate.concat(), returned.concat());
+        let (kept, left) = candidate.split_at(returned.len());
+        let of = |class, parts: &[String]| parts.iter().map(move |part| (class, part.clone())).collect();
+        let pieces: [Vec<Piece>; 3] = [of("", kept), of("knife", &[knife.to_string()]), of(rest, left)];
+        let returned: Vec<Piece> = of("returned", &returned);
+        Self { candidate: shown::broken(pieces.concat()), returned: shown::broken(returned), full }
     }
 
-    fn candidate_width(&self) -> f64 {
-        width(&self.kept, SMALL) + width(self.knife, SMALL) + width(&self.rest, SMALL)
+    fn lines(&self) -> usize {
+        self.candidate.len().max(self.returned.len())
     }
 }
 
 impl Panel {
     pub(super) fn new(explanation: &Explanation) -> Self {
-        let rows: Vec<Row> = explanation.reasons.iter().map(Row::new).collect();
+        let rows: Vec<Row> =
+            explanation.reasons.iter().map(|reason| Row::new(reason, &explanation.names)).collect();
         if rows.is_empty() {
             return Self { rows, second: 0.0, width: 0.0, height: 0.0 };
         }
-        let first = rows.iter().map(Row::candidate_width).fold(width("candidate", SMALL), f64::max);
+        let first = widest(rows.iter().flat_map(|row| &row.candidate), "candidate");
         let second = PADDING + first + BETWEEN;
-        let returned =
-            rows.iter().map(|row| width(&row.returned, SMALL)).fold(width("returned", SMALL), f64::max);
-        let height = 2.0 * PADDING + LINE * (1 + rows.len()) as f64 - 4.0;
+        let returned = widest(rows.iter().flat_map(|row| &row.returned), "returned");
+        let lines: usize = rows.iter().map(Row::lines).sum();
+        let height = 2.0 * PADDING + LINE * (1 + lines) as f64 - 4.0;
         Self { second, width: second + returned + PADDING, height, rows }
     }
 
@@ -73,10 +70,23 @@ impl Panel {
         svg.text(x + PADDING, base, "label", "candidate");
         svg.text(x + self.second, base, "label", "returned");
         for row in &self.rows {
-            base += LINE;
-            let parts = [("", &row.kept[..]), ("knife", row.knife), (row.rest_class, &row.rest)];
-            svg.texts(x + PADDING, base, &parts, &row.full);
-            svg.texts(x + self.second, base, &[("returned", &row.returned)], &row.full);
+            column(&row.candidate, x + PADDING, base, &row.full, svg);
+            column(&row.returned, x + self.second, base, &row.full, svg);
+            base += LINE * row.lines() as f64;
         }
+    }
+}
+
+/// The width of the widest line of a column with this head.
+fn widest<'r>(lines: impl Iterator<Item = &'r Vec<Piece>>, head: &str) -> f64 {
+    let widths = lines.map(|line| line.iter().map(|(_, piece)| width(piece, SMALL)).sum());
+    widths.fold(width(head, SMALL), f64::max)
+}
+
+/// Writes lines under one another, the first below `base`.
+fn column(lines: &[Vec<Piece>], x: f64, base: f64, full: &str, svg: &mut Svg) {
+    for (place, line) in lines.iter().enumerate() {
+        let pieces: Vec<(&str, &str)> = line.iter().map(|(class, piece)| (*class, &piece[..])).collect();
+        svg.texts(x, base + LINE * (place + 1) as f64, &pieces, full);
     }
 }

@@ -1,13 +1,34 @@
 //! Where each point stands.
 
+use super::align;
 use super::layers::Layers;
+use super::relax;
 
-/// The room that a point takes, to either side of its middle and down from its top.
+/// The room that a point takes: its box, and what stands beside it.
 #[derive(Clone, Copy)]
 pub(super) struct Extent {
-    pub(super) left: f64,
-    pub(super) right: f64,
+    /// Half of the box's width.
+    pub(super) half: f64,
+    /// The box's height.
+    pub(super) foot: f64,
+    /// The room left of the box.
+    pub(super) before: f64,
+    /// The room right of the box.
+    pub(super) after: f64,
+    /// The height of the box and of what stands beside it.
     pub(super) height: f64,
+}
+
+impl Extent {
+    /// The room left of the middle.
+    pub(super) fn left(&self) -> f64 {
+        self.half + self.before
+    }
+
+    /// The room right of the middle.
+    pub(super) fn right(&self) -> f64 {
+        self.half + self.after
+    }
 }
 
 /// The middle of a point's top, and where its layer ends.
@@ -31,95 +52,37 @@ impl Placed {
     }
 }
 
-const BEND: Extent = Extent { left: 4.0, right: 4.0, height: 0.0 };
-const BETWEEN_BLOCKS: f64 = 30.0;
-const BETWEEN_BENDS: f64 = 12.0;
-/// How often all layers are gone through.
-const SWEEPS: usize = 24;
+const BEND: Extent = Extent { half: 4.0, foot: 0.0, before: 0.0, after: 0.0, height: 0.0 };
 
-/// Places the points of each layer near their neighbours, in their order and apart.
-pub(super) fn place(layers: &Layers, blocks: &[Extent]) -> Placed {
-    let extent = |point: usize| blocks.get(point).copied().unwrap_or(BEND);
-    let near = near(layers);
-    let mut x = vec![0.0; layers.points()];
-    for sweep in 0..SWEEPS {
-        for step in 0..layers.layers.len() {
-            let layer = if sweep % 2 == 0 { step } else { layers.layers.len() - 1 - step };
-            place_layer(layers, layer, &near, &extent, &mut x);
-        }
-    }
-    let (left, right) = sides(&x, &extent);
+/// How much wider a picture may be for straight columns.
+const WIDER: f64 = 1.4;
+
+/// Places the points: in their layers, in the order that they have there, and apart.
+pub(super) fn place(layers: &Layers, extents: &[Extent]) -> Placed {
+    let extent = |point: usize| extents.get(point).copied().unwrap_or(BEND);
+    let (mut x, left, width) = across(layers, &extent);
     x.iter_mut().for_each(|x| *x -= left);
     let (at, height) = downward(layers, &x, &extent);
-    Placed { at, width: right - left, height }
+    Placed { at, width, height }
 }
 
-/// All neighbours of each point, above and below.
-fn near(layers: &Layers) -> Vec<Vec<usize>> {
-    let mut near = vec![Vec::new(); layers.points()];
-    for (upper, lower) in layers.links() {
-        near[upper].push(lower);
-        near[lower].push(upper);
+/// The middle of each point, where the leftmost starts, and how wide all are together. They stand
+/// in straight columns, or where those would take much more room, near their neighbours.
+fn across(layers: &Layers, extent: &dyn Fn(usize) -> Extent) -> (Vec<f64>, f64, f64) {
+    let measured = |x: Vec<f64>| {
+        let (left, right) = align::sides(&x, extent);
+        (x, left, right - left)
+    };
+    let (aligned, relaxed) = (measured(align::align(layers, extent)), measured(relax::relax(layers, extent)));
+    if aligned.2 <= WIDER * relaxed.2 {
+        aligned
+    } else {
+        relaxed
     }
-    near
-}
-
-/// Moves a layer's points as near to the middle of their neighbours as their order and room allow.
-fn place_layer(
-    layers: &Layers,
-    layer: usize,
-    near: &[Vec<usize>],
-    extent: &impl Fn(usize) -> Extent,
-    x: &mut [f64],
-) {
-    let points = &layers.layers[layer];
-    let mut offsets = vec![0.0];
-    for pair in points.windows(2) {
-        let bends = layers.is_bend(pair[0]) && layers.is_bend(pair[1]);
-        let gap = if bends { BETWEEN_BENDS } else { BETWEEN_BLOCKS };
-        let offset = offsets[offsets.len() - 1] + extent(pair[0]).right + gap + extent(pair[1]).left;
-        offsets.push(offset);
-    }
-    let wanted: Vec<f64> = points
-        .iter()
-        .zip(&offsets)
-        .map(|(&point, offset)| {
-            let sum: f64 = near[point].iter().map(|&other| x[other]).sum();
-            let middle = if near[point].is_empty() { x[point] } else { sum / near[point].len() as f64 };
-            middle - offset
-        })
-        .collect();
-    for ((&point, offset), place) in points.iter().zip(&offsets).zip(ascending(&wanted)) {
-        x[point] = place + offset;
-    }
-}
-
-/// The ascending numbers nearest to the wanted ones: runs that would descend take their mean.
-fn ascending(wanted: &[f64]) -> Vec<f64> {
-    let mut runs: Vec<(f64, usize)> = Vec::new();
-    for &value in wanted {
-        runs.push((value, 1));
-        while let [.., (before, many), (last, few)] = runs[..] {
-            if before <= last {
-                break;
-            }
-            let count = many + few;
-            runs.truncate(runs.len() - 2);
-            runs.push(((before * many as f64 + last * few as f64) / count as f64, count));
-        }
-    }
-    runs.into_iter().flat_map(|(value, count)| std::iter::repeat_n(value, count)).collect()
-}
-
-/// The leftmost and the rightmost place that a point takes.
-fn sides(x: &[f64], extent: &impl Fn(usize) -> Extent) -> (f64, f64) {
-    let left = x.iter().enumerate().map(|(point, x)| x - extent(point).left);
-    let right = x.iter().enumerate().map(|(point, x)| x + extent(point).right);
-    (left.fold(f64::INFINITY, f64::min), right.fold(f64::NEG_INFINITY, f64::max))
 }
 
 /// Puts the layers under one another, with more room between where more arrows pass.
-fn downward(layers: &Layers, x: &[f64], extent: &impl Fn(usize) -> Extent) -> (Vec<At>, f64) {
+fn downward(layers: &Layers, x: &[f64], extent: &dyn Fn(usize) -> Extent) -> (Vec<At>, f64) {
     let mut at = vec![At::default(); x.len()];
     let mut below = vec![0; x.len()];
     layers.links().into_iter().for_each(|(upper, _)| below[upper] += 1);

@@ -79,9 +79,10 @@ fn window(line: &str, column: usize) -> (usize, String) {
     (start - LEFT_OUT.len(), format!("{LEFT_OUT}{shown}"))
 }
 
-/// The character, or a stand-in for one that would do something to a terminal.
+/// The character, or a stand-in for one that is not seen or would do something to a terminal.
 fn visible(character: char) -> char {
-    if character.is_control() && character != '\t' {
+    let is_unseen = character.is_control() && character != '\t' || character == '\u{feff}';
+    if is_unseen {
         char::REPLACEMENT_CHARACTER
     } else {
         character

@@ -29,7 +29,7 @@ pub(super) fn read_job(text: &str, names: Names) -> Result<Job, NotationError> {
         let position = reader.positions.of(&why).unwrap_or_else(|| reader.cursor.position());
         NotationError::new(position, why.to_string())
     })?;
-    Ok(job.with_names(reader.names))
+    Ok(job.named(reader.names))
 }
 
 struct Reader<'t> {

@@ -221,8 +221,10 @@ module _ {M : Type 1} (𝓤 : URA M) (H : Heap 𝓤) (A : Atoms 𝓤) (W : Given
       (LL.lawful (D κs) (L κs) 𝓤 H A W .typed (a .0) _ (are .0) .0) (LL.owed (D κs) (L κs) (a .0) _ (are .0) .1 .1 .0)))
 
   rest-meets : Meets 𝓤 H A rest.signature (WpFn 𝓤 H (𝓣 .C) (𝓣 .Λ) code.function) (rest.spec 𝓤 H A mem run)
-  rest-meets = walk-meets 𝓤 H A rest.ended stayed W (goes-none 𝓤 H A W 3 B yes (λ κs x f. refl),
-      (goes-gave-ref 𝓤 H A W 3 1 tt ids-slot, (goes-gave-ref 𝓤 H A W 3 2 tt places-slot, tt))) (rest.clauses 𝓤 H A mem run)
+  rest-meets = walk-meets 𝓤 H A rest.ended stayed W (
+    goes-none 𝓤 H A W 3 B yes (λ κs x f. refl),
+    (goes-gave-ref 𝓤 H A W 3 1 tt ids-slot, (goes-gave-ref 𝓤 H A W 3 2 tt places-slot, tt)),
+  ) (rest.clauses 𝓤 H A mem run)
       (WpFn 𝓤 H (𝓣 .C) (𝓣 .Λ) code.function) (WpFn-mono 𝓤 H (W .laws) 𝓣 code.function) rest-walks
 
 pub rest-spec : {M : Type 1} → stated.statement M

@@ -1,0 +1,34 @@
+//! What the marks and colours of a picture stand for.
+
+use super::svg::{Head, Look, Stroke, Svg};
+
+/// The room that the legend takes.
+pub(super) const WIDTH: f64 = 420.0;
+pub(super) const HEIGHT: f64 = 90.0;
+
+const LINES: [&[(&str, &str)]; 4] = [
+    &[("assumed", "assumes"), ("label", ": paths taken as given in the block")],
+    &[("", "holds"), ("label", ": paths that count as known there, its propagated set")],
+    &[("", "1"), ("knife", "|"), ("cut", ".10"), ("label", ": cut, since 1 is not known there")],
+    &[("", "1"), ("knife", "|"), ("covered", ".10"), ("label", ": not needed, since another ends at 1")],
+];
+
+/// Draws it, in a group of its own, so that its arrows are not among those that follow a block.
+pub(super) fn draw(y: f64, svg: &mut Svg) {
+    svg.open("");
+    arrow(0.0, y, Look::Control, svg);
+    svg.text(44.0, y, "label", "control");
+    arrow(130.0, y, Look::Loop, svg);
+    svg.text(174.0, y, "label", "control that closes a loop");
+    for (line, parts) in LINES.iter().enumerate() {
+        svg.texts(0.0, y + 18.0 * (line + 1) as f64, parts, "");
+    }
+    svg.close();
+}
+
+fn arrow(x: f64, y: f64, look: Look, svg: &mut Svg) {
+    let line = format!("M{x} {}h34", y - 4.0);
+    let (classes, full) = (String::new(), String::new());
+    let head = if look == Look::Loop { Head::First } else { Head::Last };
+    svg.arrow(&Stroke { look, head, faint: false, classes, line, full });
+}
