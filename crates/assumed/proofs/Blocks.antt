@@ -10,12 +10,12 @@ use lib.ListN.{length, getD, set, drop, drop-of-length-le}
 use lib.Seq.{getD-set-same}
 use Rattle.entries.specs.declared.Refusal.{Refusal}
 use Rattle.entries.specs.Path.{ReactiveScopeDependency}
-use Rattle.model.specs.Read.{Read, got, refused, readMany}
+use Rattle.model.specs.ReadingBytes.{Read, got, refused, readMany}
 use Rattle.model.specs.Job.{PA, Block, readBlockId, readPath, readBlock}
 use Rattle.model.specs.Sets.{NodeSet}
 use Rattle.model.specs.Registry.{nodeLimit, PropertyPathRegistry}
 use Rattle.model.specs.RegistryLaws.{Extends, extends-refl, extends-trans, extends-length}
-use Rattle.model.specs.Stage.{Entered, Started, enterPaths, enterBlock, enterBlocks}
+use Rattle.model.specs.Stage.{PathsEntered, Started, enterPaths, enterBlock, enterBlocks}
 use Rattle.registry.specs.Words.{registryOf, Held}
 use Rattle.rows.specs.Members.{membersOf}
 use Rattle.rows.specs.Rows.{Lent, RowSet, rowOf, rowsFrom, rowsOf}
@@ -106,12 +106,13 @@ row-more entry exit b s x =
     ∙ ap (λ t. rowsOf entry b ++ (t ∷ [])) (ap (rowOf exit) (zero-add b) ∙ this)
 
 -- the first of the blocks that are left is entered, and its set stands last of those before
-one-more : (front more : List NodeSet) (e : Entered) (reg : PropertyPathRegistry) (s : NodeSet) (bs cs : List Block) → e ≡ record { registry = reg; set = s }
+one-more : (front more : List NodeSet) (e : PathsEntered) (reg : PropertyPathRegistry) (s : NodeSet) (bs cs : List Block)
+    → e ≡ record { registry = reg; set = s }
     → more ≡ front ++ (s ∷ []) → bs ≡ cs
     → after front (record { registry = enterBlocks (e .registry) bs .registry; sets = e .set ∷ enterBlocks (e .registry) bs .sets })
     ≡ after more (enterBlocks reg cs)
 one-more front more e reg s bs cs is stored same =
-    ap (λ (e : Entered). after front (record { registry = enterBlocks (e .registry) bs .registry; sets = e .set ∷ enterBlocks (e .registry) bs .sets })) is
+    ap (λ (e : PathsEntered). after front (record { registry = enterBlocks (e .registry) bs .registry; sets = e .set ∷ enterBlocks (e .registry) bs .sets })) is
     ∙ ap (λ (l : List NodeSet). record { registry = enterBlocks reg bs .registry; sets = l }) (sym (append-assoc front (s ∷ []) (enterBlocks reg bs .sets)))
     ∙ ap (λ (l : List NodeSet). after l (enterBlocks reg bs)) (sym stored)
     ∙ ap (λ bs. after more (enterBlocks reg bs)) same

@@ -6,12 +6,12 @@ use mathlib.Core.List.{List, [], _∷_}
 use lib.ListN.{length}
 use Rattle.entries.specs.declared.NodeId.{NodeId}
 use Rattle.entries.specs.Path.{ReactiveScopeDependency}
-use Rattle.model.specs.Read.{Read, got, refused, readMany}
+use Rattle.model.specs.ReadingBytes.{Read, got, refused, readMany}
 use Rattle.model.specs.Job.{PA, readPath}
 use Rattle.model.specs.Sets.{NodeSet, insert}
 use Rattle.model.specs.Registry.{nodeLimit, PropertyPathRegistry, Reached, ownMark, getOrCreateProperty}
 use Rattle.model.specs.RegistryLaws.{Extends, extends-refl, extends-trans, extends-length, path-extends, path-proper}
-use Rattle.model.specs.Stage.{Entered, enterPaths}
+use Rattle.model.specs.Stage.{PathsEntered, enterPaths}
 use Rattle.registry.specs.Words.{registryOf, Held}
 use Rattle.registry.proofs.View.{registry-length}
 use Rattle.rows.specs.Members.{membersOf}
@@ -52,7 +52,7 @@ next-path reg more s t es rest c d k all same reached inserted =
     ∙ ap (λ u. enterPaths more u rest) (sym inserted)
 
 -- The paths that are left were read, and entering them after those before gives what is wanted.
-pub record Filling (want : Entered) (s ws os set : List ℕ) (at left : ℕ) : Type 0 where
+pub record Filling (want : PathsEntered) (s ws os set : List ℕ) (at left : ℕ) : Type 0 where
   pub held : Held ws os
   pub rest : List ReactiveScopeDependency
   pub end : ℕ
@@ -78,7 +78,7 @@ filling reg s ws os set start count held is none x = record {
       ∙ ap (λ t. enterPaths (registryOf ws) t (x .value)) (sym none);
 }
 
-module _ {want : Entered} {s ws os set : List ℕ} {at left : ℕ} (x : Filling want s ws os set at left) where
+module _ {want : PathsEntered} {s ws os set : List ℕ} {at left : ℕ} (x : Filling want s ws os set at left) where
   pub filling-end : left ≤ 0 → Held ws os × (want ≡ record { registry = registryOf ws; set = membersOf set })
   filling-end none =
       let zero-left : left ≡ 0 = omega arith in

@@ -4,7 +4,7 @@ ghost use mathlib.Core.List.{[]};
 ghost use Prim.Native.Nat.{_≤_};
 ghost use Rattle.rows.specs.Rows.{Lent};
 ghost use Rattle.registry.specs.Words.{registryOf, Held, HoldsNone};
-ghost use Rattle.model.specs.Read.{readMany};
+ghost use Rattle.model.specs.ReadingBytes.{readMany};
 ghost use Rattle.model.specs.Job.{PA, readPath, readBlock};
 ghost use Rattle.model.specs.Answer.{spanWidth};
 ghost use Rattle.model.specs.Stage.{enterPaths, enterBlocks};
@@ -72,7 +72,7 @@ fn enter_block(s: &[u8], at: usize, ws: &mut [u64; 1665], optional: &mut [u64; 8
 }
 
 // Whether all assumed paths were entered, or the registry had no room.
-pub enum Entered {
+pub enum BlocksEntered {
     All,
     Full,
 }
@@ -86,7 +86,7 @@ pub fn enter_blocks(
     ws: &mut [u64; 1665],
     optional: &mut [u64; 8],
     sets: &mut [u64; 1024],
-) -> Entered
+) -> BlocksEntered
     requires { ⌜ PlacedJob (now s) blocks (now places) × (blocks ≤ 128) × HoldsNone (now ws) (now optional) × Lent (now sets) ⌝ }
     ensures { λ r. ⌜ Starts (enterBlocks [] (blocksOf (now (s .entry)))) blocks r (now (ws .exit)) (now (optional .exit))
         (now (sets .exit)) ⌝ }
@@ -96,10 +96,10 @@ pub fn enter_blocks(
         let at = places[b];
         let entered = enter_block(s, at, ws, optional);
         if entered.full {
-            return Entered::Full;
+            return BlocksEntered::Full;
         }
         rows::set_row(sets, b, entered.set);
         b += 1;
     }
-    Entered::All
+    BlocksEntered::All
 }

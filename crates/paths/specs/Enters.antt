@@ -5,9 +5,9 @@ use mathlib.Core.List.{List}
 use lib.ListN.{length}
 use Rattle.entries.specs.declared.NodeId.{NodeId}
 use Rattle.entries.specs.declared.DependencyPathEntry.{DependencyPathEntry}
-use Rattle.model.specs.Read.{Read, got, refused}
+use Rattle.model.specs.ReadingBytes.{Read, got, refused}
 use Rattle.model.specs.Registry.{nodeLimit, PropertyPathRegistry, Reached, walkFrom, ownMark}
-use Rattle.registry.specs.declared.Entered.the-variants as entered
+use Rattle.registry.specs.declared.NodeEntered.the-variants as entered
 use Rattle.registry.specs.Words.{Arrives}
 use Rattle.paths.specs.declared.EnteredPath.{EnteredPath}
 use Rattle.paths.specs.declared.EnteredPath.the-variants.{At, Full}

@@ -15,7 +15,7 @@ use Rattle.model.specs.RegistryLaws.{property-true}
 use Rattle.registry.specs.declared.Node.{Node}
 use Rattle.registry.specs.declared.Node.the-variants.{Root, Child}
 use Rattle.registry.specs.Nodes.{sameKey, bucketOf, findNode}
-use Rattle.registry.specs.Words.{unpack, linkUnit, nodeAt, bucketAt, linkAt, endIn, countIn, nodesOf, BehindLast, BucketsLinked}
+use Rattle.registry.specs.Words.{unpack, linkUnit, storedNode, bucketAt, linkAt, endIn, countIn, nodesOf, BehindLast, BucketsLinked}
 use Rattle.registry.proofs.Pack.{linked-word, link-back}
 use Rattle.registry.proofs.Stored.{stored, stored-count, stored-below, link-below, stored-at, stored-link, stored-end, end-elsewhere, none-found}
 
@@ -40,7 +40,7 @@ none-linked ws none ends = record {
 }
 
 -- what is said of the nodes below a limit stays where these do
-moved : (ws vs : List ℕ) (b limit e : ℕ) → ((j : ℕ) → j < limit → nodeAt vs j ≡ nodeAt ws j) → BehindLast ws b limit e → BehindLast vs b limit e
+moved : (ws vs : List ℕ) (b limit e : ℕ) → ((j : ℕ) → j < limit → storedNode vs j ≡ storedNode ws j) → BehindLast ws b limit e → BehindLast vs b limit e
 moved ws vs b limit e same h =
     let within = h .within in
     record {
@@ -62,13 +62,13 @@ module _ (ws : List ℕ) (b h v s : ℕ) (n : Node) (linked : BucketsLinked ws) 
   abbrev vs : List ℕ
   vs = stored ws k b word v s
 
-  node-new : nodeAt vs k ≡ n
+  node-new : storedNode vs k ≡ n
   node-new = stored-at ws k b word v s room small long ∙ linked-word h v s (endIn ws b) ∙ is
 
   bucket-new : bucketAt vs k ≡ b
   bucket-new = ap bucketOf node-new ∙ sym own
 
-  node-old : (j : ℕ) → j < k → nodeAt vs j ≡ nodeAt ws j
+  node-old : (j : ℕ) → j < k → storedNode vs j ≡ storedNode ws j
   node-old j l = stored-below ws k b word v s room small long j l
 
   link-new : linkAt vs k ≡ endIn ws b
@@ -127,17 +127,17 @@ module _ (ws : List ℕ) (b h v s : ℕ) (n : Node) (linked : BucketsLinked ws) 
 pub record Passed (ws : List ℕ) (n : Node) (e : ℕ) : Type 0 where
   pub within : e ≤ countIn ws
   pub last : (k : ℕ) → k + 1 ≡ e → bucketAt ws k ≡ bucketOf n
-  pub none : (j : ℕ) → e ≤ j → j < countIn ws → sameKey (nodeAt ws j) n ≡ false
+  pub none : (j : ℕ) → e ≤ j → j < countIn ws → sameKey (storedNode ws j) n ≡ false
 
 module _ (ws : List ℕ) (n : Node) (linked : BucketsLinked ws) where
   pub passed-start : (b e : ℕ) → b ≡ bucketOf n → b < 128 → e ≡ endIn ws b → Passed ws n e
   passed-start b e is small end =
       let x : BehindLast ws (bucketOf n) (countIn ws) e =
       subst (λ c. BehindLast ws c (countIn ws) e) is (subst (BehindLast ws b (countIn ws)) (sym end) (linked .ends b small)) in
-      record { within = x .within; last = x .last; none = λ j a l. apart (nodeAt ws j) n (x .later j a l) }
+      record { within = x .within; last = x .last; none = λ j a l. apart (storedNode ws j) n (x .later j a l) }
 
   -- node k is passed too, and all nodes down to its link
-  pub passed-more : (e k link : ℕ) → Passed ws n e → k + 1 ≡ e → sameKey (nodeAt ws k) n ≡ false → link ≡ linkAt ws k → Passed ws n link
+  pub passed-more : (e k link : ℕ) → Passed ws n e → k + 1 ≡ e → sameKey (storedNode ws k) n ≡ false → link ≡ linkAt ws k → Passed ws n link
   passed-more e k link p at miss is =
       let within = p .within in
       let x : BehindLast ws (bucketOf n) k link =
@@ -146,9 +146,9 @@ module _ (ws : List ℕ) (n : Node) (linked : BucketsLinked ws) where
         within = let low = x .within in omega arith;
         last = x .last;
         none = λ j a l. decide (ltb j k)
-            (λ t. apart (nodeAt ws j) n (x .later j a (ltb-true j k t)))
+            (λ t. apart (storedNode ws j) n (x .later j a (ltb-true j k t)))
             (λ t. let above = ltb-false j k t in decide (eqb j k)
-            (λ here. subst (λ i. sameKey (nodeAt ws i) n ≡ false) (sym (eqb-true j k here)) miss)
+            (λ here. subst (λ i. sameKey (storedNode ws i) n ≡ false) (sym (eqb-true j k here)) miss)
             (λ other. let ne = eqb-false j k other in p .none j (omega arith) l));
       }
 

@@ -15,8 +15,8 @@ use Rattle.model.specs.Reduction.{hasOptional}
 use Rattle.entries.specs.Property.{propertyOf, valueOf}
 use Rattle.rows.specs.Members.{membersOf}
 use Rattle.registry.specs.declared.Node.{Node}
-use Rattle.registry.specs.declared.Entered.{Entered}
-use Rattle.registry.specs.declared.Entered.the-variants.{At, Full}
+use Rattle.registry.specs.declared.NodeEntered.{NodeEntered}
+use Rattle.registry.specs.declared.NodeEntered.the-variants.{At, Full}
 use Rattle.registry.specs.declared.Node.the-variants.{Root, Child}
 use Rattle.registry.specs.Nodes.{bucketOf, registryFrom}
 
@@ -69,8 +69,8 @@ unfoldable pub unpack : ℕ → ℕ → ℕ → Node
 unpack head value span = unpackBy (eqb (head / parentUnit % 65536) rootMark) head value span
 
 -- Node k of the words.
-abbrev pub nodeAt : List ℕ → ℕ → Node
-nodeAt ws k = unpack (getD ws (k * 3) 0) (getD ws (k * 3 + 1) 0) (getD ws (k * 3 + 2) 0)
+abbrev pub storedNode : List ℕ → ℕ → Node
+storedNode ws k = unpack (getD ws (k * 3) 0) (getD ws (k * 3 + 1) 0) (getD ws (k * 3 + 2) 0)
 
 -- How many nodes the words hold.
 abbrev pub countIn : List ℕ → ℕ
@@ -78,7 +78,7 @@ countIn ws = getD ws 1536 0
 
 -- The bucket of node k of the words.
 abbrev pub bucketAt : List ℕ → ℕ → ℕ
-bucketAt ws k = bucketOf (nodeAt ws k)
+bucketAt ws k = bucketOf (storedNode ws k)
 
 -- The link of node k.
 abbrev pub linkAt : List ℕ → ℕ → ℕ
@@ -91,7 +91,7 @@ endIn ws b = getD ws (1537 + b) 0
 -- n nodes from number k on
 abbrev pub nodesFrom : List ℕ → ℕ → ℕ → List Node
 nodesFrom ws k zero = []
-nodesFrom ws k (suc n) = nodeAt ws k ∷ nodesFrom ws (suc k) n
+nodesFrom ws k (suc n) = storedNode ws k ∷ nodesFrom ws (suc k) n
 
 -- All nodes of the words.
 unfoldable pub nodesOf : List ℕ → List Node
@@ -138,6 +138,6 @@ HoldsNone ws os = Held ws os × (registryOf ws ≡ [])
 
 -- What is reached: the words hold the registry that was to be reached, and the node is its number;
 -- or that registry has no room.
-abbrev pub Arrives : Reached → Entered → List ℕ → List ℕ → Type 0
+abbrev pub Arrives : Reached → NodeEntered → List ℕ → List ℕ → Type 0
 Arrives want (At k) ws os = Held ws os × (want ≡ record { registry = registryOf ws; node = k })
 Arrives want Full ws os = nodeLimit < length (want .registry)

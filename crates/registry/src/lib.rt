@@ -12,7 +12,18 @@ ghost use mathlib.Core.List.{_++_, _∷_, []};
 ghost use Rattle.registry.specs.declared.Node.the-variants.{Root, Child};
 ghost use Rattle.rows.specs.Members.{membersOf};
 ghost use Rattle.registry.specs.Nodes.{sameKey, bucketOf, findNode, madeFor, Inside, optionalOver, notedWith};
-ghost use Rattle.registry.specs.Words.{valueIn, spanIn, ParentFits, unpack, nodeAt, countIn, nodesOf, registryOf, linkUnit, linkAt};
+ghost use Rattle.registry.specs.Words.{
+  valueIn,
+  spanIn,
+  ParentFits,
+  unpack,
+  storedNode,
+  countIn,
+  nodesOf,
+  registryOf,
+  linkUnit,
+  linkAt,
+};
 ghost use Rattle.registry.specs.Words.{endIn, Sized, BucketsLinked, Held, Arrives};
 use entries::DependencyPathEntry;
 use entries::IdentifierId;
@@ -170,7 +181,7 @@ pub fn count(ws: &[u64; 1665]) -> usize
 
 pub fn load(ws: &[u64; 1665], k: NodeId) -> Node
     requires { ⌜ k .0 < 512 ⌝ }
-    ensures { λ r. ⌜ r ≡ nodeAt (now (ws .entry)) (k .0) ⌝ }
+    ensures { λ r. ⌜ r ≡ storedNode (now (ws .entry)) (k .0) ⌝ }
 {
     let at = k.0 * 3;
     Node::unpack(ws[at], ws[at + 1], ws[at + 2])
@@ -232,7 +243,7 @@ fn find(ws: &[u64; 1665], n: Node) -> usize
 }
 
 // The node reached, or that the words have no room for it.
-pub enum Entered {
+pub enum NodeEntered {
     At(NodeId),
     Full,
 }
@@ -268,22 +279,22 @@ fn note(optional: &mut [u64; 8], n: Node, k: NodeId)
 }
 
 // The node with the key of n, made where there is none.
-fn find_or_make(ws: &mut [u64; 1665], optional: &mut [u64; 8], n: Node) -> Entered
+fn find_or_make(ws: &mut [u64; 1665], optional: &mut [u64; 8], n: Node) -> NodeEntered
     requires { ⌜ Held (now ws) (now optional) × Inside n (countIn (now ws)) ⌝ }
     ensures { λ r. ⌜ Arrives (madeFor (registryOf (now (ws .entry))) n) r (now (ws .exit)) (now (optional .exit)) ⌝ }
 {
     let k = find(ws, n);
     let end = count(ws);
     if k < end {
-        return Entered::At(NodeId(k));
+        return NodeEntered::At(NodeId(k));
     }
     if end < Node::LIMIT {
         push(ws, n);
         let made = NodeId(end);
         note(optional, n, made);
-        Entered::At(made)
+        NodeEntered::At(made)
     } else {
-        Entered::Full
+        NodeEntered::Full
     }
 }
 
@@ -293,7 +304,7 @@ pub fn get_or_create_identifier(
     identifier: IdentifierId,
     reactive: bool,
     span: u64,
-) -> Entered
+) -> NodeEntered
     requires { ⌜ Held (now ws) (now optional) ⌝ }
     ensures { λ r. ⌜ Arrives (getOrCreateIdentifier (registryOf (now (ws .entry))) identifier reactive span) r (now (ws .exit))
         (now (optional .exit)) ⌝ }
@@ -306,7 +317,7 @@ pub fn get_or_create_property_entry(
     optional: &mut [u64; 8],
     parent: NodeId,
     entry: DependencyPathEntry,
-) -> Entered
+) -> NodeEntered
     requires { ⌜ Held (now ws) (now optional) × (parent .0 < countIn (now ws)) ⌝ }
     ensures { λ r. ⌜ Arrives (getOrCreatePropertyEntry (registryOf (now (ws .entry))) parent entry) r (now (ws .exit))
         (now (optional .exit)) ⌝ }
