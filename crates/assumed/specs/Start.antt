@@ -28,7 +28,8 @@ unfoldable pub assumedAt : List ℕ → ℕ → List ReactiveScopeDependency
 unfolding readBlock
 assumedAt s at = orNone (readBlock spanWidth s at) (λ (b : Block) end. b .assumed)
 
--- The words hold the registry that the paths lead to, and the set is that of their nodes; or that registry has no room.
+-- The words hold the registry that the paths lead to, and the set is that of their nodes; or that
+-- registry has no room.
 abbrev pub FillsBy : Bool → stage.Entered → EnteredSet → List ℕ → List ℕ → Type 0
 FillsBy true want r ws os = nodeLimit < length (want .registry)
 FillsBy false want r ws os = Held ws os × (want ≡ record { registry = registryOf ws; set = membersOf (r .set .words) })

@@ -1,4 +1,5 @@
-// All assumed paths of a job entered into the registry, straight from its bytes, and each block's set of them stored in its row.
+// All assumed paths of a job entered into the registry, straight from its bytes, and each block's
+// set of them stored in its row.
 ghost use mathlib.Core.List.{[]};
 ghost use Prim.Native.Nat.{_≤_};
 ghost use Rattle.rows.specs.Rows.{Lent};
@@ -30,7 +31,8 @@ fn enter_paths(
     optional: &mut [u64; 8],
 ) -> EnteredSet
     requires { ⌜ Held (now ws) (now optional) × IsRead (readMany count (readPath spanWidth PA) (now s) start) ⌝ }
-    ensures { λ r. ⌜ Fills (enterPaths (registryOf (now (ws .entry))) [] (pathsAt (now (s .entry)) start count)) r (now (ws .exit)) (now (optional .exit)) ⌝ }
+    ensures { λ r. ⌜ Fills (enterPaths (registryOf (now (ws .entry))) [] (pathsAt (now (s .entry)) start count)) r (now (ws .exit))
+        (now (optional .exit)) ⌝ }
 {
     let mut set = NodeBits::empty();
     let mut at = start;
@@ -50,7 +52,8 @@ fn enter_paths(
 // The assumed paths of the block at a place, which was read before.
 fn enter_block(s: &[u8], at: usize, ws: &mut [u64; 1665], optional: &mut [u64; 8]) -> EnteredSet
     requires { ⌜ Held (now ws) (now optional) × IsRead (readBlock spanWidth (now s) at) ⌝ }
-    ensures { λ r. ⌜ Fills (enterPaths (registryOf (now (ws .entry))) [] (assumedAt (now (s .entry)) at)) r (now (ws .exit)) (now (optional .exit)) ⌝ }
+    ensures { λ r. ⌜ Fills (enterPaths (registryOf (now (ws .entry))) [] (assumedAt (now (s .entry)) at)) r (now (ws .exit))
+        (now (optional .exit)) ⌝ }
 {
     // A block that was read has its head and its ids, so this is never the answer.
     let never = EnteredSet {
@@ -74,7 +77,8 @@ pub enum Entered {
     Full,
 }
 
-// The assumed paths of all blocks of the job that was read, in job order, into a registry that starts with no node.
+// The assumed paths of all blocks of the job that was read, in job order, into a registry that
+// starts with no node.
 pub fn enter_blocks(
     s: &[u8],
     places: &[usize; 128],
@@ -84,7 +88,8 @@ pub fn enter_blocks(
     sets: &mut [u64; 1024],
 ) -> Entered
     requires { ⌜ PlacedJob (now s) blocks (now places) × (blocks ≤ 128) × HoldsNone (now ws) (now optional) × Lent (now sets) ⌝ }
-    ensures { λ r. ⌜ Starts (enterBlocks [] (blocksOf (now (s .entry)))) blocks r (now (ws .exit)) (now (optional .exit)) (now (sets .exit)) ⌝ }
+    ensures { λ r. ⌜ Starts (enterBlocks [] (blocksOf (now (s .entry)))) blocks r (now (ws .exit)) (now (optional .exit))
+        (now (sets .exit)) ⌝ }
 {
     let mut b: usize = 0;
     while b < blocks {

@@ -31,8 +31,10 @@ fn enter_entries(
     optional: &mut [u64; 8],
     from: NodeId,
 ) -> EnteredPath
-    requires { ⌜ Held (now ws) (now optional) × (from .0 < countIn (now ws)) × IsRead (readMany count (readEntry spanWidth) (now s) start) ⌝ }
-    ensures { λ r. ⌜ Enters (readMany count (readEntry spanWidth) (now (s .entry)) start) (walkOwn (registryOf (now (ws .entry))) from) r (now (ws .exit)) (now (optional .exit)) ⌝ }
+    requires { ⌜ Held (now ws) (now optional) × (from .0 < countIn (now ws)) × IsRead (readMany count (readEntry spanWidth) (now s) start)
+        ⌝ }
+    ensures { λ r. ⌜ Enters (readMany count (readEntry spanWidth) (now (s .entry)) start) (walkOwn (registryOf (now (ws .entry))) from) r
+        (now (ws .exit)) (now (optional .exit)) ⌝ }
 {
     let mut at = start;
     let mut left = count;
@@ -56,7 +58,8 @@ fn enter_entries(
 // The assumed path at a place.
 pub fn enter_path(s: &[u8], at: usize, ws: &mut [u64; 1665], optional: &mut [u64; 8]) -> EnteredPath
     requires { ⌜ Held (now ws) (now optional) × IsRead (readPath spanWidth PA (now s) at) ⌝ }
-    ensures { λ r. ⌜ Enters (readPath spanWidth PA (now (s .entry)) at) (getOrCreateProperty (registryOf (now (ws .entry)))) r (now (ws .exit)) (now (optional .exit)) ⌝ }
+    ensures { λ r. ⌜ Enters (readPath spanWidth PA (now (s .entry)) at) (getOrCreateProperty (registryOf (now (ws .entry)))) r
+        (now (ws .exit)) (now (optional .exit)) ⌝ }
 {
     let marked = fields::mark_at(s, at, job::PA);
     let Passed::To(head_at) = marked else {

@@ -116,7 +116,8 @@ module _ (ws : List ℕ) (k b h v s : ℕ) (room : k < 512) (small : b < 128) (l
   pub stored-long : length (stored ws k b h v s) ≡ 1665
   stored-long = simp length-set long
 
-pub pushed : (ws : List ℕ) (b h v s : ℕ) (n : Node) → countIn ws < 512 → b < 128 → length ws ≡ 1665 → unpack h v s ≡ n → nodesOf (stored ws (countIn ws) b h v s) ≡ nodesOf ws ++ (n ∷ [])
+pub pushed : (ws : List ℕ) (b h v s : ℕ) (n : Node) → countIn ws < 512 → b < 128 → length ws ≡ 1665 → unpack h v s ≡ n
+    → nodesOf (stored ws (countIn ws) b h v s) ≡ nodesOf ws ++ (n ∷ [])
 unfolding nodesOf
 pushed ws b h v s n room small long e =
     ap (nodesFrom (stored ws (countIn ws) b h v s) 0) (stored-count ws (countIn ws) b h v s room small long ∙ add-one (countIn ws))

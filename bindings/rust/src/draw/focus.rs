@@ -6,8 +6,8 @@ use crate::ids::BlockId;
 use std::collections::BTreeSet;
 
 /// The scope block; the blocks by way of which the known paths came there; and of each base that is
-/// not known there the nearest block at which it stopped, with the neighbours that have it and those
-/// that do not, and the blocks by way of which one of them came to have it.
+/// not known there the nearest block at which it stopped, with the neighbours that have it and
+/// those that do not, and the blocks by way of which one of them came to have it.
 pub(super) fn blocks_in_focus(explanation: &Explanation) -> BTreeSet<BlockId> {
     let mut blocks = BTreeSet::from([explanation.scope]);
     let mut steps = Vec::new();

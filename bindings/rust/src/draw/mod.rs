@@ -4,9 +4,9 @@
 //! loop. Each block has the paths that it assumes and those that it holds in the end. Beside the
 //! scope block stands each candidate, with what is returned of it and where it is cut.
 //!
-//! A block under the pointer lights its arrows and dims the others, and on a dark screen the picture
-//! is dark: both by the style sheet in the file, without a script. [`draw_focused`] leaves out the
-//! blocks that do not matter to the candidates.
+//! A block under the pointer lights its arrows and dims the others, and on a dark screen the
+//! picture is dark: both by the style sheet in the file, without a script. [`draw_focused`] leaves
+//! out the blocks that do not matter to the candidates.
 //!
 //! ```
 //! use scope_deps::{answer, draw::draw, sheet, Job};

@@ -1,13 +1,13 @@
-//! The lines that the arrows below one block share. Each stretch of one is drawn once, so that it is
-//! no darker than other lines, and is lit together with each arrow that goes along it.
+//! The lines that the arrows below one block share. Each stretch of one is drawn once, so that it
+//! is no darker than other lines, and is lit together with each arrow that goes along it.
 
 use super::layers::Arrow;
 use std::collections::{BTreeMap, BTreeSet};
 
 /// A stretch of a shared line.
 pub(super) struct Stretch {
-    /// The points along it, from the top down: from the block, or from the bend at which the stretch
-    /// above ends, to the bend at which one arrow leaves the line or more.
+    /// The points along it, from the top down: from the block, or from the bend at which the
+    /// stretch above ends, to the bend at which one arrow leaves the line or more.
     pub(super) points: Vec<usize>,
     /// The arrows that go along it.
     pub(super) arrows: Vec<usize>,

@@ -6,6 +6,7 @@ use std::collections::BTreeSet;
 
 /// The blocks that matter to the candidates: every block that a sentence of the explanation in full
 /// names.
+#[must_use]
 pub fn blocks_that_matter(explanation: &Explanation) -> BTreeSet<BlockId> {
     let mut blocks: BTreeSet<BlockId> = explanation.steps.iter().flat_map(of_step).collect();
     for reason in &explanation.reasons {

@@ -120,6 +120,10 @@ impl fmt::Display for Mismatch {
 impl std::error::Error for Mismatch {}
 
 /// Why each candidate's returned path is what it is, for a job with its sheet and its answer.
+///
+/// # Errors
+///
+/// Where the replay of the job does not end with this sheet and this answer.
 pub fn explain(job: &Job, sheet: &Sheet, answer: &Answer) -> Result<Explanation, Mismatch> {
     let replay = Replay::new(job).map_err(|_| Mismatch)?;
     let rounds = (sheet.rounds(), sheet.is_settled());

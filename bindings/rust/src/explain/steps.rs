@@ -52,6 +52,7 @@ pub enum How {
 
 impl How {
     /// The number of the visit in which it happened; `None` for what is assumed.
+    #[must_use]
     pub fn visit(&self) -> Option<usize> {
         match *self {
             Self::Assumed => None,

@@ -65,6 +65,10 @@ impl std::error::Error for TooManyNodes {}
 
 impl Replay {
     /// Propagates the job's assumed paths.
+    ///
+    /// # Errors
+    ///
+    /// Where the job has more than 512 nodes, which the stage refuses by 9.
     pub fn new(job: &Job) -> Result<Self, TooManyNodes> {
         let mut registry = Registry::default();
         let assumed = assumed(job, &mut registry)?;
@@ -77,36 +81,43 @@ impl Replay {
     }
 
     /// The visits, in the order in which they ended.
+    #[must_use]
     pub fn visits(&self) -> &[Visit] {
         &self.visits
     }
 
     /// How many rounds there were.
+    #[must_use]
     pub fn rounds(&self) -> u8 {
         self.rounds
     }
 
     /// Whether the last round changed nothing.
+    #[must_use]
     pub fn is_settled(&self) -> bool {
         self.settled
     }
 
     /// The nodes of the paths that a block assumes, in the job's order.
+    #[must_use]
     pub fn assumed(&self, block: usize) -> &[NodeId] {
         &self.assumed[block]
     }
 
     /// The nodes that a block holds in the end, ascending.
+    #[must_use]
     pub fn held(&self, block: usize) -> impl Iterator<Item = NodeId> + '_ {
         self.sets[block].iter()
     }
 
     /// Whether a block holds a node in the end.
+    #[must_use]
     pub fn holds(&self, block: usize, node: NodeId) -> bool {
         self.sets[block].contains(node)
     }
 
     /// All nodes, ascending.
+    #[must_use]
     pub fn nodes(&self) -> impl ExactSizeIterator<Item = NodeId> {
         (0..self.registry.nodes().len()).map(|number| NodeId(number as u16))
     }
@@ -116,11 +127,13 @@ impl Replay {
     /// # Panics
     ///
     /// Where there is no such node.
+    #[must_use]
     pub fn path(&self, node: NodeId) -> Path {
         self.registry.path(node)
     }
 
     /// Whether this is what the sheet says: the same nodes, sets and rounds, for the same blocks.
+    #[must_use]
     pub fn agrees_with(&self, job: &Job, sheet: &Sheet) -> bool {
         let ids = job.blocks().iter().map(|block| block.id());
         let sets = sheet.sets().map(|(_, set)| set);

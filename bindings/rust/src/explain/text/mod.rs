@@ -39,6 +39,7 @@ impl Explanation {
     /// ");
     /// # Ok::<(), Box<dyn std::error::Error>>(())
     /// ```
+    #[must_use]
     pub fn in_full(&self) -> InFull<'_> {
         InFull(self)
     }
