@@ -90,8 +90,8 @@ pub(super) fn stops(blocks: &Blocks, steps: &mut Steps, base: &Path, has: &[bool
     found.into_iter().map(|(_, stop)| stop).collect()
 }
 
-/// How a block is connected with the scope block, and how far it is, where it has neighbours with the
-/// base on this side: by blocks on the same side of the scope block, or by any.
+/// How a block is connected with the scope block, and how far it is, where it has neighbours with
+/// the base on this side: by blocks on the same side of the scope block, or by any.
 fn way(side: Side, along: Option<usize>, around: Option<usize>) -> Option<(Way, usize)> {
     match (along, side) {
         (Some(near), Side::Predecessors) => Some((Way::Before, near)),
