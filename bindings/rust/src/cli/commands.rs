@@ -1,5 +1,6 @@
 //! The commands.
 
+use super::examples;
 use super::failure::Failure;
 use super::help;
 use super::input::{Form, Input};
@@ -14,6 +15,7 @@ pub fn run(request: Request) -> Result<(), Failure> {
     match request {
         Request::Help(topic) => output::write(help::text(topic.as_deref())?.as_bytes(), None),
         Request::Version => output::write(VERSION.as_bytes(), None),
+        Request::Examples(name) => output::write(examples::text(name.as_deref())?.as_bytes(), None),
         Request::Run(run) => {
             output::check_not_read(&run)?;
             let names = names(&run)?;

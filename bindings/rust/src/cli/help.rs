@@ -13,6 +13,7 @@ usage: scope-deps COMMAND [OPTIONS] [FILE]
   sheet      a job -> the paths that each block holds in the end
   explain    a job -> why each candidate is returned as it is
   draw       a job -> a picture of it, as SVG
+  examples   jobs to try
   help       help on one of these, or on the `notation`
 
 FILE holds one job. Where it is missing or `-`, standard input is read. `answer`, `sheet`, `explain`
@@ -40,6 +41,14 @@ of property 10 of it?
 
 The exit status is 0 on success, 1 where the job is refused or cannot be read or written, and 2 where
 the command line makes no sense. Messages go to standard error.
+";
+
+const EXAMPLES: &str = "\
+usage: scope-deps examples [NAME]
+
+Lists jobs to try, or writes the one of this name as text, to be read and answered:
+
+  $ scope-deps examples loop | scope-deps explain
 ";
 
 const NOTATION: &str = "\
@@ -180,6 +189,7 @@ pub fn text(topic: Option<&str>) -> Result<&'static str, Failure> {
         Some("sheet") => Ok(SHEET),
         Some("explain") => Ok(EXPLAIN),
         Some("draw") => Ok(DRAW),
+        Some("examples") => Ok(EXAMPLES),
         Some(other) => Err(Failure::Misused(format!("there is no help on `{other}`"))),
     }
 }

@@ -1,6 +1,7 @@
 //! The parts of the command-line tool.
 
 pub mod commands;
+mod examples;
 pub mod failure;
 pub mod help;
 mod hex;

@@ -31,6 +31,8 @@ pub enum Request {
     Help(Option<String>),
     /// The tool's name and version.
     Version,
+    /// The example of this name, or the list of all.
+    Examples(Option<String>),
     Run(Run),
 }
 
@@ -74,6 +76,12 @@ impl Request {
             ["--help" | "-h" | "help"] => Ok(Self::Help(None)),
             ["--version" | "-V"] => Ok(Self::Version),
             ["help", topic] => Ok(Self::Help(Some(topic.to_string()))),
+            ["examples", ref rest @ ..] if asks_for_help(rest) => {
+                Ok(Self::Help(Some("examples".to_string())))
+            }
+            ["examples"] => Ok(Self::Examples(None)),
+            ["examples", name] => Ok(Self::Examples(Some(name.to_string()))),
+            ["examples", ..] => Err(misused("`examples` takes one name")),
             [command, ref rest @ ..] => match COMMANDS.iter().find(|(name, _)| *name == command) {
                 Some(_) if asks_for_help(rest) => Ok(Self::Help(Some(command.to_string()))),
                 Some((_, command)) => Run::read(*command, rest).map(Self::Run),

@@ -139,3 +139,18 @@ fn the_version_is_the_packages() {
     assert_eq!(text(&["--version"], ""), version);
     assert_eq!(text(&["-V"], ""), version);
 }
+
+#[test]
+fn examples_are_listed_and_each_can_be_answered() {
+    let list = text(&["examples"], "");
+    let files = fs::read_dir(repository("examples")).unwrap();
+    let files = files.filter(|file| file.as_ref().unwrap().path().extension().unwrap() == "job").count();
+    assert_eq!(list.lines().count(), files);
+    for line in list.lines() {
+        let name = line.split(' ').next().unwrap();
+        let job = text(&["examples", name], "");
+        assert_eq!(job, fs::read_to_string(repository(&format!("examples/{name}.job"))).unwrap());
+        let answer = fs::read_to_string(repository(&format!("examples/{name}.answer"))).unwrap();
+        assert_eq!(text(&["answer"], &job), answer);
+    }
+}
