@@ -70,6 +70,15 @@ candidate athlete.lastSession.beats
 }
 
 #[test]
+fn the_readme_shows_what_is_said() {
+    let readme = std::fs::read_to_string(repository("README.md")).unwrap();
+    let job = std::fs::read_to_string(repository("examples/no-last-session.job")).unwrap();
+    let shown: String = short(&job).lines().map(|line| format!("    {line}\n")).collect();
+    let command = "    $ bin/scope-deps explain examples/no-last-session.job\n";
+    assert!(readme.contains(&format!("{command}{shown}")), "{shown}");
+}
+
+#[test]
 fn the_tool_shows_it_in_short_and_with_all_in_full() {
     let file = repository("examples/no-last-session.job");
     let job = std::fs::read_to_string(&file).unwrap();

@@ -110,7 +110,7 @@ impl Sets {
             assert!(!bases.is_empty() && bases.len() == replaced.bases.len());
             for (base, &node) in bases.iter().zip(&replaced.bases) {
                 assert!(replay.path(node).same_entries(base), "{job}");
-                assert!(set.contains(&node) || node == replaced.from, "{job}");
+                assert!(set.contains(&node), "{job}");
             }
             set.insert(replaced.to);
         }

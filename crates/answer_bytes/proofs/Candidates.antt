@@ -11,23 +11,36 @@ use Rattle.entries.specs.declared.IdentifierId.{IdentifierId}
 use Rattle.entries.specs.declared.DependencyPathEntry.{DependencyPathEntry}
 use Rattle.entries.specs.declared.Refusal.{Refusal}
 use Rattle.entries.specs.Path.{ReactiveScopeDependency}
-use Rattle.model.specs.Read.{got, refused, readMany}
+use Rattle.model.specs.Lists.{firstFlag, firstFlag}
+use Rattle.model.specs.ReadingBytes.{got, refused, readMany}
 use Rattle.model.specs.Job.{CA, readEntry, readPath}
 use Rattle.model.specs.Sets.{NodeSet}
 use Rattle.model.specs.Registry.{PropertyPathRegistry, fullPathOf}
 use Rattle.model.specs.Forest.{identifierKey, propertyKey, Forest, empty, Found, findKey, childByKey, add, addAll}
-use Rattle.model.specs.Tree.{HoistablePosition, hoistableKey, hoistableTree, atNonNull, DependencyPosition, dependencyKey, mergePosition, rootPosition, walkEntries, walkCandidate, dependencyTree}
+use Rattle.model.specs.Tree.{
+  HoistablePosition,
+  hoistableKey,
+  hoistableTree,
+  atNonNull,
+  DependencyPosition,
+  dependencyKey,
+  mergePosition,
+  rootPosition,
+  walkEntries,
+  walkCandidate,
+  dependencyTree,
+}
 use Rattle.job.specs.Head.{readPathHead}
 use Rattle.job.specs.declared.PathHead.{PathHead}
 use Rattle.job.proofs.Heads.{pathOf}
 use Rattle.job.proofs.Many.{many-first}
 use Rattle.job.proofs.Passing.{not-both}
 use Rattle.job.proofs.RecordParts.{PathParts, path-parts}
-use Rattle.hoistable.specs.Levels.{levelsOf, nonNullLevels, firstLevel, laterLevels, numberOf}
+use Rattle.hoistable.specs.Levels.{levelsOf, nonNullLevels, laterLevels, numberOf}
 use Rattle.hoistable.specs.Candidate.{entriesAt, Candidate}
 use Rattle.hoistable.proofs.Names.{candidate-read}
 use Rattle.hoistable.proofs.Walks.{number-first, number-later}
-use Rattle.tree.specs.Walk.{firstFlag, restFlags, bitsOf, walkBy, pathAt}
+use Rattle.tree.specs.Walk.{restFlags, bitsOf, walkBy, pathAt}
 use Rattle.tree.specs.Tree.{Held, Adds, countIn, forestOf}
 use Rattle.tree.proofs.Caller.{path-at, FlagsAt, walk-by-flags}
 use Rattle.answer_bytes.specs.Answers.{CandidatesAt, AddsCandidates}
@@ -72,7 +85,8 @@ pub record Adding (s : List ℕ) (start count : ℕ) (reg : PropertyPathRegistry
       → (rest : List ReactiveScopeDependency) × (readMany left (readPath 4 CA) s at ≡ got rest end)
       × (addAll dependencyKey mergePosition (forestOf s tree) (map (walkCandidate (treeOf reg set)) rest) ≡ dependencyTree (map (fullPathOf reg) set) cs)
 
-pub adding : (s : List ℕ) (start count : ℕ) (reg : PropertyPathRegistry) (set : NodeSet) (tree : List ℕ) → count ≤ 64 → Held s tree → forestOf s tree ≡ empty → countIn tree ≡ 0
+pub adding : (s : List ℕ) (start count : ℕ) (reg : PropertyPathRegistry) (set : NodeSet) (tree : List ℕ) → count ≤ 64 → Held s tree
+    → forestOf s tree ≡ empty → countIn tree ≡ 0
     → Adding s start count reg set tree start count
 unfolding dependencyTree
 adding s start count reg set tree few held none zero-count = record {
@@ -81,7 +95,8 @@ adding s start count reg set tree few held none zero-count = record {
   on = λ cs end e. (cs, e, ap (λ f. addAll dependencyKey mergePosition f (map (walkCandidate (treeOf reg set)) cs)) none);
 }
 
-module _ {s : List ℕ} {start count : ℕ} {reg : PropertyPathRegistry} {set : NodeSet} {tree : List ℕ} {at left : ℕ} (x : Adding s start count reg set tree at left) (given : CandidatesAt s start count) where
+module _ {s : List ℕ} {start count : ℕ} {reg : PropertyPathRegistry} {set : NodeSet} {tree : List ℕ} {at left : ℕ}
+    (x : Adding s start count reg set tree at left) (given : CandidatesAt s start count) where
   pub adding-end : left ≤ 0 → AddsCandidates s start count reg set tree
   adding-end none = record {
     held = x .held;
@@ -90,15 +105,18 @@ module _ {s : List ℕ} {start count : ℕ} {reg : PropertyPathRegistry} {set : 
         let zero-left : left ≡ 0 = omega arith in
         let nothing : got [] at ≡ got (rest .0) end = subst (λ n. readMany n (readPath 4 CA) s at ≡ got (rest .0) end) zero-left (rest .1) in
         let no : rest .0 ≡ [] = cc in
-        sym (ap (λ (cs : List ReactiveScopeDependency). addAll dependencyKey mergePosition (forestOf s tree) (map (walkCandidate (treeOf reg set)) cs)) no) ∙ rest .2;
+        sym (ap (λ (cs : List ReactiveScopeDependency). addAll dependencyKey mergePosition (forestOf s tree) (map (walkCandidate (treeOf reg set)) cs))
+        no) ∙ rest .2;
   }
 
   module _ (some : 0 < left) where
     rest : (rest : List ReactiveScopeDependency) × (readMany left (readPath 4 CA) s at ≡ got rest (given .end))
-        × (addAll dependencyKey mergePosition (forestOf s tree) (map (walkCandidate (treeOf reg set)) rest) ≡ dependencyTree (map (fullPathOf reg) set) (given .candidates))
+        × (addAll dependencyKey mergePosition (forestOf s tree) (map (walkCandidate (treeOf reg set)) rest) ≡ dependencyTree (map (fullPathOf reg) set)
+        (given .candidates))
     rest = x .on (given .candidates) (given .end) (given .reads)
 
-    first : (d : ReactiveScopeDependency) × (next : ℕ) × (cs : List ReactiveScopeDependency) × (readPath 4 CA s at ≡ got d next) × (readMany (left - 1) (readPath 4 CA) s next ≡ got cs (given .end)) × (d ∷ cs ≡ rest .0)
+    first : (d : ReactiveScopeDependency) × (next : ℕ) × (cs : List ReactiveScopeDependency) × (readPath 4 CA s at ≡ got d next) ×
+        (readMany (left - 1) (readPath 4 CA) s next ≡ got cs (given .end)) × (d ∷ cs ≡ rest .0)
     first = many-first (readPath 4 CA) s left at some (rest .1)
 
     parts : PathParts s CA at (first .0) (first .1)
@@ -149,7 +167,8 @@ module _ {s : List ℕ} {start count : ℕ} {reg : PropertyPathRegistry} {set : 
       identifier-same : first .0 .identifier ≡ head .identifier
       identifier-same = ap (λ (d : ReactiveScopeDependency). d .identifier) (parts .same) ∙ ap (λ (h : PathHead). h .identifier) same-head
 
-      pub adding-more : (levels : ℕ) (after : List ℕ) → levels ≡ numberOf (nonNullLevels reg set (head .identifier) (entriesAt (head .entries) s entriesAt′)) → Adds s tree after (at + 2) levels
+      pub adding-more : (levels : ℕ) (after : List ℕ) → levels ≡ numberOf
+          (nonNullLevels reg set (head .identifier) (entriesAt (head .entries) s entriesAt′)) → Adds s tree after (at + 2) levels
           → Adding s start count reg set after (entriesAt′ + 14 * head .entries) (left - 1)
       adding-more levels after is added = record {
         held = added .held;
@@ -162,8 +181,11 @@ module _ {s : List ℕ} {start count : ℕ} {reg : PropertyPathRegistry} {set : 
             let n-same : one .1 ≡ entriesAt′ + 14 * head .entries = (let n : one .1 ≡ first .1 = cc in n) ∙ sym next-place in (
               one .2,
               subst (λ n. readMany (left - 1) (readPath 4 CA) s n ≡ got (one .2) end) n-same (one .4),
-              ap (λ f. addAll dependencyKey mergePosition f (map (walkCandidate (treeOf reg set)) (one .2))) (walked ∙ ap (λ (d : ReactiveScopeDependency). add dependencyKey mergePosition (forestOf s tree) (walkCandidate (treeOf reg set) d)) (sym d-same))
-                  ∙ ap (λ (cs : List ReactiveScopeDependency). addAll dependencyKey mergePosition (forestOf s tree) (map (walkCandidate (treeOf reg set)) cs)) (one .5)
+              ap (λ f. addAll dependencyKey mergePosition f (map (walkCandidate (treeOf reg set)) (one .2)))
+                  (walked ∙ ap (λ (d : ReactiveScopeDependency). add dependencyKey mergePosition (forestOf s tree) (walkCandidate (treeOf reg set) d))
+                  (sym d-same))
+                  ∙ ap (λ (cs : List ReactiveScopeDependency). addAll dependencyKey mergePosition (forestOf s tree)
+                  (map (walkCandidate (treeOf reg set)) cs)) (one .5)
                   ∙ all .2,
             );
       }
@@ -171,7 +193,11 @@ module _ {s : List ℕ} {start count : ℕ} {reg : PropertyPathRegistry} {set : 
           walked : forestOf s after ≡ add dependencyKey mergePosition (forestOf s tree) (walkCandidate (treeOf reg set) (first .0))
           walked =
               added .is
-              ∙ ap (λ (d : ReactiveScopeDependency). add dependencyKey mergePosition (forestOf s tree) (walkBy (bitsOf 17 levels) (rootPosition d) (d .path))) (path-at s CA at (first .3))
+              ∙ ap (λ (d : ReactiveScopeDependency). add dependencyKey mergePosition (forestOf s tree)
+              (walkBy (bitsOf 17 levels) (rootPosition d) (d .path))) (path-at s CA at (first .3))
               ∙ ap (λ n. add dependencyKey mergePosition (forestOf s tree) (walkBy (bitsOf 17 n) (rootPosition (first .0)) (first .0 .path)))
-              (is ∙ ap (λ (es : List DependencyPathEntry). numberOf (nonNullLevels reg set (head .identifier) es)) (candidate-read few-entries entries-read .1) ∙ ap (λ (i : IdentifierId). numberOf (nonNullLevels reg set i (first .0 .path))) (sym identifier-same))
-              ∙ ap (add dependencyKey mergePosition (forestOf s tree)) (walk-levels reg set (first .0) (let c = parts .entries-count in let f = parts .entries-few in omega arith))
+              (is ∙ ap (λ (es : List DependencyPathEntry). numberOf (nonNullLevels reg set (head .identifier) es))
+              (candidate-read few-entries entries-read .1) ∙ ap (λ (i : IdentifierId). numberOf (nonNullLevels reg set i (first .0 .path)))
+              (sym identifier-same))
+              ∙ ap (add dependencyKey mergePosition (forestOf s tree))
+              (walk-levels reg set (first .0) (let c = parts .entries-count in let f = parts .entries-few in omega arith))

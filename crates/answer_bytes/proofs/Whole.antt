@@ -9,7 +9,7 @@ use lib.ListN.{length, set, length-append}
 use lib.Seq.{sets}
 use Rattle.entries.specs.Path.{ReactiveScopeDependency}
 use Rattle.model.specs.Lists.{concatMap}
-use Rattle.model.specs.Read.{got, readMany}
+use Rattle.model.specs.ReadingBytes.{got, readMany}
 use Rattle.model.specs.Job.{CA, readPath}
 use Rattle.model.specs.Sets.{NodeSet}
 use Rattle.model.specs.Registry.{PropertyPathRegistry, fullPathOf}
@@ -41,7 +41,8 @@ head-length count rounds settled =
 -- The paths that the tree's words hold are the returned ones, and have their room.
 
 module _ {s : List ℕ} {start count : ℕ} {reg : PropertyPathRegistry} {nodes : NodeSet} {tree : List ℕ} (x : AddsCandidates s start count reg nodes tree) where
-  returned-are : (cs : List ReactiveScopeDependency) (end : ℕ) → readMany count (readPath 4 CA) s start ≡ got cs end → returnedOf s tree ≡ deriveMinimalDependencies (map (fullPathOf reg) nodes) cs
+  returned-are : (cs : List ReactiveScopeDependency) (end : ℕ) → readMany count (readPath 4 CA) s start ≡ got cs end
+      → returnedOf s tree ≡ deriveMinimalDependencies (map (fullPathOf reg) nodes) cs
   unfolding returnedOf deriveMinimalDependencies
   returned-are cs end e = ap (λ (f : Forest DependencyPosition). map dependencyOf (firsts isDependency f)) (x .is cs end e)
 
@@ -65,31 +66,38 @@ set-apart (a ∷ l) (suc i) (suc j) x y n = ap (λ (t : List ℕ). a ∷ t) (set
 
 set-before : (vs l : List ℕ) (k i x : ℕ) → i < k → set (sets l k vs) i x ≡ sets (set l i x) k vs
 set-before [] l k i x h = refl
-set-before (v ∷ vs) l k i x h = set-before vs (set l k v) (suc k) i x (omega arith) ∙ ap (λ (t : List ℕ). sets t (suc k) vs) (set-apart l k i v x (λ e. omega arith))
+set-before (v ∷ vs) l k i x h = set-before vs (set l k v) (suc k) i x (omega arith) ∙ ap (λ (t : List ℕ). sets t (suc k) vs)
+    (set-apart l k i v x (λ e. omega arith))
 
 sets-before : (us vs l : List ℕ) (k i : ℕ) → i + length us ≤ k → sets (sets l k vs) i us ≡ sets (sets l i us) k vs
 sets-before [] vs l k i h = refl
-sets-before (u ∷ us) vs l k i h = ap (λ (t : List ℕ). sets t (suc i) us) (set-before vs l k i u (omega arith)) ∙ sets-before us vs (set l i u) k (suc i) (omega arith)
+sets-before (u ∷ us) vs l k i h = ap (λ (t : List ℕ). sets t (suc i) us) (set-before vs l k i u (omega arith)) ∙ sets-before us vs (set l i u) k (suc i)
+    (omega arith)
 
-pub head-before : {a b c : List ℕ} {head rest : List ℕ} {next end : ℕ} → length head ≡ 6 → Writes a b 6 rest end → Writes b c 0 head next → Writes a c 0 (head ++ rest) end
+pub head-before : {a b c : List ℕ} {head rest : List ℕ} {next end : ℕ} → length head ≡ 6 → Writes a b 6 rest end → Writes b c 0 head next → Writes a c 0
+    (head ++ rest) end
 head-before {a} {b} {c} {head} {rest} {next} {end} six w h =
     let first : Writes a (sets a 0 head) 0 head 6 = record { is = refl; ends = sym six ∙ (let z : length head ≡ 0 + length head = omega arith in z) } in
-    let second : Writes (sets a 0 head) c 6 rest end = record { is = h .is ∙ ap (λ (l : List ℕ). sets l 0 head) (w .is) ∙ sets-before head rest a 6 0 (omega arith); ends = w .ends } in
+    let second : Writes (sets a 0 head) c 6 rest end = record
+    { is = h .is ∙ ap (λ (l : List ℕ). sets l 0 head) (w .is) ∙ sets-before head rest a 6 0 (omega arith); ends = w .ends } in
     writes-then first second
 
 -- The whole.
-pub answer-written : {s : List ℕ} {start count : ℕ} {reg : PropertyPathRegistry} {nodes : NodeSet} {tree : List ℕ} → AddsCandidates s start count reg nodes tree → CandidatesAt s start count
+pub answer-written : {s : List ℕ} {start count : ℕ} {reg : PropertyPathRegistry} {nodes : NodeSet} {tree : List ℕ}
+    → AddsCandidates s start count reg nodes tree → CandidatesAt s start count
     → {a b c : List ℕ} → 24576 ≤ length a → {done : Written} (rounds : ℕ) (settled : Bool) {next : ℕ}
     → Derives (returnedOf s tree) a b (record { at = 6; count = 0 }) done → Writes b c 0 (headBytes (done .count) rounds settled) next
     → (cs : List ReactiveScopeDependency) (end : ℕ) → readMany count (readPath 4 CA) s start ≡ got cs end
-    → Writes a c 0 (answerOver (deriveMinimalDependencies (map (fullPathOf reg) nodes) cs) rounds settled) (done .at) × (length (answerOver (deriveMinimalDependencies (map (fullPathOf reg) nodes) cs) rounds settled) ≤ length a)
+    → Writes a c 0 (answerOver (deriveMinimalDependencies (map (fullPathOf reg) nodes) cs) rounds settled) (done .at) ×
+    (length (answerOver (deriveMinimalDependencies (map (fullPathOf reg) nodes) cs) rounds settled) ≤ length a)
 answer-written {s} {reg = reg} {nodes = nodes} {tree = tree} x given {a} wide {done} rounds settled d h cs end e =
     let counted : done .count ≡ length (returnedOf s tree) = d .counts ∙ zero-add (length (returnedOf s tree)) in
     let head = writes-as (ap (λ n. headBytes n rounds settled) counted) h in
     let same = returned-are x cs end e in
     let bytes = concatMap (pathBytes 4 DE) (returnedOf s tree) in
     let six = head-length (length (returnedOf s tree)) rounds settled in
-    let fits : length (answerOver (returnedOf s tree) rounds settled) ≤ length a = omega (arith, length-append (headBytes (length (returnedOf s tree)) rounds settled) bytes, six, paths-fit x given a wide) in (
+    let fits : length (answerOver (returnedOf s tree) rounds settled) ≤ length a = omega
+    (arith, length-append (headBytes (length (returnedOf s tree)) rounds settled) bytes, six, paths-fit x given a wide) in (
       writes-as (ap (λ (ds : List ReactiveScopeDependency). answerOver ds rounds settled) same) (head-before six (d .writes) head),
       subst (λ (ds : List ReactiveScopeDependency). length (answerOver ds rounds settled) ≤ length a) same fits,
     )

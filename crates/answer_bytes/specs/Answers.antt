@@ -6,7 +6,7 @@ use mathlib.Core.List.{List, _++_, map}
 use lib.ListN.{length}
 use Rattle.entries.specs.Path.{ReactiveScopeDependency}
 use Rattle.model.specs.Lists.{concatMap}
-use Rattle.model.specs.Read.{got, readMany}
+use Rattle.model.specs.ReadingBytes.{got, readMany}
 use Rattle.model.specs.Job.{CA, readPath}
 use Rattle.model.specs.Sets.{NodeSet}
 use Rattle.model.specs.Registry.{PropertyPathRegistry, fullPathOf}
@@ -26,7 +26,8 @@ pub record CandidatesAt (s : List ℕ) (start count : ℕ) : Type 0 where
 -- The words hold the dependency tree of the candidates, in the hoistable tree of a set of nodes.
 pub record AddsCandidates (s : List ℕ) (start count : ℕ) (reg : PropertyPathRegistry) (set : NodeSet) (tree : List ℕ) : Type 0 where
   pub held : Held s tree
-  pub is : (cs : List ReactiveScopeDependency) (end : ℕ) → readMany count (readPath spanWidth CA) s start ≡ got cs end → forestOf s tree ≡ dependencyTree (map (fullPathOf reg) set) cs
+  pub is : (cs : List ReactiveScopeDependency) (end : ℕ) → readMany count (readPath spanWidth CA) s start ≡ got cs end
+      → forestOf s tree ≡ dependencyTree (map (fullPathOf reg) set) cs
 
 -- "AN, count u16, rounds u8, settled u8 (1 or 0)."
 abbrev pub headBytes : ℕ → ℕ → Bool → List ℕ
@@ -40,4 +41,5 @@ answerOver returned rounds settled = headBytes (length returned) rounds settled 
 abbrev pub WritesAnswer : List ℕ → ℕ → ℕ → PropertyPathRegistry → NodeSet → ℕ → Bool → List ℕ → List ℕ → ℕ → Type 0
 WritesAnswer s start count reg set rounds settled before after next =
     (cs : List ReactiveScopeDependency) (end : ℕ) → readMany count (readPath spanWidth CA) s start ≡ got cs end
-    → let bytes = answerOver (deriveMinimalDependencies (map (fullPathOf reg) set) cs) rounds settled in Writes before after 0 bytes next × (length bytes ≤ length before)
+    → let bytes = answerOver (deriveMinimalDependencies (map (fullPathOf reg) set) cs) rounds settled in Writes before after 0 bytes
+    next × (length bytes ≤ length before)

@@ -1,5 +1,5 @@
-// The answer's bytes: each candidate walks and is added to the dependency tree, and the returned paths are written behind the answer's
-// head.
+// The answer's bytes: each candidate walks and is added to the dependency tree, and the returned
+// paths are written behind the answer's head.
 ghost use mathlib.Core.Path.{_≡_};
 ghost use Prim.Native.Nat.{_≤_, _<_};
 ghost use lib.ListN.{length};
@@ -17,7 +17,8 @@ use writer::put_number;
 // The mark of an answer.
 pub const AN: u64 = 0x4E41;
 
-// The dependency tree of the candidates from a place on, whatever the words were; `set` is the scope block's.
+// The dependency tree of the candidates from a place on, whatever the words were; `set` is the
+// scope block's.
 fn add_candidates(
     tree: &mut [u64; 1089],
     s: &[u8],
@@ -26,8 +27,10 @@ fn add_candidates(
     start: usize,
     count: usize,
 )
-    requires { ⌜ (length (now tree) ≡ 1089) × HoldsRegistry (now ws) × Members (registryOf (now ws)) (membersOf (set .words)) × CandidatesAt (now s) start count ⌝ }
-    ensures { λ _. ⌜ AddsCandidates (now (s .entry)) start count (registryOf (now (ws .entry))) (membersOf (set .words)) (now (tree .exit)) ⌝ }
+    requires { ⌜ (length (now tree) ≡ 1089) × HoldsRegistry (now ws) × Members (registryOf (now ws)) (membersOf (set .words))
+        × CandidatesAt (now s) start count ⌝ }
+    ensures { λ _. ⌜ AddsCandidates (now (s .entry)) start count (registryOf (now (ws .entry))) (membersOf (set .words))
+        (now (tree .exit)) ⌝ }
 {
     tree::clear(tree);
     let mut at = start;
@@ -57,7 +60,8 @@ fn put_head(out: &mut [u8], count: usize, rounds: u8, settled: bool) -> usize
     put_number(out, settled_at, 1, flag(settled))
 }
 
-// The whole answer, from the buffer's start on. The head is written last, since it has the number of returned paths.
+// The whole answer, from the buffer's start on. The head is written last, since it has the number
+// of returned paths.
 pub fn put_answer(
     s: &[u8],
     ws: &[u64; 1665],
@@ -68,8 +72,10 @@ pub fn put_answer(
     settled: bool,
     out: &mut [u8],
 ) -> usize
-    requires { ⌜ HoldsRegistry (now ws) × Members (registryOf (now ws)) (membersOf (set .words)) × CandidatesAt (now s) start count × (leastBuffer ≤ length (now out)) ⌝ }
-    ensures { λ r. ⌜ WritesAnswer (now (s .entry)) start count (registryOf (now (ws .entry))) (membersOf (set .words)) rounds settled (now (out .entry)) (now (out .exit)) r ⌝ }
+    requires { ⌜ HoldsRegistry (now ws) × Members (registryOf (now ws)) (membersOf (set .words)) × CandidatesAt (now s) start count
+        × (leastBuffer ≤ length (now out)) ⌝ }
+    ensures { λ r. ⌜ WritesAnswer (now (s .entry)) start count (registryOf (now (ws .entry)))
+        (membersOf (set .words)) rounds settled (now (out .entry)) (now (out .exit)) r ⌝ }
 {
     let mut tree = [0u64; 1089];
     add_candidates(&mut tree, s, ws, set, start, count);

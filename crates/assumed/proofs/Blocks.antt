@@ -1,4 +1,5 @@
--- A block's assumed paths by the parts of its record, and the blocks that are left: what starts from them after those before starts the whole.
+-- A block's assumed paths by the parts of its record, and the blocks that are left: what starts
+-- from them after those before starts the whole.
 use Prim.Native.Nat.{ℕ, zero, suc, _+_, _*_, _≤_, _<_}
 use native.Mathlib.Omega.{arith}
 use native.Mathlib.Nat.{zero-add}
@@ -9,12 +10,12 @@ use lib.ListN.{length, getD, set, drop, drop-of-length-le}
 use lib.Seq.{getD-set-same}
 use Rattle.entries.specs.declared.Refusal.{Refusal}
 use Rattle.entries.specs.Path.{ReactiveScopeDependency}
-use Rattle.model.specs.Read.{Read, got, refused, readMany}
+use Rattle.model.specs.ReadingBytes.{Read, got, refused, readMany}
 use Rattle.model.specs.Job.{PA, Block, readBlockId, readPath, readBlock}
 use Rattle.model.specs.Sets.{NodeSet}
 use Rattle.model.specs.Registry.{nodeLimit, PropertyPathRegistry}
 use Rattle.model.specs.RegistryLaws.{Extends, extends-refl, extends-trans, extends-length}
-use Rattle.model.specs.Stage.{Entered, Started, enterPaths, enterBlock, enterBlocks}
+use Rattle.model.specs.Stage.{PathsEntered, Started, enterPaths, enterBlock, enterBlocks}
 use Rattle.registry.specs.Words.{registryOf, Held}
 use Rattle.rows.specs.Members.{membersOf}
 use Rattle.rows.specs.Rows.{Lent, RowSet, rowOf, rowsFrom, rowsOf}
@@ -57,7 +58,8 @@ module _ (s : List ℕ) (at : ℕ) (b : Block) (end : ℕ) (read : readBlock 4 s
     pub ids-there : {r : Refusal} → passed (readMany (head .predecessors) readBlockId s idsAt) ≡ refused r → ⊥
     ids-there e = not-both (ap passed ids-read) e
 
-    pub paths-there : {pathsAt : ℕ} → passed (readMany (head .predecessors) readBlockId s idsAt) ≡ got tt pathsAt → readMany (head .assumed) (readPath 4 PA) s pathsAt ≡ got (b .assumed) end
+    pub paths-there : {pathsAt : ℕ} → passed (readMany (head .predecessors) readBlockId s idsAt) ≡ got tt pathsAt
+        → readMany (head .assumed) (readPath 4 PA) s pathsAt ≡ got (b .assumed) end
     paths-there {pathsAt} e =
         let both : got tt pathsAt ≡ got tt ids-end = sym e ∙ ap passed ids-read in
         let there : ids-end ≡ pathsAt = cc in
@@ -96,15 +98,21 @@ row-more entry exit b s x =
     let one : b + 1 ≡ suc b = omega arith in
     let size = rows-count entry b in
     let wide = rows-count entry (suc b) in
-    let this : rowOf exit b ≡ s = sym (row-at exit (suc b) b (omega arith)) ∙ ap (λ (l : List NodeSet). getD l b []) (x .rows (suc b)) ∙ getD-set-same (rowsOf entry (suc b)) b s [] (omega arith) in
+    let this : rowOf exit b ≡ s =
+    sym (row-at exit (suc b) b (omega arith)) ∙ ap (λ (l : List NodeSet). getD l b []) (x .rows (suc b))
+    ∙ getD-set-same (rowsOf entry (suc b)) b s [] (omega arith) in
     let others : rowsOf exit b ≡ rowsOf entry b = x .rows b ∙ set-behind (rowsOf entry b) b s (omega arith) in
-    ap (rowsOf exit) one ∙ rows-more exit 0 b ∙ ap (λ (l : List NodeSet). l ++ (rowOf exit (0 + b) ∷ [])) others ∙ ap (λ t. rowsOf entry b ++ (t ∷ [])) (ap (rowOf exit) (zero-add b) ∙ this)
+    ap (rowsOf exit) one ∙ rows-more exit 0 b ∙ ap (λ (l : List NodeSet). l ++ (rowOf exit (0 + b) ∷ [])) others
+    ∙ ap (λ t. rowsOf entry b ++ (t ∷ [])) (ap (rowOf exit) (zero-add b) ∙ this)
 
 -- the first of the blocks that are left is entered, and its set stands last of those before
-one-more : (front more : List NodeSet) (e : Entered) (reg : PropertyPathRegistry) (s : NodeSet) (bs cs : List Block) → e ≡ record { registry = reg; set = s } → more ≡ front ++ (s ∷ []) → bs ≡ cs
-    → after front (record { registry = enterBlocks (e .registry) bs .registry; sets = e .set ∷ enterBlocks (e .registry) bs .sets }) ≡ after more (enterBlocks reg cs)
+one-more : (front more : List NodeSet) (e : PathsEntered) (reg : PropertyPathRegistry) (s : NodeSet) (bs cs : List Block)
+    → e ≡ record { registry = reg; set = s }
+    → more ≡ front ++ (s ∷ []) → bs ≡ cs
+    → after front (record { registry = enterBlocks (e .registry) bs .registry; sets = e .set ∷ enterBlocks (e .registry) bs .sets })
+    ≡ after more (enterBlocks reg cs)
 one-more front more e reg s bs cs is stored same =
-    ap (λ (e : Entered). after front (record { registry = enterBlocks (e .registry) bs .registry; sets = e .set ∷ enterBlocks (e .registry) bs .sets })) is
+    ap (λ (e : PathsEntered). after front (record { registry = enterBlocks (e .registry) bs .registry; sets = e .set ∷ enterBlocks (e .registry) bs .sets })) is
     ∙ ap (λ (l : List NodeSet). record { registry = enterBlocks reg bs .registry; sets = l }) (sym (append-assoc front (s ∷ []) (enterBlocks reg bs .sets)))
     ∙ ap (λ (l : List NodeSet). after l (enterBlocks reg bs)) (sym stored)
     ∙ ap (λ bs. after more (enterBlocks reg bs)) same
@@ -137,15 +145,19 @@ module _ {s : List ℕ} {n : ℕ} {places : List ℕ} (job : PlacedJob s n place
         record {
           held = x .held;
           lent = x .lent;
-          same = x .same ∙ ap (λ bs. after (rowsOf sets b) (enterBlocks (registryOf ws) bs)) gone ∙ ap (λ (l : List NodeSet). record { registry = registryOf ws; sets = l }) (append-nil (rowsOf sets b) ∙ ap (rowsOf sets) all);
+          same =
+              x .same ∙ ap (λ bs. after (rowsOf sets b) (enterBlocks (registryOf ws) bs)) gone
+              ∙ ap (λ (l : List NodeSet). record { registry = registryOf ws; sets = l }) (append-nil (rowsOf sets b) ∙ ap (rowsOf sets) all);
         }
 
     module _ (some : b < n) (r : EnteredSet) (us ps : List ℕ) (entered : Fills (enterPaths (registryOf ws) [] (assumedAt s (getD places b 0))) r us ps) where
       -- the block that is entered, and what that does to the whole
-      next-block : (a : Block) × (enterBlocks [] (blocksOf s) ≡ after (rowsOf sets b) (enterBlocks (registryOf ws) (a ∷ drop (suc b) (blocksOf s)))) × Fills (enterBlock (registryOf ws) a) r us ps
+      next-block : (a : Block) × (enterBlocks [] (blocksOf s) ≡ after (rowsOf sets b) (enterBlocks (registryOf ws) (a ∷ drop (suc b) (blocksOf s))))
+          × Fills (enterBlock (registryOf ws) a) r us ps
       next-block =
           let t = block-there (job .job) (job .blocks) b some in
-          let here : drop b (blocksOf s) ≡ t .0 ∷ drop (suc b) (blocksOf s) = subst (λ (bs : List Block). drop b bs ≡ t .0 ∷ drop (suc b) bs) (sym (blocks-read (job .job) (job .blocks))) (t .3) in (
+          let here : drop b (blocksOf s) ≡ t .0 ∷ drop (suc b) (blocksOf s) =
+          subst (λ (bs : List Block). drop b bs ≡ t .0 ∷ drop (suc b) bs) (sym (blocks-read (job .job) (job .blocks))) (t .3) in (
             t .0,
             x .same ∙ ap (λ bs. after (rowsOf sets b) (enterBlocks (registryOf ws) bs)) here,
             subst (λ (ds : List ReactiveScopeDependency). Fills (enterPaths (registryOf ws) [] ds) r us ps) (assumed-are s (getD places b 0) (t .2)) entered,
@@ -155,7 +167,8 @@ module _ {s : List ℕ} {n : ℕ} {places : List ℕ} (job : PlacedJob s n place
       unfolding enterBlocks
       starting-full e =
           let t = next-block in
-          let f : nodeLimit < length (enterBlock (registryOf ws) (t .0) .registry) = subst (λ f. FillsBy f (enterBlock (registryOf ws) (t .0)) r us ps) e (t .2) in
+          let f : nodeLimit < length (enterBlock (registryOf ws) (t .0) .registry) =
+          subst (λ f. FillsBy f (enterBlock (registryOf ws) (t .0)) r us ps) e (t .2) in
           let longer = extends-length (blocks-extend (enterBlock (registryOf ws) (t .0) .registry) (drop (suc b) (blocksOf s))) in
           subst (λ (st : Started). nodeLimit < length (st .registry)) (sym (t .1)) (omega arith)
 
@@ -163,13 +176,15 @@ module _ {s : List ℕ} {n : ℕ} {places : List ℕ} (job : PlacedJob s n place
       unfolding enterBlocks
       starting-more e more stored =
           let t = next-block in
-          let is : Held us ps × (enterBlock (registryOf ws) (t .0) ≡ record { registry = registryOf us; set = membersOf (r .set .words) }) = subst (λ f. FillsBy f (enterBlock (registryOf ws) (t .0)) r us ps) e (t .2) in
+          let is : Held us ps × (enterBlock (registryOf ws) (t .0) ≡ record { registry = registryOf us; set = membersOf (r .set .words) }) =
+          subst (λ f. FillsBy f (enterBlock (registryOf ws) (t .0)) r us ps) e (t .2) in
           record {
             held = is .0;
             lent = stored .lent;
             below = omega arith;
             same =
                 t .1
-                ∙ one-more (rowsOf sets b) (rowsOf more (b + 1)) (enterBlock (registryOf ws) (t .0)) (registryOf us) (membersOf (r .set .words)) (drop (suc b) (blocksOf s)) (drop (b + 1) (blocksOf s)) (is .1)
+                ∙ one-more (rowsOf sets b) (rowsOf more (b + 1)) (enterBlock (registryOf ws) (t .0)) (registryOf us) (membersOf (r .set .words))
+                (drop (suc b) (blocksOf s)) (drop (b + 1) (blocksOf s)) (is .1)
                 (row-more sets more b (membersOf (r .set .words)) stored) (let next : suc b ≡ b + 1 = omega arith in ap (λ k. drop k (blocksOf s)) next);
           }

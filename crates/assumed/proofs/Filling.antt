@@ -6,12 +6,12 @@ use mathlib.Core.List.{List, [], _∷_}
 use lib.ListN.{length}
 use Rattle.entries.specs.declared.NodeId.{NodeId}
 use Rattle.entries.specs.Path.{ReactiveScopeDependency}
-use Rattle.model.specs.Read.{Read, got, refused, readMany}
+use Rattle.model.specs.ReadingBytes.{Read, got, refused, readMany}
 use Rattle.model.specs.Job.{PA, readPath}
 use Rattle.model.specs.Sets.{NodeSet, insert}
 use Rattle.model.specs.Registry.{nodeLimit, PropertyPathRegistry, Reached, ownMark, getOrCreateProperty}
 use Rattle.model.specs.RegistryLaws.{Extends, extends-refl, extends-trans, extends-length, path-extends, path-proper}
-use Rattle.model.specs.Stage.{Entered, enterPaths}
+use Rattle.model.specs.Stage.{PathsEntered, enterPaths}
 use Rattle.registry.specs.Words.{registryOf, Held}
 use Rattle.registry.proofs.View.{registry-length}
 use Rattle.rows.specs.Members.{membersOf}
@@ -37,12 +37,14 @@ entered-at : {A : Type 0} (x : Read A) (reach : A → Reached) (k : NodeId) (n :
 entered-at (got a m) reach k n ws os h = (a, ap (got a) (sym (h .1)), h .0 .0, h .0 .1)
 entered-at (refused r) reach k n ws os h = absurd h
 
-entered-full : {A : Type 0} (x : Read A) (reach : A → Reached) (ws os : List ℕ) → Enters x reach path.Full ws os → {a : A} {n : ℕ} → x ≡ got a n → nodeLimit < length (reach a .registry)
+entered-full : {A : Type 0} (x : Read A) (reach : A → Reached) (ws os : List ℕ) → Enters x reach path.Full ws os → {a : A} {n : ℕ} → x ≡ got a n
+    → nodeLimit < length (reach a .registry)
 entered-full x reach ws os h {a} {n} e = subst (λ y. Enters y reach path.Full ws os) e h
 
 -- The paths that are left.
 
-next-path : (reg more : PropertyPathRegistry) (s t : NodeSet) (es rest : List ReactiveScopeDependency) (c d : ReactiveScopeDependency) (k : NodeId) → c ∷ rest ≡ es → c ≡ d
+next-path : (reg more : PropertyPathRegistry) (s t : NodeSet) (es rest : List ReactiveScopeDependency) (c d : ReactiveScopeDependency) (k : NodeId)
+    → c ∷ rest ≡ es → c ≡ d
     → getOrCreateProperty reg d ≡ record { registry = more; node = k } → t ≡ insert k s → enterPaths reg s es ≡ enterPaths more t rest
 next-path reg more s t es rest c d k all same reached inserted =
     ap (enterPaths reg s) (sym all)
@@ -50,7 +52,7 @@ next-path reg more s t es rest c d k all same reached inserted =
     ∙ ap (λ u. enterPaths more u rest) (sym inserted)
 
 -- The paths that are left were read, and entering them after those before gives what is wanted.
-pub record Filling (want : Entered) (s ws os set : List ℕ) (at left : ℕ) : Type 0 where
+pub record Filling (want : PathsEntered) (s ws os set : List ℕ) (at left : ℕ) : Type 0 where
   pub held : Held ws os
   pub rest : List ReactiveScopeDependency
   pub end : ℕ
@@ -58,21 +60,25 @@ pub record Filling (want : Entered) (s ws os set : List ℕ) (at left : ℕ) : T
   pub same : want ≡ enterPaths (registryOf ws) (membersOf set) rest
 
 -- the paths that were read
-pub paths-are : (s : List ℕ) (start count : ℕ) {ds : List ReactiveScopeDependency} {end : ℕ} → readMany count (readPath 4 PA) s start ≡ got ds end → pathsAt s start count ≡ ds
+pub paths-are : (s : List ℕ) (start count : ℕ) {ds : List ReactiveScopeDependency} {end : ℕ} → readMany count (readPath 4 PA) s start ≡ got ds end
+    → pathsAt s start count ≡ ds
 unfolding pathsAt
 paths-are s start count e = ap (λ (x : Read (List ReactiveScopeDependency)). orNone x (λ ds end. ds)) e
 
-pub filling : (reg : PropertyPathRegistry) (s ws os set : List ℕ) (start count : ℕ) → Held ws os → registryOf ws ≡ reg → membersOf set ≡ [] → IsRead (readMany count (readPath 4 PA) s start)
+pub filling : (reg : PropertyPathRegistry) (s ws os set : List ℕ) (start count : ℕ) → Held ws os → registryOf ws ≡ reg → membersOf set ≡ []
+    → IsRead (readMany count (readPath 4 PA) s start)
     → Filling (enterPaths reg [] (pathsAt s start count)) s ws os set start count
 filling reg s ws os set start count held is none x = record {
   held = held;
   rest = x .value;
   end = x .next;
   read = x .read;
-  same = ap (enterPaths reg []) (paths-are s start count (x .read)) ∙ ap (λ reg. enterPaths reg [] (x .value)) (sym is) ∙ ap (λ t. enterPaths (registryOf ws) t (x .value)) (sym none);
+  same =
+      ap (enterPaths reg []) (paths-are s start count (x .read)) ∙ ap (λ reg. enterPaths reg [] (x .value)) (sym is)
+      ∙ ap (λ t. enterPaths (registryOf ws) t (x .value)) (sym none);
 }
 
-module _ {want : Entered} {s ws os set : List ℕ} {at left : ℕ} (x : Filling want s ws os set at left) where
+module _ {want : PathsEntered} {s ws os set : List ℕ} {at left : ℕ} (x : Filling want s ws os set at left) where
   pub filling-end : left ≤ 0 → Held ws os × (want ≡ record { registry = registryOf ws; set = membersOf set })
   filling-end none =
       let zero-left : left ≡ 0 = omega arith in

@@ -5,7 +5,7 @@ use mathlib.Core.Bool.{Bool, true, false}
 use mathlib.Core.List.{List}
 use lib.ListN.{length}
 use Rattle.entries.specs.Path.{ReactiveScopeDependency}
-use Rattle.model.specs.Read.{readMany}
+use Rattle.model.specs.ReadingBytes.{readMany}
 use Rattle.model.specs.Job.{PA, Block, readPath, readBlock}
 use Rattle.model.specs.Answer.{spanWidth}
 use Rattle.model.specs.Registry.{nodeLimit}
@@ -15,8 +15,8 @@ use Rattle.rows.specs.Rows.{Lent, rowsOf}
 use Rattle.registry.specs.Words.{registryOf, Held}
 use Rattle.job.specs.Passing.{orNone}
 use Rattle.assumed.specs.declared.EnteredSet.{EnteredSet}
-use Rattle.assumed.specs.declared.Entered.{Entered}
-use Rattle.assumed.specs.declared.Entered.the-variants.{All, Full}
+use Rattle.assumed.specs.declared.BlocksEntered.{BlocksEntered}
+use Rattle.assumed.specs.declared.BlocksEntered.the-variants.{All, Full}
 
 -- so many assumed paths from a place on
 unfoldable pub pathsAt : List ℕ → ℕ → ℕ → List ReactiveScopeDependency
@@ -28,13 +28,14 @@ unfoldable pub assumedAt : List ℕ → ℕ → List ReactiveScopeDependency
 unfolding readBlock
 assumedAt s at = orNone (readBlock spanWidth s at) (λ (b : Block) end. b .assumed)
 
--- The words hold the registry that the paths lead to, and the set is that of their nodes; or that registry has no room.
-abbrev pub FillsBy : Bool → stage.Entered → EnteredSet → List ℕ → List ℕ → Type 0
+-- The words hold the registry that the paths lead to, and the set is that of their nodes; or that
+-- registry has no room.
+abbrev pub FillsBy : Bool → stage.PathsEntered → EnteredSet → List ℕ → List ℕ → Type 0
 FillsBy true want r ws os = nodeLimit < length (want .registry)
 FillsBy false want r ws os = Held ws os × (want ≡ record { registry = registryOf ws; set = membersOf (r .set .words) })
 
 -- The same, by whether the code says that there was no room.
-abbrev pub Fills : stage.Entered → EnteredSet → List ℕ → List ℕ → Type 0
+abbrev pub Fills : stage.PathsEntered → EnteredSet → List ℕ → List ℕ → Type 0
 Fills want r ws os = FillsBy (r .full) want r ws os
 
 -- The words hold the registry, and the first n rows the sets, with which propagation starts.
@@ -44,6 +45,6 @@ pub record StartHeld (want : stage.Started) (n : ℕ) (ws os sets : List ℕ) : 
   pub same : want ≡ record { registry = registryOf ws; sets = rowsOf sets n }
 
 -- "All assumed paths are entered first, in job order": that, or that the registry has no room.
-abbrev pub Starts : stage.Started → ℕ → Entered → List ℕ → List ℕ → List ℕ → Type 0
+abbrev pub Starts : stage.Started → ℕ → BlocksEntered → List ℕ → List ℕ → List ℕ → Type 0
 Starts want n All ws os sets = StartHeld want n ws os sets
 Starts want n Full ws os sets = nodeLimit < length (want .registry)

@@ -1,9 +1,10 @@
-// All assumed paths of a job entered into the registry, straight from its bytes, and each block's set of them stored in its row.
+// All assumed paths of a job entered into the registry, straight from its bytes, and each block's
+// set of them stored in its row.
 ghost use mathlib.Core.List.{[]};
 ghost use Prim.Native.Nat.{_≤_};
 ghost use Rattle.rows.specs.Rows.{Lent};
 ghost use Rattle.registry.specs.Words.{registryOf, Held, HoldsNone};
-ghost use Rattle.model.specs.Read.{readMany};
+ghost use Rattle.model.specs.ReadingBytes.{readMany};
 ghost use Rattle.model.specs.Job.{PA, readPath, readBlock};
 ghost use Rattle.model.specs.Answer.{spanWidth};
 ghost use Rattle.model.specs.Stage.{enterPaths, enterBlocks};
@@ -30,7 +31,8 @@ fn enter_paths(
     optional: &mut [u64; 8],
 ) -> EnteredSet
     requires { ⌜ Held (now ws) (now optional) × IsRead (readMany count (readPath spanWidth PA) (now s) start) ⌝ }
-    ensures { λ r. ⌜ Fills (enterPaths (registryOf (now (ws .entry))) [] (pathsAt (now (s .entry)) start count)) r (now (ws .exit)) (now (optional .exit)) ⌝ }
+    ensures { λ r. ⌜ Fills (enterPaths (registryOf (now (ws .entry))) [] (pathsAt (now (s .entry)) start count)) r (now (ws .exit))
+        (now (optional .exit)) ⌝ }
 {
     let mut set = NodeBits::empty();
     let mut at = start;
@@ -50,7 +52,8 @@ fn enter_paths(
 // The assumed paths of the block at a place, which was read before.
 fn enter_block(s: &[u8], at: usize, ws: &mut [u64; 1665], optional: &mut [u64; 8]) -> EnteredSet
     requires { ⌜ Held (now ws) (now optional) × IsRead (readBlock spanWidth (now s) at) ⌝ }
-    ensures { λ r. ⌜ Fills (enterPaths (registryOf (now (ws .entry))) [] (assumedAt (now (s .entry)) at)) r (now (ws .exit)) (now (optional .exit)) ⌝ }
+    ensures { λ r. ⌜ Fills (enterPaths (registryOf (now (ws .entry))) [] (assumedAt (now (s .entry)) at)) r (now (ws .exit))
+        (now (optional .exit)) ⌝ }
 {
     // A block that was read has its head and its ids, so this is never the answer.
     let never = EnteredSet {
@@ -69,12 +72,13 @@ fn enter_block(s: &[u8], at: usize, ws: &mut [u64; 1665], optional: &mut [u64; 8
 }
 
 // Whether all assumed paths were entered, or the registry had no room.
-pub enum Entered {
+pub enum BlocksEntered {
     All,
     Full,
 }
 
-// The assumed paths of all blocks of the job that was read, in job order, into a registry that starts with no node.
+// The assumed paths of all blocks of the job that was read, in job order, into a registry that
+// starts with no node.
 pub fn enter_blocks(
     s: &[u8],
     places: &[usize; 128],
@@ -82,19 +86,20 @@ pub fn enter_blocks(
     ws: &mut [u64; 1665],
     optional: &mut [u64; 8],
     sets: &mut [u64; 1024],
-) -> Entered
+) -> BlocksEntered
     requires { ⌜ PlacedJob (now s) blocks (now places) × (blocks ≤ 128) × HoldsNone (now ws) (now optional) × Lent (now sets) ⌝ }
-    ensures { λ r. ⌜ Starts (enterBlocks [] (blocksOf (now (s .entry)))) blocks r (now (ws .exit)) (now (optional .exit)) (now (sets .exit)) ⌝ }
+    ensures { λ r. ⌜ Starts (enterBlocks [] (blocksOf (now (s .entry)))) blocks r (now (ws .exit)) (now (optional .exit))
+        (now (sets .exit)) ⌝ }
 {
     let mut b: usize = 0;
     while b < blocks {
         let at = places[b];
         let entered = enter_block(s, at, ws, optional);
         if entered.full {
-            return Entered::Full;
+            return BlocksEntered::Full;
         }
         rows::set_row(sets, b, entered.set);
         b += 1;
     }
-    Entered::All
+    BlocksEntered::All
 }

@@ -1,4 +1,5 @@
--- Rows of predecessors, one block after the other: a row that is stored leaves the rows before it and all behind the rows as they were.
+-- Rows of predecessors, one block after the other: a row that is stored leaves the rows before it
+-- and all behind the rows as they were.
 use Prim.Native.Nat.{ℕ, zero, suc, _+_, _*_, _≤_, _<_}
 use native.Mathlib.Omega.{arith}
 use native.Mathlib.Decide.{ℕ-discrete}
@@ -7,7 +8,7 @@ use mathlib.Core.Logic.{_⊎_, inl, inr}
 use mathlib.Core.List.{List, [], _∷_}
 use lib.ListN.{length, getD, set, length-set}
 use lib.Seq.{sets, length-sets, getD-set-same, getD-set-other}
-use Rattle.model.specs.Read.{Read, got, refused}
+use Rattle.model.specs.ReadingBytes.{Read, got, refused}
 use Rattle.model.specs.Job.{readBlockId}
 use Rattle.job.specs.Head.{readBlockHead}
 use Rattle.job.specs.Passing.{orNone}
@@ -43,7 +44,8 @@ few-of most (refused r) list h f = omega arith
 
 pub row-few : (s : List ℕ) (at : ℕ) (ids : List ℕ) (n : ℕ) → length (rowAt s at ids n) ≤ 64
 unfolding rowAt placesNoted
-row-few s at ids n = few-of 64 (readBlockHead s at) _ (predecessors-most s at) (λ head idsAt. notes-few readBlockId s (λ _ i. placeAmong (idsNoted ids n) i) (head .predecessors) idsAt)
+row-few s at ids n = few-of 64 (readBlockHead s at) _ (predecessors-most s at)
+    (λ head idsAt. notes-few readBlockId s (λ _ i. placeAmong (idsNoted ids n) i) (head .predecessors) idsAt)
 
 -- One row more.
 
@@ -71,7 +73,8 @@ module _ (g : List ℕ) (b : ℕ) (row : List ℕ) (long : length g ≡ 10497) (
 pub no-rows : (rows : ℕ → List ℕ) (g : List ℕ) → length g ≡ 10497 → RowsFilled rows 0 g g
 no-rows rows g long = record { long = long; degree = λ b l. absurd (omega arith); predecessor = λ b i l h. absurd (omega arith); behind = λ k h. refl }
 
-pub one-row : (rows : ℕ → List ℕ) (b : ℕ) (g h k : List ℕ) → b < 128 → ((c : ℕ) → length (rows c) ≤ 64) → RowsFilled rows b g h → k ≡ withRow h b (rows b) → RowsFilled rows (b + 1) g k
+pub one-row : (rows : ℕ → List ℕ) (b : ℕ) (g h k : List ℕ) → b < 128 → ((c : ℕ) → length (rows c) ≤ 64) → RowsFilled rows b g h → k ≡ withRow h b
+    (rows b) → RowsFilled rows (b + 1) g k
 one-row rows b g h k below few x stored = subst (λ (l : List ℕ). RowsFilled rows (b + 1) g l) (sym stored) (record {
   long = with-long h b (rows b) (x .long) below (few b);
   degree = λ c l. elim (ℕ-discrete c b) [
@@ -80,7 +83,8 @@ one-row rows b g h k below few x stored = subst (λ (l : List ℕ). RowsFilled r
   ];
   predecessor = λ c i l m. elim (ℕ-discrete c b) [
     | yes e ↦ rw e (with-predecessor h b (rows b) (x .long) below (few b) i (subst (λ d. i < length (rows d)) e m))
-    | no n ↦ (let most = few c in let less : c < b = omega (arith, n) in with-other h b (rows b) (x .long) below (few b) (c * 64 + i) (inl (omega arith)) (λ e. omega arith) ∙ x .predecessor c i less m)
+    | no n ↦ (let most = few c in let less : c < b = omega (arith, n) in with-other h b (rows b) (x .long) below (few b) (c * 64 + i)
+        (inl (omega arith)) (λ e. omega arith) ∙ x .predecessor c i less m)
   ];
   behind = λ p l. with-other h b (rows b) (x .long) below (few b) p (inr (omega arith)) (λ e. omega arith) ∙ x .behind p l;
 })

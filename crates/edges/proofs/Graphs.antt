@@ -1,4 +1,5 @@
--- The filled bytes as a graph: predecessors are the rows, and successors the blocks, by ascending id, whose rows name a block.
+-- The filled bytes as a graph: predecessors are the rows, and successors the blocks, by ascending
+-- id, whose rows name a block.
 use Prim.Native.Nat.{ℕ, zero, suc, _+_, _*_, _-_, _/_, _%_, _≤_, _<_}
 use native.Mathlib.Omega.{arith}
 use native.Mathlib.Nat.{zero-add}
@@ -29,12 +30,14 @@ unfolding placesFrom
 by-place f [] k e = refl
 by-place f (x ∷ l) k e =
     let here : f k ≡ x = ap f (let z : k ≡ k + 0 = omega arith in z) ∙ e 0 (omega arith) in
-    let rest : map f (placesFrom (suc k) (length l)) ≡ l = by-place f l (suc k) (λ i h. ap f (let z : suc k + i ≡ k + suc i = omega arith in z) ∙ e (suc i) (omega arith)) in
+    let rest : map f (placesFrom (suc k) (length l)) ≡ l = by-place f l (suc k)
+    (λ i h. ap f (let z : suc k + i ≡ k + suc i = omega arith in z) ∙ e (suc i) (omega arith)) in
     rw (here, rest)
 
 map-select : (f : ℕ → ℕ) (p q : ℕ → Bool) (xs : List ℕ) → All (λ x. p x ≡ q (f x)) xs → map f (select p xs) ≡ select q (map f xs)
 map-select f p q [] a = refl
-map-select f p q (x ∷ xs) a = decide (p x) (λ t. rw (t, sym (a .0) ∙ t) (ap (λ l. f x ∷ l) (map-select f p q xs (a .1)))) (λ e. rw (e, sym (a .0) ∙ e) (map-select f p q xs (a .1)))
+map-select f p q (x ∷ xs) a = decide (p x) (λ t. rw (t, sym (a .0) ∙ t) (ap (λ l. f x ∷ l) (map-select f p q xs (a .1))))
+    (λ e. rw (e, sym (a .0) ∙ e) (map-select f p q xs (a .1)))
 
 places-all : (P : ℕ → Type 0) (k n : ℕ) → ((i : ℕ) → k ≤ i → i < k + n → P i) → All P (placesFrom k n)
 unfolding placesFrom
@@ -46,10 +49,12 @@ within a b c e f = rw (e, f)
 
 -- the block of a rank is one of the order
 order-at : (P : ℕ → Type 0) (g : List ℕ) (d first r : ℕ) → first + d ≡ r → r < 128 → All P (orderFrom g first) → P (blockOfRank g r)
-order-at P g zero first r e l a = let here : first ≡ r = omega arith in subst (λ i. P (blockOfRank g i)) here (subst (All P) (order-more g first (omega arith)) a .0)
+order-at P g zero first r e l a = let here : first ≡ r = omega arith in subst (λ i. P (blockOfRank g i)) here
+    (subst (All P) (order-more g first (omega arith)) a .0)
 order-at P g (suc d) first r e l a = order-at P g d (first + 1) r (omega arith) l (subst (All P) (order-more g first (omega arith)) a .1)
 
-module _ (rows : ℕ → List ℕ) (n : ℕ) (order g₀ g₁ g₂ : List ℕ) (most : n ≤ 128) (few : (b : ℕ) → length (rows b) ≤ 64) (small : (b i : ℕ) → b < n → getD (rows b) i 0 < 128)
+module _ (rows : ℕ → List ℕ) (n : ℕ) (order g₀ g₁ g₂ : List ℕ) (most : n ≤ 128) (few : (b : ℕ) → length (rows b) ≤ 64)
+    (small : (b i : ℕ) → b < n → getD (rows b) i 0 < 128)
     (x₁ : RowsFilled rows n g₀ g₁) (x₂ : Ordered g₁ g₂ (128 - n) order) (inside : All (λ j. j < n) order) where
   pub ranked-inside : (r : ℕ) → 128 - n ≤ r → r < 128 → blockOfRank g₂ r < n
   ranked-inside r from r< = order-at (λ j. j < n) g₂ (r - (128 - n)) (128 - n) r (omega arith) r< (subst (All (λ j. j < n)) (sym (x₂ .ranks)) inside)
@@ -95,7 +100,8 @@ module _ (rows : ℕ → List ℕ) (n : ℕ) (order g₀ g₁ g₂ : List ℕ) (
     unfolding predecessorsFrom
     predecessors-are b l =
         let d : degreeIn g b - 0 ≡ length (rows b) = let e = degree-is b l in omega arith in
-        ap (λ m. map (predecessorIn g b) (placesFrom 0 m)) d ∙ by-place (predecessorIn g b) (rows b) 0 (λ i h. ap (predecessorIn g b) (zero-add i) ∙ predecessor-is b i l h)
+        ap (λ m. map (predecessorIn g b) (placesFrom 0 m)) d ∙ by-place (predecessorIn g b) (rows b) 0
+        (λ i h. ap (predecessorIn g b) (zero-add i) ∙ predecessor-is b i l h)
 
     -- Successors.
 
@@ -108,7 +114,8 @@ module _ (rows : ℕ → List ℕ) (n : ℕ) (order g₀ g₁ g₂ : List ℕ) (
     unfolding predecessorsFrom
     predecessors₂ b l =
         let d : degreeIn g₂ b - 0 ≡ length (rows b) = let e = degree₂ b l in omega arith in
-        ap (λ m. map (predecessorIn g₂ b) (placesFrom 0 m)) d ∙ by-place (predecessorIn g₂ b) (rows b) 0 (λ i h. ap (predecessorIn g₂ b) (zero-add i) ∙ predecessor₂ b i l h)
+        ap (λ m. map (predecessorIn g₂ b) (placesFrom 0 m)) d ∙ by-place (predecessorIn g₂ b) (rows b) 0
+        (λ i h. ap (predecessorIn g₂ b) (zero-add i) ∙ predecessor₂ b i l h)
 
     bit-is : (b q : ℕ) → b < 128 → q < 128 → isSuccessor g b q ≡ leb (128 - n) q && (ltb q 128 && namesAsPredecessor g₂ q b)
     bit-is b q b< q< =
@@ -119,7 +126,8 @@ module _ (rows : ℕ → List ℕ) (n : ℕ) (order g₀ g₁ g₂ : List ℕ) (
     pub bit-below : (b q : ℕ) → b < 128 → q < 128 - n → isSuccessor g b q ≡ false
     bit-below b q b< l =
         bit-is b q b< (omega arith)
-        ∙ ap (λ x. x && (ltb q 128 && namesAsPredecessor g₂ q b)) (decide (leb (128 - n) q) (λ t. let m = leb→le (128 - n) q (test-passes t) in absurd (omega arith)) (λ f. f))
+        ∙ ap (λ x. x && (ltb q 128 && namesAsPredecessor g₂ q b))
+        (decide (leb (128 - n) q) (λ t. let m = leb→le (128 - n) q (test-passes t) in absurd (omega arith)) (λ f. f))
 
     pub bit-from : (b q : ℕ) → b < 128 → 128 - n ≤ q → q < 128 → isSuccessor g b q ≡ anyOf (eqb b) (rows (blockOfRank g q))
     bit-from b q b< from q< =

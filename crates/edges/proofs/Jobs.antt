@@ -1,4 +1,5 @@
--- The graph of a job whose blocks were noted: the rows are its predecessors by place, and the order is that of ascending ids.
+-- The graph of a job whose blocks were noted: the rows are its predecessors by place, and the order
+-- is that of ascending ids.
 use Prim.Native.Nat.{ℕ, zero, suc, _+_, _-_, _≤_, _<_}
 use native.Mathlib.Omega.{arith}
 use native.Mathlib.Nat.{zero-add}
@@ -12,7 +13,7 @@ use Rattle.entries.specs.declared.BlockId.{BlockId}
 use Rattle.model.specs.Lists.{select, anyOf}
 use Rattle.model.specs.ListLaws.{All, all-map, all-getD}
 use Rattle.model.specs.Tests.{decide, never, passes-test, test-passes, eqb-same, eqb-equal, eqb-apart, ltb-true, ltb-false}
-use Rattle.model.specs.Read.{got, readMany}
+use Rattle.model.specs.ReadingBytes.{got, readMany}
 use Rattle.model.specs.Job.{Block, Job, readBlockId, sameBlock, containsId, idsOf}
 use Rattle.model.specs.Rounds.{placesFrom, jobOrder}
 use Rattle.model.specs.Stage.{blockAt, placeOf, predecessorsOf, insertById, sortById, byAscendingId, successorsOf}
@@ -34,11 +35,13 @@ use Rattle.edges.proofs.Graphs.{ranks-fit, ranked-inside, size-is, degr
 
 -- Ids by the numbers noted.
 
-ids-listed : (bs : List Block) (ids : List ℕ) (k : ℕ) → ((m : ℕ) → m < length bs → getD ids (k + m) 0 ≡ blockAt bs m .id .0) → idsFrom ids k (length bs) ≡ idsOf bs
+ids-listed : (bs : List Block) (ids : List ℕ) (k : ℕ) → ((m : ℕ) → m < length bs → getD ids (k + m) 0 ≡ blockAt bs m .id .0) → idsFrom ids k
+    (length bs) ≡ idsOf bs
 ids-listed [] ids k noted = refl
 ids-listed (c ∷ cs) ids k noted =
     let here : getD ids k 0 ≡ c .id .0 = ap (λ m. getD ids m 0) (let z : k ≡ k + 0 = omega arith in z) ∙ noted 0 (omega arith) in
-    let rest : idsFrom ids (suc k) (length cs) ≡ idsOf cs = ids-listed cs ids (suc k) (λ m l. ap (λ m. getD ids m 0) (let z : suc k + m ≡ k + suc m = omega arith in z) ∙ noted (suc m) (omega arith)) in
+    let rest : idsFrom ids (suc k) (length cs) ≡ idsOf cs = ids-listed cs ids (suc k)
+    (λ m l. ap (λ m. getD ids m 0) (let z : suc k + m ≡ k + suc m = omega arith in z) ∙ noted (suc m) (omega arith)) in
     rw (here, rest)
 
 -- Order by the numbers noted.
@@ -63,7 +66,8 @@ module _ (bs : List Block) (ids : List ℕ) (noted : (k : ℕ) → k < length bs
 
 -- A list of ids read, and their places noted.
 
-notes-ids : (f : BlockId → ℕ) (s : List ℕ) (n at : ℕ) {all : List BlockId} {end : ℕ} → readMany n readBlockId s at ≡ got all end → notes (λ _ i. f i) n readBlockId s at ≡ map f all
+notes-ids : (f : BlockId → ℕ) (s : List ℕ) (n at : ℕ) {all : List BlockId} {end : ℕ} → readMany n readBlockId s at ≡ got all end → notes
+    (λ _ i. f i) n readBlockId s at ≡ map f all
 notes-ids f s =
     many-all readBlockId s (λ n at all. notes (λ _ i. f i) n readBlockId s at ≡ map f all) (λ at. refl) (λ n at next a rest e q. rw (e, q))
 
@@ -112,7 +116,8 @@ module _ (s ids places : List ℕ) (n : ℕ) (j : Job) (at : BlocksAt s n places
       ∙ map-same (placeAmong (idsNoted ids n)) (placeOf bs) place-is (blockAt bs b .predecessors)
 
   pub row-inside : (b : ℕ) → b < n → All (λ c. c < n) (rowsAt s ids places n b)
-  row-inside b l = subst (All (λ c. c < n)) (sym (row-is b l)) (subst (λ m. All (λ c. c < m) (predecessorsOf bs b)) (at .count) (predecessors-inside bs proper b))
+  row-inside b l = subst (All (λ c. c < n)) (sym (row-is b l))
+      (subst (λ m. All (λ c. c < m) (predecessorsOf bs b)) (at .count) (predecessors-inside bs proper b))
 
   places-inside : (k m : ℕ) → k + m ≤ length bs → All (λ i. i < length bs) (placesFrom k m)
   unfolding placesFrom
@@ -121,7 +126,8 @@ module _ (s ids places : List ℕ) (n : ℕ) (j : Job) (at : BlocksAt s n places
 
   pub order-is : sortByNumber ids (placesFrom 0 n) ≡ byAscendingId bs
   unfolding byAscendingId jobOrder
-  order-is = ap (λ m. sortByNumber ids (placesFrom 0 m)) (sym (at .count)) ∙ sort-same bs ids noted (placesFrom 0 (length bs)) (places-inside 0 (length bs) (omega arith))
+  order-is = ap (λ m. sortByNumber ids (placesFrom 0 m)) (sym (at .count)) ∙ sort-same bs ids noted (placesFrom 0 (length bs))
+      (places-inside 0 (length bs) (omega arith))
 
   -- block b is at the place of an id where it has that id
   same-place : (b : ℕ) → b < length bs → (i : BlockId) → Member i (idsOf bs) → eqb b (placeOf bs i) ≡ sameBlock (blockAt bs b .id) i
@@ -134,11 +140,13 @@ module _ (s ids places : List ℕ) (n : ℕ) (j : Job) (at : BlocksAt s n places
   unfolding predecessorsOf
   names-same b c l =
       any-map (eqb b) (sameBlock (blockAt bs b .id)) (placeOf bs) (blockAt bs c .predecessors)
-      (all-map (λ i. Member i (idsOf bs)) (λ i. eqb b (placeOf bs i) ≡ sameBlock (blockAt bs b .id) i) (same-place b l) (blockAt bs c .predecessors) (known-at bs proper c))
+      (all-map (λ i. Member i (idsOf bs)) (λ i. eqb b (placeOf bs i) ≡ sameBlock (blockAt bs b .id) i) (same-place b l) (blockAt bs c .predecessors)
+      (known-at bs proper c))
 
   pub sorted-inside : All (λ k. k < n) (byAscendingId bs)
   unfolding byAscendingId jobOrder
-  sorted-inside = subst (λ m. All (λ k. k < m) (byAscendingId bs)) (at .count) (sort-inside bs ids noted (placesFrom 0 (length bs)) (places-inside 0 (length bs) (omega arith)))
+  sorted-inside = subst (λ m. All (λ k. k < m) (byAscendingId bs)) (at .count)
+      (sort-inside bs ids noted (placesFrom 0 (length bs)) (places-inside 0 (length bs) (omega arith)))
 
   pub successors-named : (b : ℕ) → b < length bs → select (λ c. anyOf (eqb b) (rowsAt s ids places n c)) (byAscendingId bs) ≡ successorsOf bs b
   unfolding successorsOf
@@ -165,7 +173,8 @@ module _ (s ids places : List ℕ) (n : ℕ) (job : NotedJob s ids places n) (g�
   small : (b i : ℕ) → b < n → getD (rowsAt s ids places n b) i 0 < 128
   small b i l =
       let most = job .few in
-      all-getD (λ x. x < 128) (rowsAt s ids places n b) i 0 (all-map (λ c. c < n) (λ c. c < 128) (λ c h. omega arith) (rowsAt s ids places n b) (row-below b l)) (omega arith)
+      all-getD (λ x. x < 128) (rowsAt s ids places n b) i 0
+      (all-map (λ c. c < n) (λ c. c < 128) (λ c h. omega arith) (rowsAt s ids places n b) (row-below b l)) (omega arith)
 
   inside : All (λ k. k < n) (sortByNumber ids (placesFrom 0 n))
   inside = sort-all (λ k. k < n) ids (placesFrom 0 n) (places-below n 0 n (omega arith))
@@ -198,12 +207,14 @@ module _ (s ids places : List ℕ) (n : ℕ) (job : NotedJob s ids places n) (g�
                 let d = degree b b< in
                 rw (predecessor b i b< (omega arith), size) (all-below (rowsAt s ids places n b) i n (row-below b b<) (omega arith));
             successor = λ b r l r< e.
-                rw size (decide (leb (128 - n) r) (λ t. rw (rank r r<) (ranked-inside rows n order g₀ g₁ g₂ most few small x₁ x₂ inside r (leb→le (128 - n) r (test-passes t)) r<))
+                rw size (decide (leb (128 - n) r)
+                (λ t. rw (rank r r<) (ranked-inside rows n order g₀ g₁ g₂ most few small x₁ x₂ inside r (leb→le (128 - n) r (test-passes t)) r<))
                 (λ f. never e (below b r (omega arith) (not-from (128 - n) r f))));
             low = λ b r l h. below b r (omega arith) (omega arith);
           };
           size = size ∙ sym count;
-          predecessors = λ b l. predecessors-are rows n order g₀ g₁ g₂ most few small x₁ x₂ inside g₃ zeros x₃ b (omega arith) ∙ row-is s ids places n (job .job) at noted b (omega arith);
+          predecessors = λ b l. predecessors-are rows n order g₀ g₁ g₂ most few small x₁ x₂ inside g₃ zeros x₃ b (omega arith) ∙ row-is s ids places n
+              (job .job) at noted b (omega arith);
           successors = λ b l.
               successors-are rows n order g₀ g₁ g₂ most few small x₁ x₂ inside g₃ zeros x₃ b (omega arith)
               ∙ ap (select (λ c. anyOf (eqb b) (rowsAt s ids places n c))) (order-is s ids places n (job .job) at noted)

@@ -8,7 +8,7 @@ use lib.ListN.{length, getD, set}
 use lib.Seq.{sets}
 use Rattle.entries.specs.declared.BlockId.{BlockId}
 use Rattle.model.specs.Tests.{by-cond, eqb-equal, eqb-apart}
-use Rattle.model.specs.Read.{got, readNumber}
+use Rattle.model.specs.ReadingBytes.{got, readNumber}
 use Rattle.model.specs.Job.{sameBlock}
 use Rattle.job.specs.Head.{readBlockHead}
 use Rattle.job.specs.declared.BlockHead.{BlockHead}
@@ -28,7 +28,8 @@ module _ (ids : List ℕ) (n k : ℕ) (i : BlockId) where
   place-later l e =
       let next : suc k ≡ k + 1 = omega arith in
       ap (λ m. k + placeAmong (idsFrom ids k m) i) (more l)
-      ∙ rw (eqb-apart (getD ids k 0) (i .0) e) (ap (λ m. k + suc (placeAmong (idsFrom ids m (n - (k + 1))) i)) next ∙ up (placeAmong (idsFrom ids (k + 1) (n - (k + 1))) i))
+      ∙ rw (eqb-apart (getD ids k 0) (i .0) e)
+      (ap (λ m. k + suc (placeAmong (idsFrom ids m (n - (k + 1))) i)) next ∙ up (placeAmong (idsFrom ids (k + 1) (n - (k + 1))) i))
     where
       up : (m : ℕ) → k + suc m ≡ k + 1 + m
       up m = omega arith
@@ -72,7 +73,8 @@ pub record Storing (whole : List ℕ) (from : ℕ) (before now′ left : List �
   pub same : sets now′ (from + i) left ≡ sets before from whole
 
 pub storing : (whole : List ℕ) (from : ℕ) (g left : List ℕ) → left ≡ whole → Storing whole from g g left 0
-storing whole from g left e = record { count = zero-add (length left) ∙ ap length e; same = ap (λ k. sets g k left) (add-zero from) ∙ ap (λ (l : List ℕ). sets g from l) e }
+storing whole from g left e = record
+    { count = zero-add (length left) ∙ ap length e; same = ap (λ k. sets g k left) (add-zero from) ∙ ap (λ (l : List ℕ). sets g from l) e }
 
 module _ {whole : List ℕ} {from : ℕ} {before now′ left : List ℕ} {i : ℕ} (x : Storing whole from before now′ left i) where
   pub storing-end : left ≡ [] → (i ≡ length whole) × (now′ ≡ sets before from whole)
@@ -85,18 +87,21 @@ module _ {whole : List ℕ} {from : ℕ} {before now′ left : List ℕ} {i : �
       let next : suc (from + i) ≡ from + (i + 1) = omega arith in
       record {
         count = let c = x .count in omega (arith, size);
-        same = ap (λ k. sets (set now′ (from + i) z) k rest) (sym next) ∙ ap (λ z. sets (set now′ (from + i) z) (suc (from + i)) rest) v ∙ ap (λ (l : List ℕ). sets now′ (from + i) l) (sym e) ∙ x .same;
+        same = ap (λ k. sets (set now′ (from + i) z) k rest) (sym next) ∙ ap (λ z. sets (set now′ (from + i) z) (suc (from + i)) rest) v ∙ ap
+            (λ (l : List ℕ). sets now′ (from + i) l) (sym e) ∙ x .same;
       }
 
 -- The row of the block whose record stands at a place.
 
-pub row-noted : (s : List ℕ) (at : ℕ) (ids : List ℕ) (n : ℕ) {head : BlockHead} {idsAt : ℕ} → readBlockHead s at ≡ got head idsAt → rowAt s at ids n ≡ placesNoted s idsAt (head .predecessors) ids n
+pub row-noted : (s : List ℕ) (at : ℕ) (ids : List ℕ) (n : ℕ) {head : BlockHead} {idsAt : ℕ} → readBlockHead s at ≡ got head idsAt
+    → rowAt s at ids n ≡ placesNoted s idsAt (head .predecessors) ids n
 unfolding rowAt
 row-noted s at ids n e = rw e
 
 pub noted-few : (s : List ℕ) (at : ℕ) {head : BlockHead} {idsAt : ℕ} → readBlockHead s at ≡ got head idsAt → head .predecessors ≤ 64
 noted-few s at e = held (λ (h : BlockHead). h .predecessors ≤ 64) e (predecessors-most s at)
 
-pub row-stored : (g h : List ℕ) (b : ℕ) (row noted : List ℕ) (n : ℕ) → row ≡ noted → n ≡ length noted → h ≡ sets g (b * 64) noted → set h (8192 + b) n ≡ withRow g b row
+pub row-stored : (g h : List ℕ) (b : ℕ) (row noted : List ℕ) (n : ℕ) → row ≡ noted → n ≡ length noted → h ≡ sets g (b * 64) noted → set h
+    (8192 + b) n ≡ withRow g b row
 row-stored g h b row noted n same count kept =
     ap (λ (l : List ℕ). set l (8192 + b) n) kept ∙ ap (λ m. set (sets g (b * 64) noted) (8192 + b) m) count ∙ ap (λ (l : List ℕ). withRow g b l) (sym same)

@@ -20,7 +20,8 @@ pub record NotedJob (s ids places : List ℕ) (n : ℕ) : Type 0 where
   pub numbers : IdsAt ids job
   pub few : n ≤ 128
 
--- The bytes hold the graph of these blocks: "predecessors in job order", "successors by ascending id".
+-- The bytes hold the graph of these blocks: "predecessors in job order", "successors by ascending
+-- id".
 pub record HoldsGraph (bs : List Block) (g : List ℕ) : Type 0 where
   pub fits : GraphFits g
   pub size : sizeIn g ≡ length bs

@@ -48,7 +48,8 @@ withRow g b row = set (sets g (b * 64) row) (8192 + b) (length row)
 abbrev pub rowsAt : List ℕ → List ℕ → List ℕ → ℕ → ℕ → List ℕ
 rowsAt s ids places n b = rowAt s (getD places b 0) ids n
 
--- The bytes g have become h: h holds these predecessors of the first n blocks, and what stands behind the predecessors' part is as it was.
+-- The bytes g have become h: h holds these predecessors of the first n blocks, and what stands
+-- behind the predecessors' part is as it was.
 pub record RowsFilled (rows : ℕ → List ℕ) (n : ℕ) (g h : List ℕ) : Type 0 where
   pub long : length h ≡ 10497
   pub degree : (b : ℕ) → b < n → degreeIn h b ≡ length (rows b)

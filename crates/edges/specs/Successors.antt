@@ -9,7 +9,8 @@ use lib.Dec.{eqb, leb, ltb}
 use Rattle.model.specs.Lists.{anyOf}
 use Rattle.graph.specs.Bytes.{degreeIn, predecessorIn, blockOfRank, isSuccessor, predecessorsFrom}
 
--- The bytes g have become h: the block of rank r is a successor of each of these blocks too, and what stands outside the successors' part is as it was.
+-- The bytes g have become h: the block of rank r is a successor of each of these blocks too, and
+-- what stands outside the successors' part is as it was.
 pub record Marked (g h : List ℕ) (r : ℕ) (bs : List ℕ) : Type 0 where
   pub long : length h ≡ 10497
   pub bits : (b q : ℕ) → b < 128 → q < 128 → isSuccessor h b q ≡ isSuccessor g b q || (eqb r q && anyOf (eqb b) bs)
@@ -30,9 +31,10 @@ RanksFit g n = (r : ℕ) → 128 - n ≤ r → r < 128 → RankFits g r
 abbrev pub namesAsPredecessor : List ℕ → ℕ → ℕ → Bool
 namesAsPredecessor g q b = anyOf (eqb b) (predecessorsFrom g (blockOfRank g q) 0)
 
--- The bytes g have become h: each block of a rank from `first` up to `end` is a successor of each of its predecessors too, and what stands outside the
--- successors' part is as it was.
+-- The bytes g have become h: each block of a rank from `first` up to `end` is a successor of each
+-- of its predecessors too, and what stands outside the successors' part is as it was.
 pub record AllMarked (g h : List ℕ) (first end : ℕ) : Type 0 where
   pub long : length h ≡ 10497
-  pub bits : (b q : ℕ) → b < 128 → q < 128 → isSuccessor h b q ≡ isSuccessor g b q || (leb first q && (ltb q end && namesAsPredecessor g q b))
+  pub bits : (b q : ℕ) → b < 128 → q < 128
+      → isSuccessor h b q ≡ isSuccessor g b q || (leb first q && (ltb q end && namesAsPredecessor g q b))
   pub outside : (p : ℕ) → (p < 8448) ⊎ (10496 ≤ p) → getD h p 0 ≡ getD g p 0

@@ -1,5 +1,5 @@
--- `areEqualPaths` as a loop from the front decides it: lists of different lengths are not equal, and from place i on it is the entries at i
--- and what follows them. Nothing here speaks of code.
+-- `areEqualPaths` as a loop from the front decides it: lists of different lengths are not equal,
+-- and from place i on it is the entries at i and what follows them. Nothing here speaks of code.
 use mathlib.Core.Path.{_≡_, refl, sym, _∙_, ap}
 use Prim.Native.Nat.{ℕ, zero, suc, _<_, _≤_}
 use native.Mathlib.Nat.{not-suc-le-zero, le-of-suc-le-suc}
@@ -39,4 +39,5 @@ from-place (x ∷ xs) (y ∷ ys) (suc i) d l m = from-place xs ys i d (le-of-suc
 
 -- behind the last place of both there is nothing, and nothing differs
 pub from-end : (xs ys : List DependencyPathEntry) (i : ℕ) → length xs ≤ i → length ys ≤ i → areEqualPaths (drop i xs) (drop i ys) ≡ true
-from-end xs ys i l m = ap (λ (as′ : List DependencyPathEntry). areEqualPaths as′ (drop i ys)) (drop-of-length-le xs l) ∙ ap (areEqualPaths []) (drop-of-length-le ys m)
+from-end xs ys i l m =
+    ap (λ (as′ : List DependencyPathEntry). areEqualPaths as′ (drop i ys)) (drop-of-length-le xs l) ∙ ap (areEqualPaths []) (drop-of-length-le ys m)

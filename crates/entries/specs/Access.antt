@@ -1,9 +1,16 @@
--- Document 01, module 5 (Access): the four access kinds, what each says, and how two of them are merged.
+-- Document 01, module 5 (Access): the four access kinds, what each says, and how two of them are
+-- merged.
 use mathlib.Core.Bool.{Bool, true, false, _&&_, _||_}
 use Rattle.entries.specs.declared.PropertyAccessType.{PropertyAccessType}
-use Rattle.entries.specs.declared.PropertyAccessType.the-variants.{OptionalAccess, UnconditionalAccess, OptionalDependency, UnconditionalDependency}
+use Rattle.entries.specs.declared.PropertyAccessType.the-variants.{
+  OptionalAccess,
+  UnconditionalAccess,
+  OptionalDependency,
+  UnconditionalDependency,
+}
 
--- "Optional only if both are": which of "the four access kinds" are optional (`is_optional` of the Rust).
+-- "Optional only if both are": which of "the four access kinds" are optional (`is_optional` of the
+-- Rust).
 abbrev pub isOptionalAccess : PropertyAccessType → Bool
 isOptionalAccess OptionalAccess = true
 isOptionalAccess UnconditionalAccess = false

@@ -1,4 +1,5 @@
--- Numbers are compared by their 64 bits, and a name is no number; lists of entries by length, properties and optional marks, and not by spans.
+-- Numbers are compared by their 64 bits, and a name is no number; lists of entries by length,
+-- properties and optional marks, and not by spans.
 use mathlib.Core.Path.{_≡_, refl}
 use Prim.Native.Nat.{ℕ}
 use mathlib.Core.Bool.{Bool, true, false}
@@ -20,11 +21,13 @@ nan-equal = refl
 pub kinds-differ : sameProperty (String 5) (Number 5) ≡ false
 kinds-differ = refl
 
--- "Two lists of entries are equal when their lengths agree and property and optional .. ": an entry with its optional mark and span
+-- "Two lists of entries are equal when their lengths agree and property and optional .. ": an entry
+-- with its optional mark and span
 abbrev entry : PropertyLiteral → Bool → ℕ → DependencyPathEntry
 entry property optional span = record { property = property; optional = optional; span = span }
 
-pub spans-do-not-count : areEqualPaths (entry (String 5) true 7 ∷ entry (Number 0) false 8 ∷ []) (entry (String 5) true 0 ∷ entry (Number 0) false 9 ∷ []) ≡ true
+pub spans-do-not-count : areEqualPaths (entry (String 5) true 7 ∷ entry (Number 0) false 8 ∷ [])
+    (entry (String 5) true 0 ∷ entry (Number 0) false 9 ∷ []) ≡ true
 spans-do-not-count = refl
 
 pub optional-counts : areEqualPaths (entry (String 5) true 7 ∷ []) (entry (String 5) false 7 ∷ []) ≡ false

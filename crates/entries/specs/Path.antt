@@ -19,22 +19,25 @@ sameProperty (Number a) (Number b) = eqb a b
 abbrev pub sameEntry : DependencyPathEntry → DependencyPathEntry → Bool
 sameEntry a b = sameProperty (a .property) (b .property) && Bool·beq (a .optional) (b .optional)
 
--- "Two lists of entries are equal when their lengths agree and property and optional agree at each place; spans don't count (`are_equal_paths`)."
+-- "Two lists of entries are equal when their lengths agree and property and optional agree at each
+-- place; spans don't count (`are_equal_paths`)."
 abbrev pub areEqualPaths : List DependencyPathEntry → List DependencyPathEntry → Bool
 areEqualPaths [] [] = true
 areEqualPaths [] (b ∷ bs) = false
 areEqualPaths (a ∷ as′) [] = false
 areEqualPaths (a ∷ as′) (b ∷ bs) = sameEntry a b && areEqualPaths as′ bs
 
--- "A path has a prefix of another's property names when it has no more entries than the other and their properties, numbers included,
--- are equal at each of its places; optional marks and spans don't count, and the empty and the whole list are prefixes too."
+-- "A path has a prefix of another's property names when it has no more entries than the other and
+-- their properties, numbers included, are equal at each of its places; optional marks and spans
+-- don't count, and the empty and the whole list are prefixes too."
 abbrev pub prefixOfNames : List DependencyPathEntry → List DependencyPathEntry → Bool
 prefixOfNames [] es = true
 prefixOfNames (d ∷ ds) [] = false
 prefixOfNames (d ∷ ds) (e ∷ es) = sameProperty (d .property) (e .property) && prefixOfNames ds es
 
--- A path: an identifier, whether it is reactive, its entries and its span (`ReactiveScopeDependency` of the Rust).
--- Spans are numbers of any size here and in all that follows; only reading and writing bytes know a width.
+-- A path: an identifier, whether it is reactive, its entries and its span
+-- (`ReactiveScopeDependency` of the Rust). Spans are numbers of any size here and in all that
+-- follows; only reading and writing bytes know a width.
 pub record ReactiveScopeDependency : Type 0 where
   pub identifier : IdentifierId
   pub reactive : Bool

@@ -1,7 +1,17 @@
 -- Document 01, "Turning a job back": the number of each refusal.
 use Prim.Native.Nat.{ℕ}
 use Rattle.entries.specs.declared.Refusal.{Refusal}
-use Rattle.entries.specs.declared.Refusal.the-variants.{ShortBuffer, LongJob, MissingByte, WrongMark, OutOfRange, ExtraByte, RepeatedId, UnknownBlock, ManyNodes}
+use Rattle.entries.specs.declared.Refusal.the-variants.{
+  ShortBuffer,
+  LongJob,
+  MissingByte,
+  WrongMark,
+  OutOfRange,
+  ExtraByte,
+  RepeatedId,
+  UnknownBlock,
+  ManyNodes,
+}
 
 -- 1 to 9, in the order of that list.
 abbrev pub refusalNumber : Refusal → ℕ

@@ -1,4 +1,5 @@
-// The types that all crates share. A number is kept in a struct of its own where the Rust keeps it apart from other numbers.
+// The types that all crates share. A number is kept in a struct of its own where the Rust keeps it
+// apart from other numbers.
 ghost use mathlib.Core.Path.{_≡_};
 ghost use Rattle.entries.specs.Path.{sameProperty, sameEntry, areEqualPaths};
 ghost use Rattle.entries.specs.Property.{propertyOf, isNumber, valueOf};
@@ -67,8 +68,8 @@ impl PropertyLiteral {
     }
 }
 
-// One step of a path: `.property`, or `?.property` where `optional`. The span is the host's number for a place in its source; 0 is none.
-// A job's spans have 32 bits; 64 leave room for wider ones.
+// One step of a path: `.property`, or `?.property` where `optional`. The span is the host's number
+// for a place in its source; 0 is none. A job's spans have 32 bits; 64 leave room for wider ones.
 pub struct DependencyPathEntry {
     pub property: PropertyLiteral,
     pub optional: bool,
@@ -90,7 +91,8 @@ impl DependencyPathEntry {
     }
 }
 
-// `are_equal_paths` of the Rust: as many entries, and the same property and the same optional mark at each place; spans do not count.
+// `are_equal_paths` of the Rust: as many entries, and the same property and the same optional mark
+// at each place; spans do not count.
 pub fn are_equal_paths(a: &[DependencyPathEntry], b: &[DependencyPathEntry]) -> bool
     ensures { λ r. ⌜ r ≡ areEqualPaths (now (a .entry)) (now (b .entry)) ⌝ }
 {

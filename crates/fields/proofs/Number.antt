@@ -9,7 +9,7 @@ use borrow.Author.Tests.{lt-ltb, le-ltb, le-leb, lt-leb, leb-true, leb-false}
 use lib.Dec.{leb, ltb}
 use lib.ListN.{length, getD}
 use Rattle.entries.specs.declared.Refusal.the-variants.{MissingByte}
-use Rattle.model.specs.Read.{got, refused, readNumber}
+use Rattle.model.specs.ReadingBytes.{got, refused, readNumber}
 use Rattle.model.specs.Tests.{decide}
 use Rattle.fields.specs.Number.{numberAt}
 

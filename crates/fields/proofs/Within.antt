@@ -5,14 +5,14 @@ use mathlib.Core.Bool.{_&&_, cond}
 use mathlib.Core.List.{List}
 use lib.Dec.{eqb, leb}
 use Rattle.entries.specs.declared.Refusal.the-variants.{WrongMark, OutOfRange}
-use Rattle.model.specs.Read.{got, refused, Reader, andThen, mapped, readNumber, readMark, readWithin, readFlag}
+use Rattle.model.specs.ReadingBytes.{got, refused, ByteReader, andThen, mapped, readNumber, readMark, readWithin, readFlag}
 
 pub mark-fields : (mark : ℕ) (s : List ℕ) (at : ℕ)
     → readMark mark s at ≡ andThen (readNumber 2 s at) (λ found next. cond (eqb found mark) (got tt next) (refused WrongMark))
 unfolding readMark
 mark-fields mark s at = refl
 
-pub within-fields : (least most : ℕ) (read : Reader ℕ) (s : List ℕ) (at : ℕ)
+pub within-fields : (least most : ℕ) (read : ByteReader ℕ) (s : List ℕ) (at : ℕ)
     → readWithin least most read s at ≡ andThen (read s at) (λ found next. cond (leb least found && leb found most) (got found next) (refused OutOfRange))
 unfolding readWithin
 within-fields least most read s at = refl

@@ -3,7 +3,7 @@ use Prim.Native.Nat.{ℕ}
 use mathlib.Core.Bool.{Bool}
 use Rattle.entries.specs.declared.Refusal.{Refusal}
 use Rattle.entries.specs.declared.Refusal.the-variants.{MissingByte}
-use Rattle.model.specs.Read.{Read, got, refused}
+use Rattle.model.specs.ReadingBytes.{Read, got, refused}
 use Rattle.fields.specs.declared.ReadU8.{ReadU8}
 use Rattle.fields.specs.declared.ReadU8.the-variants as u8
 use Rattle.fields.specs.declared.ReadU16.{ReadU16}

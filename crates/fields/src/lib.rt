@@ -5,7 +5,7 @@ ghost use mathlib.Core.Path.{_≡_};
 ghost use Prim.Native.Nat.{_+_, _≤_};
 ghost use lib.Dec.{leb};
 ghost use lib.ListN.{length};
-ghost use Rattle.model.specs.Read.{readNumber, readMark, readWithin, readFlag};
+ghost use Rattle.model.specs.ReadingBytes.{readNumber, readMark, readWithin, readFlag};
 ghost use Rattle.fields.specs.Number.{numberAt};
 ghost use Rattle.fields.specs.Answer.{gotU8, gotU16, gotU32, gotU64, gotFlag, gotPlace, refusalOf};
 

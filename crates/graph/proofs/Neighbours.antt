@@ -1,4 +1,5 @@
--- What is still to come of a block's neighbours: at a predecessor, at a rank whose bit is set, past ranks whose bits are not, and at the end.
+-- What is still to come of a block's neighbours: at a predecessor, at a rank whose bit is set, past
+-- ranks whose bits are not, and at the end.
 use Prim.Native.Nat.{ℕ, zero, suc, _+_, _*_, _-_, _/_, _%_, _≤_, _<_}
 use native.Mathlib.Omega.{arith}
 use native.Mathlib.Numerals.{add-one}
@@ -9,7 +10,20 @@ use lib.ListN.{getD}
 use Rattle.model.specs.Lists.{select}
 use Rattle.model.specs.Rounds.{placesFrom}
 use Rattle.rows.specs.Members.{bit}
-use Rattle.graph.specs.Bytes.{sizeIn, degreeIn, predecessorIn, blockOfRank, isSuccessor, predecessorsFrom, successorsFrom, neighboursFrom, GraphFits, Next, Finds, Lowest}
+use Rattle.graph.specs.Bytes.{
+  sizeIn,
+  degreeIn,
+  predecessorIn,
+  blockOfRank,
+  isSuccessor,
+  predecessorsFrom,
+  successorsFrom,
+  neighboursFrom,
+  GraphFits,
+  Next,
+  Finds,
+  Lowest,
+}
 use Rattle.graph.specs.declared.Neighbour.{Neighbour}
 use Rattle.graph.specs.declared.Neighbour.the-variants.{At, Nothing}
 
@@ -87,7 +101,8 @@ module _ {g : List ℕ} {b : ℕ} (fits : GraphFits g) (here : b < sizeIn g) whe
         (λ j h l. in-byte j h (omega arith) ∙ lowest .none (j % 8) (omega arith) (omega arith))
         ∙ ap (successorsFrom g b) (omega arith)
 
-    pub successor-next : (start k : ℕ) → start ≤ r → successorsFrom g b start ≡ successorsFrom g b r → m < 8 → k ≡ blockOfRank g (r / 8 * 8 + m) → Next g true b start k (r / 8 * 8 + m + 1)
+    pub successor-next : (start k : ℕ) → start ≤ r → successorsFrom g b start ≡ successorsFrom g b r → m < 8 → k ≡ blockOfRank g (r / 8 * 8 + m)
+        → Next g true b start k (r / 8 * 8 + m + 1)
     successor-next start k le same l found =
         let a = lowest .above in
         let e : (r / 8 * 8 + m) % 8 ≡ m = omega arith in

@@ -1,4 +1,5 @@
--- The graph that a list of bytes holds: the predecessors of each block by place, the blocks by ascending id, and the successors of each as bits.
+-- The graph that a list of bytes holds: the predecessors of each block by place, the blocks by
+-- ascending id, and the successors of each as bits.
 use Prim.Native.Nat.{ℕ, _+_, _*_, _-_, _/_, _%_, _≤_, _<_}
 use mathlib.Core.Path.{_≡_}
 use mathlib.Core.Bool.{Bool, true, false}
@@ -41,7 +42,8 @@ unfoldable pub successorsFrom : List ℕ → ℕ → ℕ → List ℕ
 unfolding placesFrom
 successorsFrom g b r = map (blockOfRank g) (select (isSuccessor g b) (placesFrom r (128 - r)))
 
--- "With predecessors" forward, "with successors" backward: the neighbours of a block from a number on
+-- "With predecessors" forward, "with successors" backward: the neighbours of a block from a number
+-- on
 abbrev pub neighboursFrom : List ℕ → Bool → ℕ → ℕ → List ℕ
 neighboursFrom g false b from = predecessorsFrom g b from
 neighboursFrom g true b from = successorsFrom g b from
@@ -50,13 +52,14 @@ neighboursFrom g true b from = successorsFrom g b from
 abbrev pub neighbours : List ℕ → Bool → ℕ → List ℕ
 neighbours g backward b = neighboursFrom g backward b 0
 
--- the graph by places; what it says of a place that is no block is of no account (`GraphsAgree` of the crate `laws`)
+-- the graph by places; what it says of a place that is no block is of no account (`GraphsAgree` of
+-- the crate `laws`)
 unfoldable pub graphIn : List ℕ → Graph
 unfolding predecessorsFrom successorsFrom
 graphIn g = record { size = sizeIn g; predecessors = neighbours g false; successors = neighbours g true }
 
--- What reading the graph needs: the numbers stay in their ranges, a neighbour of a block is a block, and no block has a successor of a rank below the last
--- ones, which the blocks have.
+-- What reading the graph needs: the numbers stay in their ranges, a neighbour of a block is a
+-- block, and no block has a successor of a rank below the last ones, which the blocks have.
 pub record GraphFits (g : List ℕ) : Type 0 where
   pub size : sizeIn g ≤ 128
   pub degree : (b : ℕ) → b < sizeIn g → degreeIn g b ≤ 64

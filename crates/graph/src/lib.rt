@@ -1,7 +1,8 @@
-// The graph of a job in lent bytes, read neighbour by neighbour. Byte b * 64 + i is the place of predecessor i of block b, byte 8192 + b
-// how many it has, byte 8320 + r the place of the block of rank r. The ranks of n blocks are 128 - n to 127, by ascending id. Of the 16
-// bytes from 8448 + b * 16 on, bit r % 8 of byte r / 8 says that the block of rank r is a successor of block b. Byte 10496 is how many
-// blocks there are.
+// The graph of a job in lent bytes, read neighbour by neighbour. Byte b * 64 + i is the place of
+// predecessor i of block b, byte 8192 + b how many it has, byte 8320 + r the place of the block of
+// rank r. The ranks of n blocks are 128 - n to 127, by ascending id. Of the 16 bytes from 8448 + b
+// * 16 on, bit r % 8 of byte r / 8 says that the block of rank r is a successor of block b. Byte
+// 10496 is how many blocks there are.
 ghost use mathlib.Core.Path.{_≡_};
 ghost use mathlib.Core.Bool.{true, false};
 ghost use Prim.Native.Nat.{_<_};
@@ -51,7 +52,8 @@ fn next_predecessor(graph: &[u8; 10497], b: usize, from: usize) -> Neighbour
     }
 }
 
-// The blocks have the last ranks, so a search from below them starts at the first. A byte with no bit left is passed in one test.
+// The blocks have the last ranks, so a search from below them starts at the first. A byte with no
+// bit left is passed in one test.
 fn next_successor(graph: &[u8; 10497], b: usize, from: usize) -> Neighbour
     requires { ⌜ GraphFits (now graph) × (b < sizeIn (now graph)) ⌝ }
     ensures { λ r. ⌜ Finds (now (graph .entry)) true b from r ⌝ }

@@ -21,7 +21,7 @@ use Rattle.model.specs.ReductionLaws.{Members}
 use Rattle.model.specs.Tree.{startsOptional}
 use Rattle.hoistable.specs.declared.Levels.{Levels}
 use Rattle.hoistable.specs.Levels.{numberOf}
-use Rattle.hoistable.specs.Agreement.{agreed, levelsAlong, over, decided, Holds}
+use Rattle.hoistable.specs.Agreement.{agreed, levelsAlong, over, decided, HoldsLevels}
 use Rattle.hoistable.proofs.Walks.{lowest-bit}
 use Rattle.hoistable.proofs.Trees.{over-none}
 
@@ -38,7 +38,8 @@ module _ (i : IdentifierId) (es : List DependencyPathEntry) (xs ys : List Bool) 
   decides-ahead bit =
       decide (eqb (d .identifier .0) (i .0))
       (λ t. decide (startsOptional (d .path)) (λ o. rw o)
-      (λ o. let one = sym (ap (λ b. numberOf (cond b (agreed (d .path) es) []) % 2) t) ∙ bit in let none = agreed-bit (d .path) es ∙ ap (λ b. cond b 1 0) o in absurd (omega arith)))
+      (λ o. let one = sym (ap (λ b. numberOf (cond b (agreed (d .path) es) []) % 2) t) ∙ bit in let none = agreed-bit (d .path) es ∙ ap
+      (λ b. cond b 1 0) o in absurd (omega arith)))
       (λ t. let one : 0 ≡ 1 = sym (ap (λ b. numberOf (cond b (agreed (d .path) es) []) % 2) t) ∙ bit in absurd (omega arith))
 
   decides-rest : ¬ (numberOf (levelsAlong i es d) % 2 ≡ 1) → decided i es xs ys (d ∷ ds) ≡ decided i es xs (over ys (levelsAlong i es d)) ds
@@ -55,16 +56,17 @@ module _ (i : IdentifierId) (es : List DependencyPathEntry) (xs ys : List Bool) 
 pub record Deciding (i : IdentifierId) (es : List DependencyPathEntry) (ws set : List ℕ) (whole : List Bool) (v w : Levels) (from : ℕ) : Type 0 where
   pub xs : List Bool
   pub ys : List Bool
-  pub ahead : Holds xs v
-  pub rest : Holds ys w
+  pub ahead : HoldsLevels xs v
+  pub rest : HoldsLevels ys w
   pub inside : All (λ k. k .0 < countIn ws) (membersFrom set from)
   pub left : decided i es xs ys (map (fullPathOf (registryOf ws)) (membersFrom set from)) ≡ whole
 
 -- what `over` ensures of its result
 abbrev Over : Levels → Levels → Levels → Type 0
-Over v w q = (xs ys : List Bool) → Holds xs v → Holds ys w → Holds (over xs ys) q
+Over v w q = (xs ys : List Bool) → HoldsLevels xs v → HoldsLevels ys w → HoldsLevels (over xs ys) q
 
-pub deciding-start : (i : IdentifierId) (es : List DependencyPathEntry) (ws set : List ℕ) {v w : Levels} → Members (registryOf ws) (membersOf set) → Holds [] v → Holds [] w
+pub deciding-start : (i : IdentifierId) (es : List DependencyPathEntry) (ws set : List ℕ) {v w : Levels} → Members (registryOf ws) (membersOf set)
+    → HoldsLevels [] v → HoldsLevels [] w
     → Deciding i es ws set (decided i es [] [] (map (fullPathOf (registryOf ws)) (membersOf set))) v w 0
 deciding-start i es ws set members v w = record {
   xs = [];
@@ -75,11 +77,13 @@ deciding-start i es ws set members v w = record {
   left = refl;
 }
 
-module _ {i : IdentifierId} {es : List DependencyPathEntry} {ws set : List ℕ} {whole : List Bool} {v w : Levels} {from : ℕ} (a : Deciding i es ws set whole v w from) where
-  pub deciding-end : membersFrom set from ≡ [] → {q : Levels} → Over v w q → Holds whole q
+module _ {i : IdentifierId} {es : List DependencyPathEntry} {ws set : List ℕ} {whole : List Bool} {v w : Levels} {from : ℕ}
+    (a : Deciding i es ws set whole v w from) where
+  pub deciding-end : membersFrom set from ≡ [] → {q : Levels} → Over v w q → HoldsLevels whole q
   unfolding decided
   deciding-end none {q} o =
-      subst (λ bs. Holds bs q) (sym (ap (λ ks. decided i es (a .xs) (a .ys) (map (fullPathOf (registryOf ws)) ks)) none) ∙ a .left) (o (a .xs) (a .ys) (a .ahead) (a .rest))
+      subst (λ bs. HoldsLevels bs q) (sym (ap (λ ks. decided i es (a .xs) (a .ys) (map (fullPathOf (registryOf ws)) ks)) none) ∙ a .left)
+      (o (a .xs) (a .ys) (a .ahead) (a .rest))
 
   module _ (k : NodeId) (next : firstOf (membersFrom set from) ≡ At k) where
     there : Ahead set from k
@@ -100,8 +104,9 @@ module _ {i : IdentifierId} {es : List DependencyPathEntry} {ws set : List ℕ} 
     onward : decided i es (a .xs) (a .ys) (path ∷ map (fullPathOf (registryOf ws)) (membersFrom set (k .0 + 1))) ≡ whole
     onward = sym (ap (λ ks. decided i es (a .xs) (a .ys) (map (fullPathOf (registryOf ws)) ks)) (there .rest)) ∙ a .left
 
-    -- the path's levels, as the code has them, go to those ahead or to the others by their lowest bit
-    module _ (levels : Levels) (held : Holds (levelsAlong i es path) levels) (q : Levels) where
+    -- the path's levels, as the code has them, go to those ahead or to the others by their lowest
+    -- bit
+    module _ (levels : Levels) (held : HoldsLevels (levelsAlong i es path) levels) (q : Levels) where
       pub deciding-ahead : levels .optional % 2 ≡ 1 → Over v levels q → Deciding i es ws set whole q w (k .0 + 1)
       deciding-ahead bit o = record {
         xs = over (a .xs) (levelsAlong i es path);

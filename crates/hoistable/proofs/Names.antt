@@ -9,7 +9,7 @@ use Rattle.entries.specs.declared.Refusal.{Refusal}
 use Rattle.entries.specs.declared.PropertyLiteral.{PropertyLiteral}
 use Rattle.entries.specs.declared.DependencyPathEntry.{DependencyPathEntry}
 use Rattle.entries.specs.Path.{sameProperty}
-use Rattle.model.specs.Read.{got, refused, readMany}
+use Rattle.model.specs.ReadingBytes.{got, refused, readMany}
 use Rattle.model.specs.Job.{readEntry}
 use Rattle.job.proofs.Many.{many-first}
 use Rattle.hoistable.specs.Candidate.{entriesOf, entriesAt, Reads, Candidate}
@@ -53,5 +53,6 @@ module _ (q : PropertyLiteral) {left : ℕ} {s : List ℕ} {at : ℕ} {es : List
           let place : first .1 ≡ next = cc in
           record {
             next = r .next;
-            read = ap (λ n. readMany (left - 1) (readEntry 4) s n) (sym place) ∙ first .4 ∙ ap (λ (xs : List DependencyPathEntry). got (drop 1 xs) (r .next)) (first .5);
+            read = ap (λ n. readMany (left - 1) (readEntry 4) s n) (sym place) ∙ first .4 ∙ ap
+                (λ (xs : List DependencyPathEntry). got (drop 1 xs) (r .next)) (first .5);
           }

@@ -1,4 +1,5 @@
--- Lists of levels as the code holds them: the numbers of two lists put over each other, and of a path with one entry more.
+-- Lists of levels as the code holds them: the numbers of two lists put over each other, and of a
+-- path with one entry more.
 use Prim.Native.Nat.{ℕ, zero, suc, _+_, _*_, _-_, _/_, _^_, _≤_, _<_}
 use native.Mathlib.Omega.{arith}
 use native.Mathlib.Nat.{pow-suc, div-one, div-div-eq-div-mul, mul-left-comm}
@@ -13,7 +14,7 @@ use Rattle.model.specs.Answer.{flag}
 use Rattle.model.specs.Tests.{by-cond, decide, never, and-first, and-second}
 use Rattle.hoistable.specs.declared.Levels.{Levels}
 use Rattle.hoistable.specs.Levels.{numberOf, weightOf}
-use Rattle.hoistable.specs.Agreement.{agreed, nextSame, over, Holds, Small}
+use Rattle.hoistable.specs.Agreement.{agreed, nextSame, over, HoldsLevels, Small}
 use Rattle.hoistable.proofs.Walks.{number-later}
 
 number-below : (bs : List Bool) → numberOf bs < weightOf bs
@@ -31,7 +32,7 @@ weight-most [] n l = pow-pos n
 weight-most (b ∷ bs) zero l = absurd (omega arith)
 weight-most (b ∷ bs) (suc n) l = let h = weight-most bs n (omega arith) in let e = pow-suc 2 n in omega arith
 
-pub holds-small : {bs : List Bool} {v : Levels} → Holds bs v → Small v
+pub holds-small : {bs : List Bool} {v : Levels} → HoldsLevels bs v → Small v
 holds-small {bs} h =
     let below = number-below bs in
     let most = weight-most bs 17 (h .few) in
@@ -39,7 +40,7 @@ holds-small {bs} h =
     let o = h .optional in
     record { most = omega arith; below = omega arith }
 
-pub holds-none : Holds [] (record { end = 1; optional = 0 })
+pub holds-none : HoldsLevels [] (record { end = 1; optional = 0 })
 unfolding numberOf weightOf
 holds-none = record { few = omega arith; end = refl; optional = refl }
 
@@ -51,7 +52,7 @@ turned [] = refl
 turned (true ∷ bs) = let l = number-below bs in let h = turned bs in omega arith
 turned (false ∷ bs) = let l = number-below bs in let h = turned bs in omega arith
 
-pub holds-turned : {bs : List Bool} {v : Levels} → Holds bs v → v .end - 1 - v .optional ≡ numberOf (map not bs)
+pub holds-turned : {bs : List Bool} {v : Levels} → HoldsLevels bs v → v .end - 1 - v .optional ≡ numberOf (map not bs)
 holds-turned {bs} h = rw (h .end, h .optional) (sym (turned bs))
 
 -- One list over another.
@@ -68,7 +69,8 @@ later-bits y ys xs =
     ap (λ q. q * (2 * weightOf xs)) (sym (div-div-eq-div-mul (numberOf (y ∷ ys)) 2 (weightOf xs)) ∙ ap (λ n. n / weightOf xs) (number-later (y ∷ ys)))
     ∙ mul-left-comm (numberOf ys / weightOf xs) 2 (weightOf xs)
 
-over-longer : (xs ys : List Bool) → weightOf xs < weightOf ys → (weightOf (over xs ys) ≡ weightOf ys) × (numberOf (over xs ys) ≡ numberOf xs + numberOf ys / weightOf xs * weightOf xs)
+over-longer : (xs ys : List Bool) → weightOf xs < weightOf ys → (weightOf (over xs ys) ≡ weightOf ys) ×
+    (numberOf (over xs ys) ≡ numberOf xs + numberOf ys / weightOf xs * weightOf xs)
 unfolding numberOf weightOf
 over-longer [] ys l = (refl, let e = div-one (numberOf ys) in omega arith)
 over-longer (x ∷ xs) [] l = absurd (let s = weight-some xs in omega arith)
@@ -86,8 +88,8 @@ over-shorter [] (y ∷ ys) l = absurd (let s = weight-some ys in omega arith)
 over-shorter (x ∷ xs) [] l = refl
 over-shorter (x ∷ xs) (y ∷ ys) l = ap (λ bs. x ∷ bs) (over-shorter xs ys (omega arith))
 
-module _ {xs ys : List Bool} {v w : Levels} (hx : Holds xs v) (hy : Holds ys w) where
-  pub holds-longer : v .end < w .end → Holds (over xs ys) (record { end = w .end; optional = v .optional + w .optional / v .end * v .end })
+module _ {xs ys : List Bool} {v w : Levels} (hx : HoldsLevels xs v) (hy : HoldsLevels ys w) where
+  pub holds-longer : v .end < w .end → HoldsLevels (over xs ys) (record { end = w .end; optional = v .optional + w .optional / v .end * v .end })
   holds-longer l =
       let a = hx .end in
       let b = hy .end in
@@ -98,7 +100,7 @@ module _ {xs ys : List Bool} {v w : Levels} (hx : Holds xs v) (hy : Holds ys w) 
         optional = rw (hx .end, hx .optional, hy .optional) (sym (law .1));
       }
 
-  pub holds-shorter : w .end ≤ v .end → Holds (over xs ys) (record { end = v .end; optional = v .optional })
+  pub holds-shorter : w .end ≤ v .end → HoldsLevels (over xs ys) (record { end = v .end; optional = v .optional })
   holds-shorter l =
       let a = hx .end in
       let b = hy .end in
@@ -106,7 +108,8 @@ module _ {xs ys : List Bool} {v w : Levels} (hx : Holds xs v) (hy : Holds ys w) 
 
 -- A path with one entry more.
 
-pub prefix-snoc : (ds es : List DependencyPathEntry) (d : DependencyPathEntry) → prefixOfNames (ds ++ (d ∷ [])) es ≡ prefixOfNames ds es && nextSame (d .property) (drop (length ds) es)
+pub prefix-snoc : (ds es : List DependencyPathEntry) (d : DependencyPathEntry) → prefixOfNames (ds ++ (d ∷ [])) es ≡ prefixOfNames ds es && nextSame
+    (d .property) (drop (length ds) es)
 prefix-snoc [] [] d = refl
 prefix-snoc [] (e ∷ es) d = and-true (sameProperty (d .property) (e .property))
 prefix-snoc (a ∷ ds) [] d = refl
@@ -116,7 +119,8 @@ prefix-snoc (a ∷ ds) (e ∷ es) d =
 pub agreed-length : (ds es : List DependencyPathEntry) → length (agreed ds es) ≤ suc (length es)
 agreed-length [] es = omega arith
 agreed-length (d ∷ ds) [] = omega arith
-agreed-length (d ∷ ds) (e ∷ es) = by-cond (λ bs. suc (length bs) ≤ suc (suc (length es))) (sameProperty (d .property) (e .property)) (λ _. let h = agreed-length ds es in omega arith) (λ _. omega arith)
+agreed-length (d ∷ ds) (e ∷ es) = by-cond (λ bs. suc (length bs) ≤ suc (suc (length es))) (sameProperty (d .property) (e .property))
+    (λ _. let h = agreed-length ds es in omega arith) (λ _. omega arith)
 
 -- the names part before the entry: it changes nothing
 pub agreed-apart : (ds es : List DependencyPathEntry) (d : DependencyPathEntry) → prefixOfNames ds es ≡ false → agreed (ds ++ (d ∷ [])) es ≡ agreed ds es
@@ -140,12 +144,14 @@ cond-twice : (b : Bool) (n : ℕ) → 2 * cond b n 0 ≡ cond b (2 * n) 0
 cond-twice true n = refl
 cond-twice false n = refl
 
--- All names before the entry agree. The path no longer ends at their last position, so that its bit, which was 0, is the entry's optional mark ..
+-- All names before the entry agree. The path no longer ends at their last position, so that its
+-- bit, which was 0, is the entry's optional mark ..
 pub agreed-number : (ds es : List DependencyPathEntry) (d : DependencyPathEntry) → prefixOfNames ds es ≡ true
     → numberOf (agreed (ds ++ (d ∷ [])) es) ≡ numberOf (agreed ds es) + cond (d .optional) (weightOf (agreed ds es) / 2) 0
 unfolding numberOf weightOf
 agreed-number [] [] d p = let e = flag-cond (d .optional) in omega arith
-agreed-number [] (e ∷ es) d p = by-cond (λ bs. flag (d .optional) + 2 * numberOf bs ≡ 0 + cond (d .optional) 1 0) (sameProperty (d .property) (e .property)) (λ _. let f = flag-cond (d .optional) in omega arith) (λ _. let f = flag-cond (d .optional) in omega arith)
+agreed-number [] (e ∷ es) d p = by-cond (λ bs. flag (d .optional) + 2 * numberOf bs ≡ 0 + cond (d .optional) 1 0)
+    (sameProperty (d .property) (e .property)) (λ _. let f = flag-cond (d .optional) in omega arith) (λ _. let f = flag-cond (d .optional) in omega arith)
 agreed-number (a ∷ ds) [] d p = never p refl
 agreed-number (a ∷ ds) (e ∷ es) d p =
     let same = and-first (sameProperty (a .property) (e .property)) (prefixOfNames ds es) p in
@@ -169,6 +175,7 @@ agreed-weight (a ∷ ds) (e ∷ es) d p =
     let rest = and-second (sameProperty (a .property) (e .property)) (prefixOfNames ds es) p in
     rw (same, agreed-weight ds es d rest) (go (nextSame (d .property) (drop (length ds) es)))
   where
-    go : (b : Bool) → 2 * cond b (2 * weightOf (agreed ds es)) (weightOf (agreed ds es)) ≡ cond b (2 * (2 * weightOf (agreed ds es))) (2 * weightOf (agreed ds es))
+    go : (b : Bool) → 2 * cond b (2 * weightOf (agreed ds es)) (weightOf (agreed ds es)) ≡ cond b (2 * (2 * weightOf (agreed ds es)))
+        (2 * weightOf (agreed ds es))
     go true = refl
     go false = refl

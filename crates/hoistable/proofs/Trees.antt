@@ -1,4 +1,5 @@
--- What the hoistable tree says along a candidate's names is what the paths decide: each level by the first path that reaches it.
+-- What the hoistable tree says along a candidate's names is what the paths decide: each level by
+-- the first path that reaches it.
 use Prim.Native.Nat.{ℕ}
 use native.Mathlib.Omega.{arith}
 use mathlib.Core.Path.{_≡_, refl, sym, ap, _∙_}
@@ -15,10 +16,21 @@ use Rattle.model.specs.RegistryLaws.{property-same, property-true}
 use Rattle.model.specs.Sets.{NodeSet}
 use Rattle.model.specs.Registry.{PropertyPathRegistry, fullPathOf}
 use Rattle.model.specs.Forest.{Key, identifierKey, propertyKey, sameKey, Forest, empty, position, findKey, chain, add, addAll}
-use Rattle.model.specs.Tree.{HoistablePosition, hoistableKey, hoistablePath, hoistableEntries, hoistableTree, ordered, firstMade, accessBefore, accessIsNonNull, startsOptional}
+use Rattle.model.specs.Tree.{
+  HoistablePosition,
+  hoistableKey,
+  hoistablePositions,
+  hoistableEntries,
+  hoistableTree,
+  ordered,
+  firstMade,
+  accessBefore,
+  accessIsNonNull,
+  startsOptional,
+}
 use Rattle.hoistable.specs.declared.Levels.{Levels}
 use Rattle.hoistable.specs.Levels.{levelsOf, nonNullLevels, numberOf}
-use Rattle.hoistable.specs.Agreement.{agreed, levelsAlong, over, decided, Holds}
+use Rattle.hoistable.specs.Agreement.{agreed, levelsAlong, over, decided, HoldsLevels}
 
 -- Keys.
 
@@ -82,7 +94,8 @@ chain-levels (p ∷ ps) [] = refl
 chain-levels (p ∷ ps) (k ∷ ks) = ap (λ bs. cond (sameKey (p .key) k) (isOptional p ∷ bs) []) (chain-levels ps ks)
 
 -- a way down that is added decides the levels after those that the forest has
-add-levels : (f : Forest HoistablePosition) (ps : List HoistablePosition) (ks : List Key) → treeLevels (add hoistableKey firstMade f ps) ks ≡ over (treeLevels f ks) (wayLevels ps ks)
+add-levels : (f : Forest HoistablePosition) (ps : List HoistablePosition) (ks : List Key) → treeLevels (add hoistableKey firstMade f ps) ks ≡ over
+    (treeLevels f ks) (wayLevels ps ks)
 add-levels empty ps ks = chain-levels ps ks
 add-levels (position n c r) [] ks = sym (over-none (treeLevels (position n c r) ks))
 add-levels (position n c r) (p ∷ ps) [] = by-cond (λ f. treeLevels f [] ≡ []) (sameKey (n .key) (p .key)) (λ _. refl) (λ _. refl)
@@ -118,22 +131,26 @@ before-optional ds = go (startsOptional ds)
 abbrev positionBefore : Key → List DependencyPathEntry → HoistablePosition
 positionBefore k ds = record { key = k; access = accessBefore ds }
 
-path-levels : (j k : Key) (ds es : List DependencyPathEntry) → wayLevels (positionBefore j ds ∷ hoistableEntries ds) (k ∷ names es) ≡ cond (sameKey j k) (agreed ds es) []
+path-levels : (j k : Key) (ds es : List DependencyPathEntry) → wayLevels (positionBefore j ds ∷ hoistableEntries ds) (k ∷ names es) ≡ cond (sameKey j k)
+    (agreed ds es) []
 path-levels j k [] es = refl
 path-levels j k (d ∷ ds) [] = ap (λ b. cond (sameKey j k) (b ∷ []) []) (before-optional (d ∷ ds))
 path-levels j k (d ∷ ds) (e ∷ es) =
-    ap (λ b. cond (sameKey j k) (b ∷ wayLevels (positionBefore (propertyKey (d .property)) ds ∷ hoistableEntries ds) (names (e ∷ es))) []) (before-optional (d ∷ ds))
+    ap (λ b. cond (sameKey j k) (b ∷ wayLevels (positionBefore (propertyKey (d .property)) ds ∷ hoistableEntries ds) (names (e ∷ es))) [])
+    (before-optional (d ∷ ds))
     ∙ ap (λ bs. cond (sameKey j k) (d .optional ∷ bs) []) (path-levels (propertyKey (d .property)) (propertyKey (e .property)) ds es)
 
 paths-levels : (i : IdentifierId) (es : List DependencyPathEntry) (ds : List ReactiveScopeDependency)
-    → map (wayLevelsAt (identifierKey i ∷ names es)) (map hoistablePath ds) ≡ map (levelsAlong i es) ds
+    → map (wayLevelsAt (identifierKey i ∷ names es)) (map hoistablePositions ds) ≡ map (levelsAlong i es) ds
 paths-levels i es [] = refl
 paths-levels i es (d ∷ ds) = λ j. path-levels (identifierKey (d .identifier)) (identifierKey i) (d .path) es j ∷ paths-levels i es ds j
 
--- "Paths with an optional first entry ahead": what all decide is what those decide, and then the others.
+-- "Paths with an optional first entry ahead": what all decide is what those decide, and then the
+-- others.
 decided-split : (i : IdentifierId) (es : List DependencyPathEntry) (xs ys : List Bool) (ds : List ReactiveScopeDependency)
     → decided i es xs ys ds
-    ≡ over (overAll xs (map (levelsAlong i es) (select (λ d. startsOptional (d .path)) ds))) (overAll ys (map (levelsAlong i es) (select (λ d. not (startsOptional (d .path))) ds)))
+    ≡ over (overAll xs (map (levelsAlong i es) (select (λ d. startsOptional (d .path)) ds)))
+    (overAll ys (map (levelsAlong i es) (select (λ d. not (startsOptional (d .path))) ds)))
 unfolding decided
 decided-split i es xs ys [] = refl
 decided-split i es xs ys (d ∷ ds) =
@@ -141,12 +158,13 @@ decided-split i es xs ys (d ∷ ds) =
     (λ e. rw e (decided-split i es (over xs (levelsAlong i es d)) ys ds))
     (λ e. rw e (decided-split i es xs (over ys (levelsAlong i es d)) ds))
 
-tree-decided : (i : IdentifierId) (es : List DependencyPathEntry) (ds : List ReactiveScopeDependency) → treeLevels (hoistableTree ds) (identifierKey i ∷ names es) ≡ decided i es [] [] ds
+tree-decided : (i : IdentifierId) (es : List DependencyPathEntry) (ds : List ReactiveScopeDependency) → treeLevels (hoistableTree ds)
+    (identifierKey i ∷ names es) ≡ decided i es [] [] ds
 unfolding hoistableTree ordered
 tree-decided i es ds =
     let p : ReactiveScopeDependency → Bool = λ d. startsOptional (d .path) in
     let q : ReactiveScopeDependency → Bool = λ d. not (startsOptional (d .path)) in
-    all-levels empty (map hoistablePath (ordered ds)) (identifierKey i ∷ names es)
+    all-levels empty (map hoistablePositions (ordered ds)) (identifierKey i ∷ names es)
     ∙ ap (overAll []) (paths-levels i es (ordered ds) ∙ map-append (levelsAlong i es) (select p ds) (select q ds))
     ∙ over-append [] (map (levelsAlong i es) (select p ds)) (map (levelsAlong i es) (select q ds))
     ∙ sym (decided-split i es [] [] ds)
@@ -162,7 +180,8 @@ tree-none : (f : Forest HoistablePosition) → treeLevels f [] ≡ []
 tree-none empty = refl
 tree-none (position p c r) = refl
 
-levels-number : (f : Forest HoistablePosition) (k : Key) (es : List DependencyPathEntry) → numberOf (levelsOf (findKey hoistableKey f k) es) ≡ numberOf (map not (treeLevels f (k ∷ names es)))
+levels-number : (f : Forest HoistablePosition) (k : Key) (es : List DependencyPathEntry) → numberOf (levelsOf (findKey hoistableKey f k) es) ≡ numberOf
+    (map not (treeLevels f (k ∷ names es)))
 unfolding numberOf levelsOf
 levels-number empty k es = none-levels es
 levels-number (position p c r) k [] =
@@ -181,5 +200,6 @@ module _ (reg : PropertyPathRegistry) (set : NodeSet) (i : IdentifierId) (es : L
       ap (λ xs. numberOf (map not xs)) (sym (tree-decided i es ds)) ∙ sym (levels-number (hoistableTree ds) (identifierKey i) es)
 
   -- a number that turns each bit of the list that the code holds
-  pub decided-number : {v : Levels} {r : ℕ} → Holds (decided i es [] [] (map (fullPathOf reg) set)) v → ((xs : List Bool) → Holds xs v → r ≡ numberOf (map not xs)) → r ≡ numberOf (nonNullLevels reg set i es)
+  pub decided-number : {v : Levels} {r : ℕ} → HoldsLevels (decided i es [] [] (map (fullPathOf reg) set)) v →
+      ((xs : List Bool) → HoldsLevels xs v → r ≡ numberOf (map not xs)) → r ≡ numberOf (nonNullLevels reg set i es)
   decided-number h turns = turns (decided i es [] [] (map (fullPathOf reg) set)) h ∙ turned-number

@@ -1,9 +1,10 @@
--- The entries of a candidate as a function is given them: a number of them and their place in the job's bytes.
+-- The entries of a candidate as a function is given them: a number of them and their place in the
+-- job's bytes.
 use Prim.Native.Nat.{ℕ, _≤_}
 use mathlib.Core.Path.{_≡_}
 use mathlib.Core.List.{List, []}
 use Rattle.entries.specs.declared.DependencyPathEntry.{DependencyPathEntry}
-use Rattle.model.specs.Read.{Read, got, refused, readMany}
+use Rattle.model.specs.ReadingBytes.{Read, got, refused, readMany}
 use Rattle.model.specs.Answer.{spanWidth}
 use Rattle.model.specs.Job.{readEntry}
 use Rattle.model.specs.RegistryLaws.{Sound}
@@ -28,7 +29,8 @@ pub record Candidate (count : ℕ) (s : List ℕ) (at : ℕ) : Type 0 where
   pub few : count ≤ 16
   pub reads : Reads count s at (entriesAt count s at)
 
--- What is asked of the words and the bytes: a registry as its operations make it, and a candidate's entries.
+-- What is asked of the words and the bytes: a registry as its operations make it, and a candidate's
+-- entries.
 pub record Ready (ws : List ℕ) (count : ℕ) (s : List ℕ) (at : ℕ) : Type 0 where
   pub sized : Sized ws
   pub sound : Sound (registryOf ws)

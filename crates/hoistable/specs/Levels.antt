@@ -1,18 +1,20 @@
--- The levels of a candidate are its root and the positions after each of its entries. At which of them the hoistable tree is NonNull, as a list and as a
--- number.
+-- The levels of a candidate are its root and the positions after each of its entries. At which of
+-- them the hoistable tree is NonNull, as a list and as a number.
 use Prim.Native.Nat.{ℕ, _+_, _*_}
 use mathlib.Core.Bool.{Bool, false}
 use mathlib.Core.List.{List, [], _∷_, map}
 use mathlib.Core.Option.{Option}
 use Rattle.entries.specs.declared.IdentifierId.{IdentifierId}
 use Rattle.entries.specs.declared.DependencyPathEntry.{DependencyPathEntry}
+use Rattle.model.specs.Lists.{firstFlag}
 use Rattle.model.specs.Answer.{flag}
 use Rattle.model.specs.Sets.{NodeSet}
 use Rattle.model.specs.Registry.{PropertyPathRegistry, fullPathOf}
 use Rattle.model.specs.Forest.{identifierKey, propertyKey, Found, findKey, childByKey}
 use Rattle.model.specs.Tree.{HoistablePosition, hoistableKey, hoistableTree, atNonNull}
 
--- for each level from a position of the hoistable tree on, down the names of the entries: the tree has a position there, and it is NonNull
+-- for each level from a position of the hoistable tree on, down the names of the entries: the tree
+-- has a position there, and it is NonNull
 unfoldable pub levelsOf : Option (Found HoistablePosition) → List DependencyPathEntry → List Bool
 levelsOf h [] = atNonNull h ∷ []
 levelsOf h (e ∷ es) = atNonNull h ∷ levelsOf (childByKey hoistableKey h (propertyKey (e .property))) es
@@ -21,11 +23,6 @@ levelsOf h (e ∷ es) = atNonNull h ∷ levelsOf (childByKey hoistableKey h (pro
 unfoldable pub nonNullLevels : PropertyPathRegistry → NodeSet → IdentifierId → List DependencyPathEntry → List Bool
 unfolding levelsOf
 nonNullLevels reg set i es = levelsOf (findKey hoistableKey (hoistableTree (map (fullPathOf reg) set)) (identifierKey i)) es
-
--- the first of a list, where there is one
-abbrev pub firstLevel : List Bool → Bool
-firstLevel [] = false
-firstLevel (b ∷ bs) = b
 
 -- the others
 abbrev pub laterLevels : List Bool → List Bool

@@ -1,5 +1,6 @@
-// At which levels of a candidate the hoistable tree is NonNull. The tree is not built: a level is decided by the first path of the set, in
-// the tree's order, whose names agree with the candidate's that far, and the registry has the set's paths.
+// At which levels of a candidate the hoistable tree is NonNull. The tree is not built: a level is
+// decided by the first path of the set, in the tree's order, whose names agree with the candidate's
+// that far, and the registry has the set's paths.
 ghost use mathlib.Core.Path.{_≡_};
 ghost use Prim.Native.Nat.{ℕ, _+_, _/_, _≤_, _<_};
 ghost use mathlib.Core.Bool.{Bool, not, cond};
@@ -16,7 +17,7 @@ ghost use Rattle.model.specs.RegistryLaws.{Child};
 ghost use Rattle.model.specs.ReductionLaws.{Members};
 ghost use Rattle.hoistable.specs.Levels.{numberOf, nonNullLevels};
 ghost use Rattle.hoistable.specs.Candidate.{entriesAt, Reads, Ready};
-ghost use Rattle.hoistable.specs.Agreement.{over, decided, Holds, Small, NextIs, Agrees};
+ghost use Rattle.hoistable.specs.Agreement.{over, decided, HoldsLevels, Small, NextIs, Agrees};
 use entries::DependencyPathEntry;
 use entries::IdentifierId;
 use entries::NodeId;
@@ -26,15 +27,15 @@ use registry::load;
 use rows::Next;
 use rows::NodeBits;
 
-// What is known of the first levels: bit j of `optional` is 1 where the position at level j is Optional, and `end` is what the bit after
-// them is worth.
+// What is known of the first levels: bit j of `optional` is 1 where the position at level j is
+// Optional, and `end` is what the bit after them is worth.
 struct Levels {
     pub end: u32,
     pub optional: u32,
 }
 
-// How far a path agrees with a candidate: the levels that it decides; whether the candidate has all its names; and if so, the place of the
-// candidate's next entry and how many are left.
+// How far a path agrees with a candidate: the levels that it decides; whether the candidate has all
+// its names; and if so, the place of the candidate's next entry and how many are left.
 struct Agreement {
     pub levels: Levels,
     pub whole: bool,
@@ -44,7 +45,7 @@ struct Agreement {
 
 impl Levels {
     fn none() -> Levels
-        ensures { λ r. ⌜ Holds [] r ⌝ }
+        ensures { λ r. ⌜ HoldsLevels [] r ⌝ }
     {
         Levels {
             end: 1,
@@ -55,7 +56,7 @@ impl Levels {
     // The levels known here stay; those after them are the other's.
     fn over(self, other: Levels) -> Levels
         requires { ⌜ Small self × Small other ⌝ }
-        ensures { λ r. ⌜ ((xs ys : List Bool) → Holds xs self → Holds ys other → Holds (over xs ys) r) ⌝ }
+        ensures { λ r. ⌜ ((xs ys : List Bool) → HoldsLevels xs self → HoldsLevels ys other → HoldsLevels (over xs ys) r) ⌝ }
     {
         let end = self.end;
         let optional = self.optional;
@@ -91,13 +92,14 @@ impl Levels {
     // Bit j is 1 where the position at level j is NonNull.
     fn nonnull(self) -> u32
         requires { ⌜ Small self ⌝ }
-        ensures { λ r. ⌜ ((xs : List Bool) → Holds xs self → r ≡ numberOf (map not xs)) ⌝ }
+        ensures { λ r. ⌜ ((xs : List Bool) → HoldsLevels xs self → r ≡ numberOf (map not xs)) ⌝ }
     {
         self.end - 1 - self.optional
     }
 }
 
-// Whether the candidate's next entry has a path's next name; then the place after it and how many are left there.
+// Whether the candidate's next entry has a path's next name; then the place after it and how many
+// are left there.
 enum NextName {
     Same(usize, u8),
     Other,
@@ -122,10 +124,12 @@ fn next_name(s: &[u8], at: usize, left: u8, e: DependencyPathEntry) -> NextName
     }
 }
 
-// A path that goes on by the entry e. Where its names parted from the candidate's before, nothing changes.
+// A path that goes on by the entry e. Where its names parted from the candidate's before, nothing
+// changes.
 fn further(s: &[u8], r: Agreement, e: DependencyPathEntry) -> Agreement
     requires { ⌜ Small (r .levels) ⌝ }
-    ensures { λ q. ⌜ ((i : IdentifierId) (es : List DependencyPathEntry) (d d′ : ReactiveScopeDependency) → length es ≤ 16 → Child d e d′ → Agrees (now (s .entry)) i es d r → Agrees (now (s .entry)) i es d′ q) ⌝ }
+    ensures { λ q. ⌜ ((i : IdentifierId) (es : List DependencyPathEntry) (d d′ : ReactiveScopeDependency) → length es ≤ 16
+        → Child d e d′ → Agrees (now (s .entry)) i es d r → Agrees (now (s .entry)) i es d′ q) ⌝ }
 {
     let before = r.levels;
     let at = r.at;
@@ -163,7 +167,8 @@ fn further(s: &[u8], r: Agreement, e: DependencyPathEntry) -> Agreement
 
 // A path of no entries has its root's level, where the identifiers are the same.
 fn at_root(same: bool, at: usize, left: u8) -> Agreement
-    ensures { λ r. ⌜ ((s : List ℕ) (i : IdentifierId) (es : List DependencyPathEntry) (d : ReactiveScopeDependency) → d .path ≡ [] → same ≡ eqb (d .identifier .0) (i .0) → Reads left s at es → Agrees s i es d r) ⌝ }
+    ensures { λ r. ⌜ ((s : List ℕ) (i : IdentifierId) (es : List DependencyPathEntry) (d : ReactiveScopeDependency) → d .path ≡ []
+        → same ≡ eqb (d .identifier .0) (i .0) → Reads left s at es → Agrees s i es d r) ⌝ }
 {
     if same {
         Agreement {
@@ -185,7 +190,8 @@ fn at_root(same: bool, at: usize, left: u8) -> Agreement
     }
 }
 
-// How far the path of node k agrees with the candidate that has the identifier and the `count` entries at `start`.
+// How far the path of node k agrees with the candidate that has the identifier and the `count`
+// entries at `start`.
 fn follow(
     ws: &[u64; 1665],
     s: &[u8],
@@ -195,7 +201,8 @@ fn follow(
     k: NodeId,
 ) -> Agreement
     requires { ⌜ Ready (now ws) count (now s) start × (k .0 < countIn (now ws)) ⌝ }
-    ensures { λ r. ⌜ Agrees (now (s .entry)) identifier (entriesAt count (now (s .entry)) start) (fullPathOf (registryOf (now (ws .entry))) k) r ⌝ }
+    ensures { λ r. ⌜ Agrees (now (s .entry)) identifier (entriesAt count (now (s .entry)) start)
+        (fullPathOf (registryOf (now (ws .entry))) k) r ⌝ }
 {
     let n = load(ws, k);
     match n {
@@ -207,8 +214,9 @@ fn follow(
     }
 }
 
-// What the set's paths decide of the candidate's levels. Those with an optional first entry come first in the tree's order, so what they
-// decide is kept apart until the end. A path whose root is another's decides nothing, and may go with either.
+// What the set's paths decide of the candidate's levels. Those with an optional first entry come
+// first in the tree's order, so what they decide is kept apart until the end. A path whose root is
+// another's decides nothing, and may go with either.
 fn decided_levels(
     ws: &[u64; 1665],
     set: NodeBits,
@@ -218,7 +226,8 @@ fn decided_levels(
     count: u8,
 ) -> Levels
     requires { ⌜ Ready (now ws) count (now s) start × Members (registryOf (now ws)) (membersOf (set .words)) ⌝ }
-    ensures { λ r. ⌜ Holds (decided identifier (entriesAt count (now (s .entry)) start) [] [] (map (fullPathOf (registryOf (now (ws .entry)))) (membersOf (set .words)))) r ⌝ }
+    ensures { λ r. ⌜ HoldsLevels (decided identifier (entriesAt count (now (s .entry)) start) [] []
+        (map (fullPathOf (registryOf (now (ws .entry)))) (membersOf (set .words)))) r ⌝ }
 {
     let mut ahead = Levels::none();
     let mut rest = Levels::none();
@@ -239,8 +248,8 @@ fn decided_levels(
     ahead.over(rest)
 }
 
-// At which levels of a candidate the hoistable tree of the set is NonNull: bit j for level j. The candidate has the identifier and the
-// `count` entries at `start`.
+// At which levels of a candidate the hoistable tree of the set is NonNull: bit j for level j. The
+// candidate has the identifier and the `count` entries at `start`.
 pub fn nonnull_levels(
     ws: &[u64; 1665],
     set: NodeBits,
@@ -250,7 +259,8 @@ pub fn nonnull_levels(
     count: u8,
 ) -> u32
     requires { ⌜ Ready (now ws) count (now s) start × Members (registryOf (now ws)) (membersOf (set .words)) ⌝ }
-    ensures { λ r. ⌜ r ≡ numberOf (nonNullLevels (registryOf (now (ws .entry))) (membersOf (set .words)) identifier (entriesAt count (now (s .entry)) start)) ⌝ }
+    ensures { λ r. ⌜ r ≡ numberOf (nonNullLevels (registryOf (now (ws .entry))) (membersOf (set .words)) identifier
+        (entriesAt count (now (s .entry)) start)) ⌝ }
 {
     let levels = decided_levels(ws, set, s, identifier, start, count);
     levels.nonnull()

@@ -8,7 +8,7 @@ use native.Mathlib.Omega.{arith}
 use lib.ListN.{length, getD}
 use lib.Seq.{sets, getD-take}
 use Rattle.entries.specs.declared.Refusal.the-variants.{RepeatedId, UnknownBlock}
-use Rattle.model.specs.Read.{got, refused, readMany}
+use Rattle.model.specs.ReadingBytes.{got, refused, readMany}
 use Rattle.model.specs.Job.{HD, CA, Header, Job, idsOf, readPath, readBlock, readRecords, hasRepeat, hasUnknown, acceptIds, readJob}
 use Rattle.job.specs.Kept.{notePlace, noteNumber, blockNotes, blockPlaces, blockNumbers, candidatesAt, headOf, keptOf}
 use Rattle.job.specs.declared.JobHead.{JobHead}

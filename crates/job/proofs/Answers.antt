@@ -6,7 +6,7 @@ use native.Mathlib.Omega.{arith}
 use lib.ListN.{length}
 use lib.Seq.{sets, length-sets}
 use Rattle.entries.specs.declared.Refusal.{Refusal}
-use Rattle.model.specs.Read.{Read, andThen}
+use Rattle.model.specs.ReadingBytes.{Read, andThen}
 use Rattle.model.specs.Job.{HD, Header, Block, Job, readBlock, readRecords, acceptIds, readJob}
 use Rattle.job.specs.Ids.{BlocksRead, checkedBy}
 use Rattle.job.specs.Kept.{notePlace, blockNotes, blockPlaces, blockNumbers, keptOf}

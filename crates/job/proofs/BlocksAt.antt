@@ -4,7 +4,7 @@ use Prim.Native.Nat.{ℕ, suc, _<_}
 use mathlib.Core.Path.{_≡_, sym, ap, subst, _∙_}
 use mathlib.Core.List.{List, _∷_}
 use lib.ListN.{length, getD, drop}
-use Rattle.model.specs.Read.{Read, got}
+use Rattle.model.specs.ReadingBytes.{Read, got}
 use Rattle.model.specs.Job.{Block, Job, readBlock}
 use Rattle.job.specs.Passing.{orNone}
 use Rattle.job.specs.Kept.{BlocksAt, blocksOf, headOf, keptOf}

@@ -7,7 +7,7 @@ use borrow.Author.Tests.{leb-true}
 use lib.Dec.{leb}
 use Rattle.entries.specs.declared.Refusal.{Refusal}
 use Rattle.entries.specs.declared.Refusal.the-variants.{OutOfRange}
-use Rattle.model.specs.Read.{Read, got, refused, Reader, andThen, readNumber, readMark, readWithin, readFlag}
+use Rattle.model.specs.ReadingBytes.{Read, got, refused, ByteReader, andThen, readNumber, readMark, readWithin, readFlag}
 use Rattle.model.specs.Job.{BL, Header, readBlockId, readHeader}
 use Rattle.model.specs.Tests.{and-second}
 use Rattle.fields.proofs.Within.{within-fields}
@@ -16,36 +16,36 @@ use Rattle.job.specs.declared.PathHead.{PathHead}
 use Rattle.job.specs.declared.BlockHead.{BlockHead}
 use Rattle.job.proofs.Fields.{header-fields}
 
-abbrev pub Holds : {A : Type 0} → (A → Type 0) → Read A → Type 0
-Holds P (got a next) = P a
-Holds P (refused r) = Unit
+abbrev pub HoldsIfRead : {A : Type 0} → (A → Type 0) → Read A → Type 0
+HoldsIfRead P (got a next) = P a
+HoldsIfRead P (refused r) = Unit
 
-pub held : {A : Type 0} (P : A → Type 0) {x : Read A} {a : A} {n : ℕ} → x ≡ got a n → Holds P x → P a
+pub held : {A : Type 0} (P : A → Type 0) {x : Read A} {a : A} {n : ℕ} → x ≡ got a n → HoldsIfRead P x → P a
 held P e h = rw e at h
 
 pub holds-then : {A B : Type 0} (P : A → Type 0) (Q : B → Type 0) (x : Read A) (rest : A → ℕ → Read B)
-    → Holds P x → ((a : A) (n : ℕ) → P a → Holds Q (rest a n)) → Holds Q (andThen x rest)
+    → HoldsIfRead P x → ((a : A) (n : ℕ) → P a → HoldsIfRead Q (rest a n)) → HoldsIfRead Q (andThen x rest)
 holds-then P Q (got a n) rest h f = f a n h
 holds-then P Q (refused r) rest h f = tt
 
 -- where nothing of the first part matters
 pub holds-after : {A B : Type 0} (Q : B → Type 0) (x : Read A) (rest : A → ℕ → Read B)
-    → ((a : A) (n : ℕ) → Holds Q (rest a n)) → Holds Q (andThen x rest)
+    → ((a : A) (n : ℕ) → HoldsIfRead Q (rest a n)) → HoldsIfRead Q (andThen x rest)
 holds-after Q (got a n) rest f = f a n
 holds-after Q (refused r) rest f = tt
 
-tested : (P : ℕ → Type 0) (b : Bool) (x n : ℕ) (r : Refusal) → (b ≡ true → P x) → Holds P (cond b (got x n) (refused r))
+tested : (P : ℕ → Type 0) (b : Bool) (x n : ℕ) (r : Refusal) → (b ≡ true → P x) → HoldsIfRead P (cond b (got x n) (refused r))
 tested P true x n r f = f refl
 tested P false x n r f = tt
 
-pub within-most : (least most : ℕ) (read : Reader ℕ) (s : List ℕ) (at : ℕ) → Holds (λ x. x ≤ most) (readWithin least most read s at)
+pub within-most : (least most : ℕ) (read : ByteReader ℕ) (s : List ℕ) (at : ℕ) → HoldsIfRead (λ x. x ≤ most) (readWithin least most read s at)
 within-most least most read s at =
     rw within-fields
     (holds-after (λ x. x ≤ most) (read s at) _ (λ found next.
     tested (λ x. x ≤ most) (leb least found && leb found most) found next OutOfRange
     (λ h. leb-true found most (and-second (leb least found) (leb found most) h))))
 
-pub blocks-most : (mark : ℕ) (s : List ℕ) (at : ℕ) → Holds (λ (h : Header). h .blocks ≤ 128) (readHeader mark s at)
+pub blocks-most : (mark : ℕ) (s : List ℕ) (at : ℕ) → HoldsIfRead (λ (h : Header). h .blocks ≤ 128) (readHeader mark s at)
 blocks-most mark s at =
     let P : Header → Type 0 = λ h. h .blocks ≤ 128 in
     rw header-fields
@@ -54,7 +54,7 @@ blocks-most mark s at =
     holds-after P (readWithin 0 64 (readNumber 2) s candidatesAt) _ (λ candidates scopeAt.
     holds-after P (readBlockId s scopeAt) _ (λ scope next. few)))))
 
-pub candidates-most : (mark : ℕ) (s : List ℕ) (at : ℕ) → Holds (λ (h : Header). h .candidates ≤ 64) (readHeader mark s at)
+pub candidates-most : (mark : ℕ) (s : List ℕ) (at : ℕ) → HoldsIfRead (λ (h : Header). h .candidates ≤ 64) (readHeader mark s at)
 candidates-most mark s at =
     let P : Header → Type 0 = λ h. h .candidates ≤ 64 in
     rw header-fields
@@ -63,7 +63,7 @@ candidates-most mark s at =
     holds-then (λ x. x ≤ 64) P (readWithin 0 64 (readNumber 2) s candidatesAt) _ (within-most 0 64 (readNumber 2) s candidatesAt) (λ candidates scopeAt few.
     holds-after P (readBlockId s scopeAt) _ (λ scope next. few)))))
 
-pub predecessors-most : (s : List ℕ) (at : ℕ) → Holds (λ (h : BlockHead). h .predecessors ≤ 64) (readBlockHead s at)
+pub predecessors-most : (s : List ℕ) (at : ℕ) → HoldsIfRead (λ (h : BlockHead). h .predecessors ≤ 64) (readBlockHead s at)
 unfolding readBlockHead
 predecessors-most s at =
     let P : BlockHead → Type 0 = λ h. h .predecessors ≤ 64 in
@@ -72,7 +72,7 @@ predecessors-most s at =
     holds-then (λ x. x ≤ 64) P (readWithin 0 64 (readNumber 1) s countAt) _ (within-most 0 64 (readNumber 1) s countAt) (λ count assumedAt few.
     holds-after P (readNumber 1 s assumedAt) _ (λ assumed next. few))))
 
-pub entries-most : (s : List ℕ) (at : ℕ) → Holds (λ (h : PathHead). h .entries ≤ 16) (readPathHead s at)
+pub entries-most : (s : List ℕ) (at : ℕ) → HoldsIfRead (λ (h : PathHead). h .entries ≤ 16) (readPathHead s at)
 unfolding readPathHead
 entries-most s at =
     let P : PathHead → Type 0 = λ h. h .entries ≤ 16 in

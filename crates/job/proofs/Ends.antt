@@ -10,7 +10,7 @@ use lib.Dec.{eqb, leb}
 use lib.ListN.{length}
 use Rattle.entries.specs.declared.Refusal.{Refusal}
 use Rattle.entries.specs.declared.Refusal.the-variants.{WrongMark, OutOfRange}
-use Rattle.model.specs.Read.{Read, got, refused, Reader, andThen, mapped, readMany, readNumber, readMark, readWithin, readFlag}
+use Rattle.model.specs.ReadingBytes.{Read, got, refused, ByteReader, andThen, mapped, readMany, readNumber, readMark, readWithin, readFlag}
 use Rattle.model.specs.Job.{BL, readBlockId, readEntry}
 use Rattle.model.specs.Tests.{decide}
 use Rattle.fields.proofs.Number.{number-got, number-missing}
@@ -49,7 +49,7 @@ pub mark-ends : (mark : ℕ) (s : List ℕ) (at : ℕ) → EndsAt (at + 2) (read
 mark-ends mark s at =
     rw mark-fields (ends-then (at + 2) (at + 2) (readNumber 2 s at) _ (number-ends 1 s at) (λ found. ends-tested (at + 2) (eqb found mark) tt WrongMark))
 
-pub within-ends : (end least most : ℕ) (read : Reader ℕ) (s : List ℕ) (at : ℕ) → EndsAt end (read s at) → EndsAt end (readWithin least most read s at)
+pub within-ends : (end least most : ℕ) (read : ByteReader ℕ) (s : List ℕ) (at : ℕ) → EndsAt end (read s at) → EndsAt end (readWithin least most read s at)
 within-ends end least most read s at h =
     rw within-fields (ends-then end end (read s at) _ h (λ found. ends-tested end (leb least found && leb found most) found OutOfRange))
 
@@ -125,7 +125,7 @@ entry-ends s at =
     ends-then (at + 1 + 1 + 8 + 4) (at + 14) (readNumber 4 s (at + 1 + 1 + 8)) _ (number-ends 3 s (at + 1 + 1 + 8)) (λ span. e)))))
 
 -- records of one width, one after the other
-module _ {A : Type 0} (width : ℕ) (read : Reader A) (s : List ℕ) (one : (at : ℕ) → EndsAt (at + width) (read s at)) where
+module _ {A : Type 0} (width : ℕ) (read : ByteReader A) (s : List ℕ) (one : (at : ℕ) → EndsAt (at + width) (read s at)) where
   pub many-ends : (n at : ℕ) → EndsAt (at + width * n) (readMany n read s at)
   many-ends zero at = rw (mul-zero width, add-zero at) refl
   many-ends (suc n) at =

@@ -2,7 +2,7 @@
 use Prim.Native.Nat.{ℕ}
 use mathlib.Core.Path.{_≡_, refl}
 use mathlib.Core.List.{List}
-use Rattle.model.specs.Read.{got, andThen, readNumber, readMark, readWithin, readFlag}
+use Rattle.model.specs.ReadingBytes.{got, andThen, readNumber, readMark, readWithin, readFlag}
 use Rattle.entries.specs.Property.{propertyOf}
 use Rattle.model.specs.Job.{readBlockId, readEntry, readHeader}
 

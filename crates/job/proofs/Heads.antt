@@ -6,7 +6,7 @@ use mathlib.Core.List.{List}
 use Rattle.entries.specs.declared.BlockId.{BlockId}
 use Rattle.entries.specs.declared.DependencyPathEntry.{DependencyPathEntry}
 use Rattle.entries.specs.Path.{ReactiveScopeDependency}
-use Rattle.model.specs.Read.{Read, got, refused, andThen, mapped, both, readMany, readNumber, readMark, readWithin, readFlag}
+use Rattle.model.specs.ReadingBytes.{Read, got, refused, andThen, mapped, both, readMany, readNumber, readMark, readWithin, readFlag}
 use Rattle.model.specs.Job.{BL, PA, Block, readBlockId, readEntry, readPath, readBlock}
 use Rattle.job.specs.Head.{readPathHead, readBlockHead}
 use Rattle.job.specs.declared.PathHead.{PathHead}

@@ -8,7 +8,7 @@ use borrow.Author.Tests.{leb-true, leb-false}
 use lib.Dec.{leb}
 use lib.ListN.{length}
 use Rattle.entries.specs.declared.Refusal.the-variants.{MissingByte}
-use Rattle.model.specs.Read.{got, refused, readMany}
+use Rattle.model.specs.ReadingBytes.{got, refused, readMany}
 use Rattle.model.specs.Job.{readBlockId}
 use Rattle.model.specs.Tests.{decide}
 use Rattle.fields.proofs.Number.{number-got, number-missing}

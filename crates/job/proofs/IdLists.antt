@@ -8,8 +8,8 @@ use borrow.Author.Tests.{eq-eqb, ne-eqb}
 use lib.ListN.{length, getD, drop, drop-of-length-le}
 use lib.Seq.{drop-cons}
 use Rattle.model.specs.Lists.{anyOf}
-use Rattle.model.specs.Job.{containsId, repeats}
-use Rattle.job.specs.Ids.{blockId, blockIds, anyUnknown}
+use Rattle.model.specs.Job.{containsId, repeats, blockId}
+use Rattle.job.specs.Ids.{blockIds, anyUnknown}
 
 module _ (xs : List ℕ) (i : ℕ) where
   pub contains-none : (x : ℕ) → length xs ≤ i → containsId (blockIds (drop i xs)) (blockId x) ≡ false

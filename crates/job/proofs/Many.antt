@@ -5,26 +5,26 @@ use mathlib.Core.Path.{_≡_, refl, ap}
 use mathlib.Core.List.{List, [], _∷_}
 use native.Mathlib.Omega.{arith}
 use lib.ListN.{length, getD, drop}
-use Rattle.model.specs.Read.{Read, got, refused, Reader, mapped, both, readMany}
+use Rattle.model.specs.ReadingBytes.{Read, got, refused, ByteReader, mapped, both, readMany}
 use Rattle.job.specs.Passing.{notes}
-use Rattle.job.proofs.Bounds.{Holds, held}
+use Rattle.job.proofs.Bounds.{HoldsIfRead, held}
 use Rattle.job.proofs.Passing.{both-got}
 
 pub holds-mapped : {A B : Type 0} (P : A → Type 0) (Q : B → Type 0) (f : A → B) → ((a : A) → P a → Q (f a))
-    → (x : Read A) → Holds P x → Holds Q (mapped f x)
+    → (x : Read A) → HoldsIfRead P x → HoldsIfRead Q (mapped f x)
 holds-mapped P Q f h (got a n) p = h a p
 holds-mapped P Q f h (refused r) p = tt
 
-module _ {A : Type 0} (read : Reader A) (s : List ℕ) where
+module _ {A : Type 0} (read : ByteReader A) (s : List ℕ) where
   module _ (Q : ℕ → ℕ → List A → Type 0) (none : (at : ℕ) → Q 0 at [])
       (more : (n at next : ℕ) (a : A) (rest : List A) → read s at ≡ got a next → Q n next rest → Q (suc n) at (a ∷ rest)) where
-    one-more : (n at : ℕ) → ((at : ℕ) → Holds (Q n at) (readMany n read s at)) → (x : Read A) → read s at ≡ x
-        → Holds (Q (suc n) at) (both (λ first rest. first ∷ rest) x (readMany n read s))
+    one-more : (n at : ℕ) → ((at : ℕ) → HoldsIfRead (Q n at) (readMany n read s at)) → (x : Read A) → read s at ≡ x
+        → HoldsIfRead (Q (suc n) at) (both (λ first rest. first ∷ rest) x (readMany n read s))
     one-more n at ih (got a next) e =
         holds-mapped (Q n next) (Q (suc n) at) (λ rest. a ∷ rest) (λ rest q. more n at next a rest e q) (readMany n read s next) (ih next)
     one-more n at ih (refused r) e = tt
 
-    pub many-holds : (n at : ℕ) → Holds (Q n at) (readMany n read s at)
+    pub many-holds : (n at : ℕ) → HoldsIfRead (Q n at) (readMany n read s at)
     many-holds zero at = none at
     many-holds (suc n) at = one-more n at (many-holds n) (read s at) refl
 

@@ -7,14 +7,14 @@ use mathlib.Core.List.{List, _∷_}
 use Rattle.entries.specs.declared.BlockId.{BlockId}
 use Rattle.entries.specs.declared.Refusal.the-variants.{RepeatedId, UnknownBlock}
 use Rattle.model.specs.Lists.{anyOf}
-use Rattle.model.specs.Read.{Read, got, refused, andThen, mapped, both, readMany, readNumber}
-use Rattle.model.specs.Job.{PA, Block, Job, readBlockId, readPath, readBlock, repeats, idsOf, hasRepeat, hasUnknown, acceptIds}
+use Rattle.model.specs.ReadingBytes.{Read, got, refused, andThen, mapped, both, readMany, readNumber}
+use Rattle.model.specs.Job.{PA, Block, Job, readBlockId, readPath, readBlock, repeats, idsOf, hasRepeat, hasUnknown, acceptIds, blockId}
 use Rattle.job.specs.Passing.{notes, orNone, noteValue}
 use Rattle.job.specs.Head.{readBlockHead}
-use Rattle.job.specs.Ids.{blockId, blockIds, anyUnknown, predecessorsAt, checkedBy}
+use Rattle.job.specs.Ids.{blockIds, anyUnknown, predecessorsAt, checkedBy}
 use Rattle.job.specs.Kept.{notePlace, noteNumber, blockNotes, blockPlaces, blockNumbers, headOf, keptOf}
 use Rattle.job.specs.declared.BlockHead.{BlockHead}
-use Rattle.job.proofs.Bounds.{Holds, held}
+use Rattle.job.proofs.Bounds.{HoldsIfRead, held}
 use Rattle.job.proofs.Passing.{mapped-got}
 use Rattle.job.proofs.Heads.{blockOf, block-by-head}
 use Rattle.job.proofs.Many.{many-holds, many-all}
@@ -28,7 +28,7 @@ ids-noted s =
     (λ n at next a rest e q. rw e (ap (λ (l : List BlockId). a .id ∷ l) q))
 
 -- the numbers of ids that are read one after the other
-pub numbers-noted : (s : List ℕ) (n at : ℕ) → Holds (λ all. blockIds (notes noteValue n (readNumber 4) s at) ≡ all) (readMany n readBlockId s at)
+pub numbers-noted : (s : List ℕ) (n at : ℕ) → HoldsIfRead (λ all. blockIds (notes noteValue n (readNumber 4) s at) ≡ all) (readMany n readBlockId s at)
 numbers-noted s =
     many-holds readBlockId s (λ n at all. blockIds (notes noteValue n (readNumber 4) s at) ≡ all) (λ at. refl)
     (λ n at next a rest e q.
@@ -36,21 +36,21 @@ numbers-noted s =
     rw (number .1, q) (ap (λ (i : BlockId). i ∷ rest) (number .2)))
 
 holds-both : {A B C : Type 0} (P : A → Type 0) (Q : C → Type 0) (f : A → B → C) → ((a : A) (b : B) → P a → Q (f a b))
-    → (x : Read A) (rest : ℕ → Read B) → Holds P x → Holds Q (both f x rest)
+    → (x : Read A) (rest : ℕ → Read B) → HoldsIfRead P x → HoldsIfRead Q (both f x rest)
 holds-both {B = B} P Q f h (got a n) rest p = any (rest n)
   where
-    any : (y : Read B) → Holds Q (mapped (f a) y)
+    any : (y : Read B) → HoldsIfRead Q (mapped (f a) y)
     any (got b m) = h a b p
     any (refused r) = tt
 holds-both P Q f h (refused r) rest p = tt
 
 -- the predecessors at a block's place are the block's
-pub predecessors-are : (s : List ℕ) (at : ℕ) → Holds (λ (b : Block). blockIds (predecessorsAt s at) ≡ b .predecessors) (readBlock 4 s at)
+pub predecessors-are : (s : List ℕ) (at : ℕ) → HoldsIfRead (λ (b : Block). blockIds (predecessorsAt s at) ≡ b .predecessors) (readBlock 4 s at)
 unfolding predecessorsAt
 predecessors-are s at = rw block-by-head (by-head (readBlockHead s at))
   where
     by-head : (x : Read BlockHead)
-        → Holds
+        → HoldsIfRead
         (λ (b : Block). blockIds (orNone x (λ (head : BlockHead) idsAt. notes noteValue (head .predecessors) (readNumber 4) s idsAt)) ≡ b .predecessors)
         (andThen x (λ (head : BlockHead) idsAt. both (blockOf head) (readMany (head .predecessors) readBlockId s idsAt)
         (readMany (head .assumed) (readPath 4 PA) s)))

@@ -8,10 +8,10 @@ use native.Mathlib.Numerals.{add-one}
 use lib.ListN.{length, set}
 use lib.Seq.{sets}
 use Rattle.entries.specs.declared.Refusal.{Refusal}
-use Rattle.model.specs.Read.{Read, got, refused, Reader}
+use Rattle.model.specs.ReadingBytes.{Read, got, refused, ByteReader}
 use Rattle.job.specs.Passing.{notes, orNone}
 
-module _ {A B : Type 0} (read : Reader A) (s : List ℕ) (f : ℕ → A → B) where
+module _ {A B : Type 0} (read : ByteReader A) (s : List ℕ) (f : ℕ → A → B) where
   one-more : {n i at : ℕ} {a : A} {next : ℕ} → i < n → read s at ≡ got a next
       → notes f (n - i) read s at ≡ f at a ∷ notes f (n - (i + 1)) read s next
   one-more {n} {i} h e =

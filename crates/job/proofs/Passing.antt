@@ -4,7 +4,7 @@ use mathlib.Core.Path.{_≡_, refl}
 use mathlib.Core.List.{List}
 use native.Mathlib.Omega.{arith}
 use Rattle.entries.specs.declared.Refusal.{Refusal}
-use Rattle.model.specs.Read.{Read, got, refused, Reader, andThen, mapped, both, readMany}
+use Rattle.model.specs.ReadingBytes.{Read, got, refused, ByteReader, andThen, mapped, both, readMany}
 use Rattle.job.specs.Passing.{passed}
 
 -- no reading is both a value and a refusal
@@ -61,7 +61,7 @@ viewed-both {B = B} view f d h (got a n) rest = viewed (rest n)
     viewed (refused r) = refl
 viewed-both view f d h (refused r) rest = refl
 
-module _ {A : Type 0} (read : Reader A) (s : List ℕ) where
+module _ {A : Type 0} (read : ByteReader A) (s : List ℕ) where
   -- a loop that counts down
   pub many-end : (n at : ℕ) → n ≤ 0 → passed (readMany n read s at) ≡ got tt at
   many-end zero at h = refl

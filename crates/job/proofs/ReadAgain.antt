@@ -7,11 +7,11 @@ use native.Mathlib.Omega.{arith}
 use lib.ListN.{length, length-map}
 use Rattle.entries.specs.declared.BlockId.{BlockId}
 use Rattle.entries.specs.declared.Refusal.{Refusal}
-use Rattle.model.specs.Read.{Read, got, refused, readMany, readNumber}
-use Rattle.model.specs.Job.{PA, readBlockId, readPath, readBlock}
+use Rattle.model.specs.ReadingBytes.{Read, got, refused, readMany, readNumber}
+use Rattle.model.specs.Job.{PA, readBlockId, readPath, readBlock, blockId}
 use Rattle.job.specs.Passing.{IsRead, notes, noteValue}
 use Rattle.job.specs.Head.{readBlockHead}
-use Rattle.job.specs.Ids.{blockId, blockIds}
+use Rattle.job.specs.Ids.{blockIds}
 use Rattle.job.specs.declared.BlockHead.{BlockHead}
 use Rattle.job.proofs.Bounds.{held}
 use Rattle.job.proofs.Passing.{not-both, mapped-got, then-got, both-got}

@@ -8,7 +8,7 @@ use lib.ListN.{length}
 use Rattle.entries.specs.declared.BlockId.{BlockId}
 use Rattle.entries.specs.declared.DependencyPathEntry.{DependencyPathEntry}
 use Rattle.entries.specs.Path.{ReactiveScopeDependency}
-use Rattle.model.specs.Read.{got, readMany, readMark}
+use Rattle.model.specs.ReadingBytes.{got, readMany, readMark}
 use Rattle.model.specs.Job.{PA, Block, readBlockId, readEntry, readPath, readBlock}
 use Rattle.job.specs.Head.{readPathHead, readBlockHead}
 use Rattle.job.specs.declared.PathHead.{PathHead}

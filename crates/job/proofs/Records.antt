@@ -10,7 +10,7 @@ use lib.ListN.{length}
 use Rattle.entries.specs.declared.Refusal.{Refusal}
 use Rattle.entries.specs.declared.Refusal.the-variants.{ExtraByte}
 use Rattle.entries.specs.Path.{ReactiveScopeDependency}
-use Rattle.model.specs.Read.{Read, got, refused, andThen, readMany}
+use Rattle.model.specs.ReadingBytes.{Read, got, refused, andThen, readMany}
 use Rattle.model.specs.Job.{HD, CA, Header, Block, Job, readHeader, readBlock, readPath, readRecords}
 use Rattle.fields.proofs.Reading.{seen}
 use Rattle.job.specs.Answer.{headerOf, gotHeader}

@@ -5,13 +5,13 @@ use mathlib.Core.List.{List}
 use native.Mathlib.Omega.{arith}
 use lib.ListN.{length, take, drop}
 use lib.Seq.{sets, sets-eq, length-sets, take-append-seam, length-take-le}
-use Rattle.model.specs.Read.{Read, got, refused, readNumber}
+use Rattle.model.specs.ReadingBytes.{Read, got, refused, readNumber}
 use Rattle.job.specs.Passing.{orNone, noteValue}
 use Rattle.job.specs.Head.{readBlockHead}
 use Rattle.job.specs.Ids.{predecessorsAt}
 use Rattle.job.specs.declared.BlockHead.{BlockHead}
 use Rattle.job.proofs.Noting.{notes-few}
-use Rattle.job.proofs.Bounds.{Holds, predecessors-most}
+use Rattle.job.proofs.Bounds.{HoldsIfRead, predecessors-most}
 
 -- the first n of an array r are the numbers vs
 pub record Stored (vs r : List ℕ) (n : ℕ) : Type 0 where
@@ -29,7 +29,7 @@ stored l vs r n room count kept =
       front = rw (count, kept, sets-eq vs l 0 (omega arith)) (take-append-seam vs (drop (0 + length vs) l));
     }
 
-few-held : (P : BlockHead → Type 0) (most : ℕ) (x : Read BlockHead) (list : BlockHead → ℕ → List ℕ) → Holds P x
+few-held : (P : BlockHead → Type 0) (most : ℕ) (x : Read BlockHead) (list : BlockHead → ℕ → List ℕ) → HoldsIfRead P x
     → ((a : BlockHead) (n : ℕ) → P a → length (list a n) ≤ most) → length (orNone x list) ≤ most
 few-held P most (got a n) list h f = f a n h
 few-held P most (refused r) list h f = omega arith

@@ -1,7 +1,7 @@
 -- What each answer of a record reader says, as the reading of the definitions that it stands for.
 use Rattle.entries.specs.declared.BlockId.{BlockId}
 use Rattle.entries.specs.declared.DependencyPathEntry.{DependencyPathEntry}
-use Rattle.model.specs.Read.{Read, got, refused, mapped}
+use Rattle.model.specs.ReadingBytes.{Read, got, refused, mapped}
 use Rattle.model.specs.Job as model
 use Rattle.job.specs.declared.ReadEntry.{ReadEntry}
 use Rattle.job.specs.declared.ReadEntry.the-variants as entry

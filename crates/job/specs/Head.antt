@@ -1,6 +1,6 @@
 -- What stands before the repeated parts of a path and of a block. `proofs/Heads.antt` shows that
 -- the records are these and what follows.
-use Rattle.model.specs.Read.{Reader, got, andThen, readNumber, readMark, readWithin, readFlag}
+use Rattle.model.specs.ReadingBytes.{ByteReader, got, andThen, readNumber, readMark, readWithin, readFlag}
 use Rattle.model.specs.Job.{BL, readBlockId}
 use Rattle.model.specs.Answer.{spanWidth}
 use Rattle.job.specs.declared.PathHead.{PathHead}
@@ -8,7 +8,7 @@ use Rattle.job.specs.declared.BlockHead.{BlockHead}
 
 -- "PA: identifier u32, reactive u8 (0 or 1), span u32, entry count u8 (0 to 16)", after the mark
 -- and before the entries.
-unfoldable pub readPathHead : Reader PathHead
+unfoldable pub readPathHead : ByteReader PathHead
 readPathHead s at =
     andThen (readNumber 4 s at) (λ identifier reactiveAt.
     andThen (readFlag s reactiveAt) (λ reactive spanAt.
@@ -17,7 +17,7 @@ readPathHead s at =
     got (record { identifier = record { 0 = identifier }; reactive = reactive; span = span; entries = entries }) next))))
 
 -- "BL: id u32, predecessor count u8 (0 to 64), assumed count u8", before the predecessors.
-unfoldable pub readBlockHead : Reader BlockHead
+unfoldable pub readBlockHead : ByteReader BlockHead
 readBlockHead s at =
     andThen (readMark BL s at) (λ _ idAt.
     andThen (readBlockId s idAt) (λ id countAt.

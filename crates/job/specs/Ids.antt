@@ -7,19 +7,15 @@ use lib.ListN.{length, getD}
 use Rattle.entries.specs.declared.BlockId.{BlockId}
 use Rattle.entries.specs.declared.Refusal.the-variants.{RepeatedId, UnknownBlock}
 use Rattle.model.specs.Lists.{anyOf}
-use Rattle.model.specs.Read.{readNumber}
+use Rattle.model.specs.ReadingBytes.{readNumber}
 use Rattle.model.specs.Answer.{spanWidth}
-use Rattle.model.specs.Job.{readBlock, containsId, repeats}
+use Rattle.model.specs.Job.{blockId, readBlock, containsId, repeats}
 use Rattle.job.specs.Passing.{IsRead, orNone, notes, noteValue}
 use Rattle.job.specs.Head.{readBlockHead}
 use Rattle.job.specs.declared.BlockHead.{BlockHead}
 use Rattle.job.specs.declared.JobHead.{JobHead}
 use Rattle.job.specs.declared.ReadJob.{ReadJob}
 use Rattle.job.specs.declared.ReadJob.the-variants.{Value, Refused}
-
--- the arrays of the code hold the numbers of ids
-abbrev pub blockId : ℕ → BlockId
-blockId i = record { 0 = i }
 
 -- The ids that a list of numbers stands for.
 abbrev pub blockIds : List ℕ → List BlockId

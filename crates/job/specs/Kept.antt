@@ -5,7 +5,7 @@ use mathlib.Core.Path.{_≡_}
 use mathlib.Core.List.{List}
 use lib.ListN.{length, getD}
 use lib.Seq.{sets}
-use Rattle.model.specs.Read.{Read, got, refused, andThen, readMany}
+use Rattle.model.specs.ReadingBytes.{Read, got, refused, andThen, readMany}
 use Rattle.model.specs.Answer.{spanWidth}
 use Rattle.model.specs.Job.{HD, Header, Block, Job, readHeader, readBlock, readJob}
 use Rattle.job.specs.Passing.{orNone, notes}

@@ -2,7 +2,7 @@
 use Prim.Native.Nat.{ℕ, zero, suc}
 use mathlib.Core.Path.{_≡_}
 use mathlib.Core.List.{List, [], _∷_}
-use Rattle.model.specs.Read.{Read, got, refused, Reader}
+use Rattle.model.specs.ReadingBytes.{Read, got, refused, ByteReader}
 
 -- the place alone
 abbrev pub passed : {A : Type 0} → Read A → Read Unit
@@ -21,7 +21,7 @@ orNone (got a next) rest = rest a next
 orNone (refused r) rest = []
 
 -- of each record up to the first refusal, what f makes of its place and its value
-abbrev pub notes : {A B : Type 0} → (ℕ → A → B) → ℕ → Reader A → List ℕ → ℕ → List B
+abbrev pub notes : {A B : Type 0} → (ℕ → A → B) → ℕ → ByteReader A → List ℕ → ℕ → List B
 notes f zero read s at = []
 notes f (suc n) read s at = orNone (read s at) (λ a next. f at a ∷ notes f n read s next)
 

@@ -11,7 +11,7 @@ ghost use Prim.Native.Nat.{_≤_};
 ghost use lib.ListN.{length, take, drop};
 ghost use lib.Seq.{sets};
 ghost use Rattle.model.specs.Lists.{anyOf};
-ghost use Rattle.model.specs.Read.{readMany, readNumber};
+ghost use Rattle.model.specs.ReadingBytes.{readMany, readNumber};
 ghost use Rattle.model.specs.Job.{readBlockId, readBlock, containsId, repeats};
 ghost use Rattle.model.specs.Answer.{spanWidth};
 ghost use Rattle.job.specs.Passing.{IsRead, notes, noteValue};

@@ -14,7 +14,7 @@ use fields::ReadU64;
 ghost use mathlib.Core.Path.{_≡_};
 ghost use Prim.Native.Nat.{_≤_};
 ghost use lib.Seq.{sets};
-ghost use Rattle.model.specs.Read.{readMany, mapped};
+ghost use Rattle.model.specs.ReadingBytes.{readMany, mapped};
 ghost use Rattle.model.specs.Job.{HD, Block, readBlockId, readEntry, readPath, readBlock, readHeader, readRecords};
 ghost use Rattle.model.specs.Answer.{spanWidth};
 ghost use Rattle.fields.specs.Answer.{gotPlace, refusalOf};

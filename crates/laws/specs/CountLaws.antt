@@ -33,7 +33,8 @@ module _ {A : Type 0} where
   any-own f [] = tt
   any-own {B} f (x ∷ xs) = (
     λ b e. rw e refl,
-    all-map (λ y. (b : B) → f b y ≡ true → anyOf (f b) xs ≡ true) (λ y. (b : B) → f b y ≡ true → f b x || anyOf (f b) xs ≡ true) (λ y h b e. rw (h b e) (or-true (f b x))) xs (any-own f xs),
+    all-map (λ y. (b : B) → f b y ≡ true → anyOf (f b) xs ≡ true) (λ y. (b : B) → f b y ≡ true → f b x || anyOf (f b) xs ≡ true)
+        (λ y h b e. rw (h b e) (or-true (f b x))) xs (any-own f xs),
   )
 
   -- where some element passes, at least one is counted
@@ -48,7 +49,8 @@ count-map test f (x ∷ xs) = decide (test (f x)) (λ t. rw (t, count-map test f
 -- Pairs of two lists that pass a test, counted from either side.
 
 module _ {A B : Type 0} (test : A → B → Bool) where
-  pairs-cons : (x : A) (xs : List A) (ys : List B) → sumOf (λ y. countOf (λ z. test z y) (x ∷ xs)) ys ≡ countOf (test x) ys + sumOf (λ y. countOf (λ z. test z y) xs) ys
+  pairs-cons : (x : A) (xs : List A) (ys : List B) → sumOf (λ y. countOf (λ z. test z y) (x ∷ xs)) ys ≡ countOf (test x) ys + sumOf
+      (λ y. countOf (λ z. test z y) xs) ys
   pairs-cons x xs [] = refl
   pairs-cons x xs (y ∷ ys) = let h = pairs-cons x xs ys in decide (test x y) (λ t. rw t (omega arith)) (λ t. rw t (omega arith))
 
@@ -69,5 +71,6 @@ module _ {A B : Type 0} (test : A → B → Bool) where
   at-least ys (x ∷ xs) h = let rest = at-least ys xs (h .1) in let e = any-count (test x) ys (h .0) in omega arith
 
   -- where each y has exactly one x, and each x some y, there are no more x than y
-  pub no-more : (xs : List A) (ys : List B) → All (λ y. countOf (λ x. test x y) xs ≡ 1) ys → All (λ x. anyOf (test x) ys ≡ true) xs → length xs ≤ length ys
+  pub no-more : (xs : List A) (ys : List B) → All (λ y. countOf (λ x. test x y) xs ≡ 1) ys → All (λ x. anyOf (test x) ys ≡ true) xs
+      → length xs ≤ length ys
   no-more xs ys one some = let low = at-least ys xs some in let swap = pairs-swap xs ys in let high = ones ys xs one in omega arith

@@ -1,4 +1,5 @@
--- The numbers of a job that was read from bytes fit their widths, and so do those of the paths that it returns.
+-- The numbers of a job that was read from bytes fit their widths, and so do those of the paths that
+-- it returns.
 use Prim.Native.Nat.{ℕ, zero, suc, _+_, _*_, _^_, _≤_, _<_}
 use native.Mathlib.Nat.{le-refl, le-trans, pow-suc}
 use native.Mathlib.Omega.{arith}
@@ -20,11 +21,65 @@ use Rattle.model.specs.Propagation.{JoiningRule, hasChanged, roundStart, round,
 use Rattle.model.specs.Stage.{graphOf, enterBlocks, propagated}
 use Rattle.model.specs.Tests.{by-cond, decide, never, test-passes, and-first, and-second}
 use Rattle.model.specs.ListLaws.{All, all-map, all-both, all-getD}
-use Rattle.model.specs.Read.{Read, got, refused, Reader, andThen, mapped, both, readMany, readByte, readNumber, readU8, readU16, readU32, readMark, readWithin, readFlag}
+use Rattle.model.specs.ReadingBytes.{
+  Read,
+  got,
+  refused,
+  ByteReader,
+  andThen,
+  mapped,
+  both,
+  readMany,
+  readByte,
+  readNumber,
+  readU8,
+  readU16,
+  readU32,
+  readMark,
+  readWithin,
+  readFlag,
+}
 use Rattle.entries.specs.Property.{propertyOf, valueOf}
-use Rattle.model.specs.Job.{readEntry, readPath, Block, readBlock, Header, readHeader, Job, readRecords, hasRepeat, hasUnknown, acceptIds, CA, readBlockId, readJob}
+use Rattle.model.specs.Job.{
+  readEntry,
+  readPath,
+  Block,
+  readBlock,
+  Header,
+  readHeader,
+  Job,
+  readRecords,
+  hasRepeat,
+  hasUnknown,
+  acceptIds,
+  CA,
+  readBlockId,
+  readJob,
+}
 use Rattle.model.specs.Forest.{Key, identifierKey, propertyKey, Forest, empty, Found, findKey, childByKey, addAll, firsts}
-use Rattle.model.specs.Tree.{HoistablePosition, hoistableKey, hoistableTree, DependencyPosition, dependencyKey, isDependency, mergePosition, ended, atNonNull, stepAccess, stepTo, walkEntries, rootPosition, walkCandidate, dependencyTree, keyIdentifier, keyProperty, entryOf, lastSpan, dependencyOf, deriveMinimalDependencies}
+use Rattle.model.specs.Tree.{
+  HoistablePosition,
+  hoistableKey,
+  hoistableTree,
+  DependencyPosition,
+  dependencyKey,
+  isDependency,
+  mergePosition,
+  ended,
+  atNonNull,
+  stepAccess,
+  stepTo,
+  walkEntries,
+  rootPosition,
+  walkCandidate,
+  dependencyTree,
+  keyIdentifier,
+  keyProperty,
+  entryOf,
+  lastSpan,
+  dependencyOf,
+  deriveMinimalDependencies,
+}
 use Rattle.laws.specs.Membership.{Some, any-some, all-of, all-of-map, all-at}
 use Rattle.laws.specs.CountLaws.{no-more}
 use Rattle.laws.specs.ForestLaws.{Along, WayAlong, firsts-along, along-addAll}
@@ -32,52 +87,63 @@ use Rattle.laws.specs.TreeLaws.{returned-one, returned-some}
 use Rattle.laws.specs.ReadBack.{EntryFits, PathFits}
 
 -- What holds of the value, where one is read.
-abbrev pub Holds : {A : Type 0} → (A → Type 0) → Read A → Type 0
-Holds P (got a next) = P a
-Holds P (refused r) = Unit {0}
+abbrev pub HoldsIfRead : {A : Type 0} → (A → Type 0) → Read A → Type 0
+HoldsIfRead P (got a next) = P a
+HoldsIfRead P (refused r) = Unit {0}
 
-pub holds-then : {A B : Type 0} (P : A → Type 0) (Q : B → Type 0) (x : Read A) (k : A → ℕ → Read B) → Holds P x → ((a : A) (next : ℕ) → P a → Holds Q (k a next)) → Holds Q (andThen x k)
+pub holds-then : {A B : Type 0} (P : A → Type 0) (Q : B → Type 0) (x : Read A) (k : A → ℕ → Read B) → HoldsIfRead P x →
+    ((a : A) (next : ℕ) → P a → HoldsIfRead Q (k a next)) → HoldsIfRead Q (andThen x k)
 holds-then P Q (got a next) k h f = f a next h
 holds-then P Q (refused r) k h f = tt
 
-holds-mapped : {A B : Type 0} (P : A → Type 0) (Q : B → Type 0) (f : A → B) (x : Read A) → Holds P x → ((a : A) → P a → Q (f a)) → Holds Q (mapped f x)
+holds-mapped : {A B : Type 0} (P : A → Type 0) (Q : B → Type 0) (f : A → B) (x : Read A) → HoldsIfRead P x →
+    ((a : A) → P a → Q (f a)) → HoldsIfRead Q (mapped f x)
 holds-mapped P Q f (got a next) h g = g a h
 holds-mapped P Q f (refused r) h g = tt
 
-pub holds-got : {A : Type 0} (P : A → Type 0) (x : Read A) (a : A) (next : ℕ) → x ≡ got a next → Holds P x → P a
+pub holds-got : {A : Type 0} (P : A → Type 0) (x : Read A) (a : A) (next : ℕ) → x ≡ got a next → HoldsIfRead P x → P a
 holds-got P x a next e h = rw e at h
 
-pub any-value : {A : Type 0} (x : Read A) → Holds (λ a. Unit {0}) x
+pub any-value : {A : Type 0} (x : Read A) → HoldsIfRead (λ a. Unit {0}) x
 any-value (got a next) = tt
 any-value (refused r) = tt
 
 -- many values, as many as asked for
-many-holds : {A : Type 0} (P : A → Type 0) (read : Reader A) (s : List ℕ) → ((at : ℕ) → Holds P (read s at)) → (n at : ℕ) → Holds (λ xs. (length xs ≡ n) × All P xs) (readMany n read s at)
+many-holds : {A : Type 0} (P : A → Type 0) (read : ByteReader A) (s : List ℕ) → ((at : ℕ) → HoldsIfRead P (read s at)) → (n at : ℕ)
+    → HoldsIfRead (λ xs. (length xs ≡ n) × All P xs) (readMany n read s at)
 many-holds P read s h zero at = (refl, tt)
 many-holds P read s h (suc n) at =
-    holds-then P (λ xs. (length xs ≡ suc n) × All P xs) (read s at) (λ first next. mapped (λ rest. first ∷ rest) (readMany n read s next)) (h at)
-    (λ a next p. holds-mapped (λ xs. (length xs ≡ n) × All P xs) (λ xs. (length xs ≡ suc n) × All P xs) (λ rest. a ∷ rest) (readMany n read s next) (many-holds P read s h n next) (λ xs q. (ap suc (q .0), (p, q .1))))
+    holds-then P (λ xs. (length xs ≡ suc n) × All P xs) (read s at)
+    (λ first next. mapped (λ rest. first ∷ rest) (readMany n read s next)) (h at)
+    (λ a next p. holds-mapped (λ xs. (length xs ≡ n) × All P xs) (λ xs. (length xs ≡ suc n) × All P xs) (λ rest. a ∷ rest)
+    (readMany n read s next) (many-holds P read s h n next) (λ xs q. (ap suc (q .0), (p, q .1))))
 
 -- Fields.
 
 module _ (s : List ℕ) (bytes : All (λ b. b < 256) s) where
-  byte-fits : (at : ℕ) → Holds (λ x. x < 256) (readByte s at)
+  byte-fits : (at : ℕ) → HoldsIfRead (λ x. x < 256) (readByte s at)
   unfolding readByte
-  byte-fits at = by-cond (Holds (λ x. x < 256)) (ltb at (length s)) (λ e. all-getD (λ b. b < 256) s at 0 bytes (omega arith)) (λ e. tt)
+  byte-fits at = by-cond (HoldsIfRead (λ x. x < 256)) (ltb at (length s)) (λ e. all-getD (λ b. b < 256) s at 0 bytes (omega arith))
+      (λ e. tt)
 
-  number-fits : (n at : ℕ) → Holds (λ x. x < 256 ^ n) (readNumber n s at)
+  number-fits : (n at : ℕ) → HoldsIfRead (λ x. x < 256 ^ n) (readNumber n s at)
   unfolding readNumber
   number-fits zero at = omega arith
   number-fits (suc n) at =
-      holds-then (λ x. x < 256) (λ x. x < 256 ^ suc n) (readByte s at) (λ low next. mapped (λ high. low + 256 * high) (readNumber n s next)) (byte-fits at)
-      (λ low next l. holds-mapped (λ x. x < 256 ^ n) (λ x. x < 256 ^ suc n) (λ high. low + 256 * high) (readNumber n s next) (number-fits n next)
+      holds-then (λ x. x < 256) (λ x. x < 256 ^ suc n) (readByte s at)
+      (λ low next. mapped (λ high. low + 256 * high) (readNumber n s next)) (byte-fits at)
+      (λ low next l. holds-mapped (λ x. x < 256 ^ n) (λ x. x < 256 ^ suc n) (λ high. low + 256 * high) (readNumber n s next)
+      (number-fits n next)
       (λ high h. rw (pow-suc 256 n) (omega arith)))
 
-  within-fits : (least most : ℕ) (read : Reader ℕ) (at : ℕ) → Holds (λ x. x ≤ most) (readWithin least most read s at)
+  within-fits : (least most : ℕ) (read : ByteReader ℕ) (at : ℕ) → HoldsIfRead (λ x. x ≤ most) (readWithin least most read s at)
   unfolding readWithin
   within-fits least most read at =
-      holds-then (λ x. Unit {0}) (λ x. x ≤ most) (read s at) (λ found next. cond (leb least found && leb found most) (got found next) (refused Rattle.entries.specs.declared.Refusal.the-variants.OutOfRange)) (any-value (read s at))
-      (λ x next u. by-cond (Holds (λ y. y ≤ most)) (leb least x && leb x most) (λ e. leb→le x most (test-passes (and-second (leb least x) (leb x most) e))) (λ e. tt))
+      holds-then (λ x. Unit {0}) (λ x. x ≤ most) (read s at)
+      (λ found next. cond (leb least found && leb found most) (got found next)
+      (refused Rattle.entries.specs.declared.Refusal.the-variants.OutOfRange)) (any-value (read s at))
+      (λ x next u. by-cond (HoldsIfRead (λ y. y ≤ most)) (leb least x && leb x most)
+      (λ e. leb→le x most (test-passes (and-second (leb least x) (leb x most) e))) (λ e. tt))
 
   -- Records.
 
@@ -85,7 +151,7 @@ module _ (s : List ℕ) (bytes : All (λ b. b < 256) s) where
   property-fits true v h = h
   property-fits false v h = h
 
-  entry-fits : (w at : ℕ) → Holds (EntryFits w) (readEntry w s at)
+  entry-fits : (w at : ℕ) → HoldsIfRead (EntryFits w) (readEntry w s at)
   unfolding readEntry
   entry-fits w at =
       holds-then (λ x. Unit {0}) (EntryFits w) (readFlag s at) _ (any-value (readFlag s at)) (λ optional kindAt _.
@@ -94,7 +160,7 @@ module _ (s : List ℕ) (bytes : All (λ b. b < 256) s) where
       holds-then (λ x. x < 256 ^ w) (EntryFits w) (readNumber w s spanAt) _ (number-fits w spanAt) (λ span next h.
       record { value = property-fits kind value v; span = h }))))
 
-  pub path-fits : (w mark at : ℕ) → Holds (PathFits w) (readPath w mark s at)
+  pub path-fits : (w mark at : ℕ) → HoldsIfRead (PathFits w) (readPath w mark s at)
   unfolding readPath
   path-fits w mark at =
       holds-then (λ x. Unit {0}) (PathFits w) (readMark mark s at) _ (any-value (readMark mark s at)) (λ _ identifierAt _.
@@ -102,7 +168,8 @@ module _ (s : List ℕ) (bytes : All (λ b. b < 256) s) where
       holds-then (λ x. Unit {0}) (PathFits w) (readFlag s reactiveAt) _ (any-value (readFlag s reactiveAt)) (λ reactive spanAt _.
       holds-then (λ x. x < 256 ^ w) (PathFits w) (readNumber w s spanAt) _ (number-fits w spanAt) (λ span countAt h.
       holds-then (λ x. x ≤ 16) (PathFits w) (readWithin 0 16 readU8 s countAt) _ (within-fits 0 16 readU8 countAt) (λ count entriesAt c.
-      holds-mapped (λ es. (length es ≡ count) × All (EntryFits w) es) (PathFits w) (λ entries. record { identifier = record { 0 = identifier }; reactive = reactive; path = entries; span = span })
+      holds-mapped (λ es. (length es ≡ count) × All (EntryFits w) es) (PathFits w)
+      (λ entries. record { identifier = record { 0 = identifier }; reactive = reactive; path = entries; span = span })
       (readMany count (readEntry w) s entriesAt) (many-holds (EntryFits w) (readEntry w) s (entry-fits w) count entriesAt)
       (λ es e. record { identifier = i; span = h; few = rw (e .0) c; entries = e .1 }))))))
 
@@ -110,28 +177,35 @@ module _ (s : List ℕ) (bytes : All (λ b. b < 256) s) where
   abbrev CandidatesFit : ℕ → Job → Type 0
   CandidatesFit w j = (length (j .candidates) ≤ 64) × All (PathFits w) (j .candidates)
 
-  header-fits : (mark at : ℕ) → Holds (λ (h : Header). h .candidates ≤ 64) (readHeader mark s at)
+  header-fits : (mark at : ℕ) → HoldsIfRead (λ (h : Header). h .candidates ≤ 64) (readHeader mark s at)
   unfolding readHeader
   header-fits mark at =
-      holds-then (λ x. Unit {0}) (λ (h : Header). h .candidates ≤ 64) (readMark mark s at) _ (any-value (readMark mark s at)) (λ _ blocksAt _.
-      holds-then (λ x. Unit {0}) (λ (h : Header). h .candidates ≤ 64) (readWithin 1 128 readU16 s blocksAt) _ (any-value (readWithin 1 128 readU16 s blocksAt)) (λ blocks candidatesAt _.
-      holds-then (λ x. x ≤ 64) (λ (h : Header). h .candidates ≤ 64) (readWithin 0 64 readU16 s candidatesAt) _ (within-fits 0 64 readU16 candidatesAt) (λ candidates scopeAt c.
-      holds-then (λ x. Unit {0}) (λ (h : Header). h .candidates ≤ 64) (readBlockId s scopeAt) _ (any-value (readBlockId s scopeAt)) (λ scope next _. c))))
+      holds-then (λ x. Unit {0}) (λ (h : Header). h .candidates ≤ 64) (readMark mark s at) _ (any-value (readMark mark s at))
+      (λ _ blocksAt _.
+      holds-then (λ x. Unit {0}) (λ (h : Header). h .candidates ≤ 64) (readWithin 1 128 readU16 s blocksAt) _
+      (any-value (readWithin 1 128 readU16 s blocksAt)) (λ blocks candidatesAt _.
+      holds-then (λ x. x ≤ 64) (λ (h : Header). h .candidates ≤ 64) (readWithin 0 64 readU16 s candidatesAt) _
+      (within-fits 0 64 readU16 candidatesAt) (λ candidates scopeAt c.
+      holds-then (λ x. Unit {0}) (λ (h : Header). h .candidates ≤ 64) (readBlockId s scopeAt) _ (any-value (readBlockId s scopeAt))
+      (λ scope next _. c))))
 
-  records-fit : (head w : ℕ) → Holds (CandidatesFit w) (readRecords head w s)
+  records-fit : (head w : ℕ) → HoldsIfRead (CandidatesFit w) (readRecords head w s)
   unfolding readRecords
   records-fit head w =
       holds-then (λ (h : Header). h .candidates ≤ 64) (CandidatesFit w) (readHeader head s 0) _ (header-fits head 0) (λ header blocksAt h.
-      holds-then (λ x. Unit {0}) (CandidatesFit w) (readMany (header .blocks) (readBlock w) s blocksAt) _ (any-value (readMany (header .blocks) (readBlock w) s blocksAt)) (λ blocks candidatesAt _.
-      holds-then (λ cs. (length cs ≡ header .candidates) × All (PathFits w) cs) (CandidatesFit w) (readMany (header .candidates) (readPath w CA) s candidatesAt) _
+      holds-then (λ x. Unit {0}) (CandidatesFit w) (readMany (header .blocks) (readBlock w) s blocksAt) _
+      (any-value (readMany (header .blocks) (readBlock w) s blocksAt)) (λ blocks candidatesAt _.
+      holds-then (λ cs. (length cs ≡ header .candidates) × All (PathFits w) cs) (CandidatesFit w)
+      (readMany (header .candidates) (readPath w CA) s candidatesAt) _
       (many-holds (PathFits w) (readPath w CA) s (path-fits w CA) (header .candidates) candidatesAt) (λ candidates next c.
-      by-cond (Holds (CandidatesFit w)) (eqb next (length s)) (λ e. (rw (c .0) h, c .1)) (λ e. tt))))
+      by-cond (HoldsIfRead (CandidatesFit w)) (eqb next (length s)) (λ e. (rw (c .0) h, c .1)) (λ e. tt))))
 
-  pub job-fits : (head w : ℕ) → Holds (CandidatesFit w) (readJob head w s)
+  pub job-fits : (head w : ℕ) → HoldsIfRead (CandidatesFit w) (readJob head w s)
   unfolding readJob acceptIds
   job-fits head w =
       holds-then (CandidatesFit w) (CandidatesFit w) (readRecords head w s) acceptIds (records-fit head w)
-      (λ j next c. by-cond (Holds (CandidatesFit w)) (hasRepeat j) (λ e. tt) (λ e. by-cond (Holds (CandidatesFit w)) (hasUnknown j) (λ u. tt) (λ u. c)))
+      (λ j next c. by-cond (HoldsIfRead (CandidatesFit w)) (hasRepeat j) (λ e. tt)
+      (λ e. by-cond (HoldsIfRead (CandidatesFit w)) (hasUnknown j) (λ u. tt) (λ u. c)))
 
 -- The positions of the dependency tree come from the candidates' walks.
 
@@ -150,12 +224,17 @@ Fit w b p = PositionFits w p
 abbrev same : Unit {0} → Key → Unit {0}
 same b k = tt
 
-walk-fits : (w : ℕ) (h : Option (Found HoistablePosition)) (p : DependencyPosition) (es : List DependencyPathEntry) → PositionFits w p → All (EntryFits w) es → WayAlong dependencyKey same (Fit w) tt (walkEntries h p es)
+walk-fits : (w : ℕ) (h : Option (Found HoistablePosition)) (p : DependencyPosition) (es : List DependencyPathEntry)
+    → PositionFits w p → All (EntryFits w) es → WayAlong dependencyKey same (Fit w) tt (walkEntries h p es)
 unfolding walkEntries
 walk-fits w h p [] f a = (record { key = f .key; span = f .span }, tt)
 walk-fits w h p (e ∷ es) f a =
     by-cond (WayAlong dependencyKey same (Fit w) tt) (atNonNull h || e .optional)
-    (λ _. (f, walk-fits w (childByKey hoistableKey h (propertyKey (e .property))) (stepTo e (stepAccess (atNonNull h))) es (record { key = a .0 .value; span = a .0 .span }) (a .1)))
+    (λ _. (
+      f,
+      walk-fits w (childByKey hoistableKey h (propertyKey (e .property))) (stepTo e (stepAccess (atNonNull h))) es
+          (record { key = a .0 .value; span = a .0 .span }) (a .1),
+    ))
     (λ _. (record { key = f .key; span = f .span }, tt))
 
 property-fit : (k : Key) → KeyFits k → valueOf (keyProperty k) < 256 ^ 8
@@ -170,7 +249,8 @@ entries-fit : (w : ℕ) (ps : List DependencyPosition) → WayAlong dependencyKe
 entries-fit w [] h = tt
 entries-fit w (p ∷ ps) h = (record { value = property-fit (p .key) (h .0 .key); span = h .0 .span }, entries-fit w ps (h .1))
 
-span-fit : (w : ℕ) (p : DependencyPosition) (ps : List DependencyPosition) → PositionFits w p → WayAlong dependencyKey same (Fit w) tt ps → lastSpan p ps < 256 ^ w
+span-fit : (w : ℕ) (p : DependencyPosition) (ps : List DependencyPosition) → PositionFits w p → WayAlong dependencyKey same
+    (Fit w) tt ps → lastSpan p ps < 256 ^ w
 span-fit w p [] f h = f .span
 span-fit w p (q ∷ qs) f h = span-fit w q qs (h .0) (h .1)
 
@@ -186,16 +266,20 @@ zero-below (suc w) = rw (pow-suc 256 w) (let h = zero-below w in omega arith)
 
 way-fields : (w : ℕ) (ps : List DependencyPosition) → WayAlong dependencyKey same (Fit w) tt ps → Fields w (dependencyOf ps)
 way-fields w [] h = record { identifier = omega arith; span = zero-below w; entries = tt }
-way-fields w (p ∷ ps) h = record { identifier = identifier-fit (p .key) (h .0 .key); span = span-fit w p ps (h .0) (h .1); entries = entries-fit w ps (h .1) }
+way-fields w (p ∷ ps) h = record
+    { identifier = identifier-fit (p .key) (h .0 .key); span = span-fit w p ps (h .0) (h .1); entries = entries-fit w ps (h .1) }
 
 -- a prefix has no more entries
 prefix-shorter : (ds cs : List DependencyPathEntry) → prefixOfNames ds cs ≡ true → length ds ≤ length cs
 prefix-shorter [] cs h = omega arith
 prefix-shorter (d ∷ ds) [] h = never h refl
-prefix-shorter (d ∷ ds) (c ∷ cs) h = let rest = prefix-shorter ds cs (and-second (sameProperty (d .property) (c .property)) _ h) in omega arith
+prefix-shorter (d ∷ ds) (c ∷ cs) h = let rest = prefix-shorter ds cs
+    (and-second (sameProperty (d .property) (c .property)) _ h) in omega arith
 
-some-few : (w : ℕ) (d : ReactiveScopeDependency) (cs : List ReactiveScopeDependency) → All (PathFits w) cs → Some (λ c. prefixOf d c ≡ true) cs → length (d .path) ≤ 16
-some-few w d (c ∷ cs) a (inl h) = let few = a .0 .few in le-trans (prefix-shorter (d .path) (c .path) (and-second (eqb (d .identifier .0) (c .identifier .0)) _ h)) few
+some-few : (w : ℕ) (d : ReactiveScopeDependency) (cs : List ReactiveScopeDependency) → All (PathFits w) cs → Some
+    (λ c. prefixOf d c ≡ true) cs → length (d .path) ≤ 16
+some-few w d (c ∷ cs) a (inl h) = let few = a .0 .few in le-trans
+    (prefix-shorter (d .path) (c .path) (and-second (eqb (d .identifier .0) (c .identifier .0)) _ h)) few
 some-few w d (c ∷ cs) a (inr s) = some-few w d cs (a .1) s
 
 fields : (w : ℕ) (hs cs : List ReactiveScopeDependency) → All (PathFits w) cs → All (Fields w) (deriveMinimalDependencies hs cs)
@@ -205,7 +289,8 @@ fields w hs cs fit =
     all-of-map (Fields w) dependencyOf (firsts isDependency tree)
     (all-map (WayAlong dependencyKey same (Fit w) tt) (λ ps. Fields w (dependencyOf ps)) (way-fields w) (firsts isDependency tree)
     (firsts-along dependencyKey same (Fit w) isDependency tt tree
-    (along-addAll dependencyKey same (Fit w) mergePosition (λ p q. refl) (λ b n s g h. record { key = g .key; span = g .span }) tt empty (map (walkCandidate (hoistableTree hs)) cs) tt
+    (along-addAll dependencyKey same (Fit w) mergePosition (λ p q. refl)
+    (λ b n s g h. record { key = g .key; span = g .span }) tt empty (map (walkCandidate (hoistableTree hs)) cs) tt
     (all-of-map (WayAlong dependencyKey same (Fit w) tt) (walkCandidate (hoistableTree hs)) cs
     (all-map (PathFits w) (λ c. WayAlong dependencyKey same (Fit w) tt (walkCandidate (hoistableTree hs) c))
     (λ c f. walk-fits w _ (rootPosition c) (c .path) (record { key = f .identifier; span = f .span }) (f .entries)) cs fit)))))
@@ -214,7 +299,13 @@ pub returned-fit : (w : ℕ) (hs cs : List ReactiveScopeDependency) → All (Pat
 returned-fit w hs cs fit =
     let returned = deriveMinimalDependencies hs cs in
     all-map (λ d. Fields w d × (anyOf (prefixOf d) cs ≡ true)) (PathFits w)
-    (λ d h. record { identifier = h .0 .identifier; span = h .0 .span; few = some-few w d cs fit (any-some (prefixOf d) cs (h .1)); entries = h .0 .entries })
+    (λ d h. record {
+      identifier = h .0 .identifier;
+      span = h .0 .span;
+      few = some-few w d cs fit
+          (any-some (prefixOf d) cs (h .1));
+      entries = h .0 .entries;
+    })
     returned (all-both (Fields w) (λ d. anyOf (prefixOf d) cs ≡ true) returned (fields w hs cs fit) (returned-some hs cs))
 
 -- there are no more of them than candidates
@@ -226,5 +317,6 @@ pub rounds-fit : (rule : JoiningRule) (j : Job) → propagated rule (j .blocks) 
 unfolding propagated propagateNonNull propagateWith
 rounds-fit rule j =
     let start = enterBlocks [] (j .blocks) in
-    let most = rounds-most hasChanged (round reduceMaybeOptionalChains rule (graphOf (j .blocks))) 100 zero (roundStart (start .registry) (start .sets)) in
+    let most = rounds-most hasChanged (round reduceMaybeOptionalChains rule (graphOf (j .blocks))) 100 zero
+    (roundStart (start .registry) (start .sets)) in
     omega arith

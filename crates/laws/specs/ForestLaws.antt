@@ -1,4 +1,5 @@
--- Laws of forests, for both trees: how many of the first ways down stand along a list of keys, what adding a way down keeps, and what it brings.
+-- Laws of forests, for both trees: how many of the first ways down stand along a list of keys, what
+-- adding a way down keeps, and what it brings.
 use Prim.Native.Nat.{ℕ, zero, suc, _+_}
 use native.Mathlib.Omega.{arith}
 use mathlib.Core.Path.{_≡_, refl, sym, ap, subst, _∙_}
@@ -20,7 +21,8 @@ key-same (identifierKey i) = eqb-same (i .0)
 key-same (propertyKey p) = property-same p
 
 pub key-true : (a b : Key) → sameKey a b ≡ true → a ≡ b
-key-true (identifierKey i) (identifierKey j) e = let n : i .0 ≡ j .0 = eqb-true (i .0) (j .0) e in ap identifierKey (λ d. record { 0 = n d })
+key-true (identifierKey i) (identifierKey j) e = let n : i .0 ≡ j .0 = eqb-true (i .0) (j .0) e in ap identifierKey
+    (λ d. record { 0 = n d })
 key-true (identifierKey i) (propertyKey q) e = never e refl
 key-true (propertyKey p) (identifierKey j) e = never e refl
 key-true (propertyKey p) (propertyKey q) e = ap propertyKey (property-true p q e)
@@ -77,7 +79,8 @@ cond-onto true f g h = f h
 cond-onto false f g h = g h
 
 -- the count at a position, x below it where its key is the list's first, and y after it
-branch : (b : Bool) (x y : ℕ) (u v : Bool) → x ≡ cond u 1 0 → (b ≡ true → y ≡ zero) → y ≡ cond v 1 0 → cond b x zero + y ≡ cond (cond b u v) 1 0
+branch : (b : Bool) (x y : ℕ) (u v : Bool) → x ≡ cond u 1 0 → (b ≡ true → y ≡ zero) → y ≡ cond v 1 0 → cond b x zero + y ≡ cond
+    (cond b u v) 1 0
 branch true x y u v p q r = let z = q refl in omega arith
 branch false x y u v p q r = omega arith
 
@@ -108,13 +111,15 @@ module _ {P : Type 0} (key : P → Key) where
     covered-nil empty = refl
     covered-nil (position n c r) = refl
 
-    along-count : (b : Bool) (ks : List Key) (ps : List (List P)) → countOf (λ p. b && begins (map key p) ks) ps ≡ cond b (countOf (λ p. begins (map key p) ks) ps) zero
+    along-count : (b : Bool) (ks : List Key) (ps : List (List P)) → countOf (λ p. b && begins (map key p) ks) ps ≡ cond b
+        (countOf (λ p. begins (map key p) ks) ps) zero
     along-count true ks ps = refl
     along-count false ks ps = count-none (λ p. false) (λ p. refl) ps
 
     none-apart : (k : Key) (ks : List Key) (f : Forest P) → Apart k f → countOf (λ p. begins (map key p) (k ∷ ks)) (firsts test f) ≡ zero
     none-apart k ks empty a = refl
-    none-apart k ks (position n c r) a = rw (count-append, count-map, along-count (sameKey (key n) k) ks, key-apart k (key n) (a .0), none-apart k ks r (a .1))
+    none-apart k ks (position n c r) a = rw
+        (count-append, count-map, along-count (sameKey (key n) k) ks, key-apart k (key n) (a .0), none-apart k ks r (a .1))
 
     here-count : (t : Bool) (ks : List Key) (c : Forest P) → countOf (λ p. begins (map key p) ks) (firsts test c) ≡ cond (covered c ks) 1 0
         → countOf (λ p. begins (map key p) ks) (cond t ([] ∷ []) (firsts test c)) ≡ cond (t || covered c ks) 1 0
@@ -122,9 +127,11 @@ module _ {P : Type 0} (key : P → Key) where
     here-count false ks c h = h
 
     -- of the first ways down one stands along the keys, if they are covered, and otherwise none
-    pub count-firsts : (f : Forest P) → Distinct f → (ks : List Key) → countOf (λ p. begins (map key p) ks) (firsts test f) ≡ cond (covered f ks) 1 0
+    pub count-firsts : (f : Forest P) → Distinct f → (ks : List Key) → countOf (λ p. begins (map key p) ks) (firsts test f) ≡ cond
+        (covered f ks) 1 0
     count-firsts empty d ks = refl
-    count-firsts (position n c r) d [] = rw (count-append, count-map, count-none (λ p. false) (λ p. refl), count-firsts r (d .2) [], covered-nil)
+    count-firsts (position n c r) d [] = rw
+        (count-append, count-map, count-none (λ p. false) (λ p. refl), count-firsts r (d .2) [], covered-nil)
     count-firsts (position n c r) d (k ∷ ks) =
         rw (count-append, count-map, along-count (sameKey (key n) k) ks)
         (branch (sameKey (key n) k) _ _ _ _ (here-count (test n) ks c (count-firsts c (d .1) ks))
@@ -137,7 +144,8 @@ module _ {P : Type 0} (key : P → Key) where
     firsts-within (position n c r) W h =
         all-append (λ p. W (map key p)) (map (λ p. n ∷ p) (cond (test n) ([] ∷ []) (firsts test c))) (firsts test r)
         (all-of-map (λ p. W (map key p)) (λ p. n ∷ p) (cond (test n) ([] ∷ []) (firsts test c))
-        (by-cond (λ ps. All (λ p. W (key n ∷ map key p)) ps) (test n) (λ e. (h .0, tt)) (λ e. firsts-within c (λ ks. W (key n ∷ ks)) (h .1))))
+        (by-cond (λ ps. All (λ p. W (key n ∷ map key p)) ps) (test n) (λ e. (h .0, tt))
+        (λ e. firsts-within c (λ ks. W (key n ∷ ks)) (h .1))))
         (firsts-within r W (h .2))
 
   module _ (merge : P → P → P) (key-merge : (a b : P) → key (merge a b) ≡ key a) where
@@ -165,7 +173,8 @@ module _ {P : Type 0} (key : P → Key) where
     within-chain [] W h = tt
     within-chain (s ∷ ss) W h = (h .0, within-chain ss (λ ks. W (key s ∷ ks)) (h .1), tt)
 
-    within-add : (f : Forest P) (ss : List P) (W : List Key → Type 0) → Within f W → Beginnings (map key ss) W → Within (add key merge f ss) W
+    within-add : (f : Forest P) (ss : List P) (W : List Key → Type 0) → Within f W → Beginnings (map key ss) W → Within
+        (add key merge f ss) W
     within-add empty ss W h p = within-chain ss W p
     within-add (position n c r) [] W h p = h
     within-add (position n c r) (s ∷ ss) W h p =
@@ -173,7 +182,8 @@ module _ {P : Type 0} (key : P → Key) where
         (λ e. rw (key-merge n s) (h .0, within-add c ss (λ ks. W (key n ∷ ks)) (h .1) (rw (key-true (key n) (key s) e) (p .1)), h .2))
         (λ e. (h .0, h .1, within-add r (s ∷ ss) W (h .2) p))
 
-    pub within-addAll : (W : List Key → Type 0) (f : Forest P) (ws : List (List P)) → Within f W → All (λ w. Beginnings (map key w) W) ws → Within (addAll key merge f ws) W
+    pub within-addAll : (W : List Key → Type 0) (f : Forest P) (ws : List (List P)) → Within f W → All
+        (λ w. Beginnings (map key w) W) ws → Within (addAll key merge f ws) W
     within-addAll W f [] h p = h
     within-addAll W f (w ∷ ws) h p = within-addAll W (add key merge f w) ws (within-add f w W h (p .0)) (p .1)
 
@@ -185,15 +195,18 @@ module _ {P : Type 0} (key : P → Key) where
       covered-add (position n c r) (s ∷ ss) [] h = never h refl
       covered-add (position n c r) (s ∷ ss) (k ∷ ks) h =
           by-cond (λ f. covered test f (k ∷ ks) ≡ true) (sameKey (key n) (key s))
-          (λ _. rw (key-merge, test-merge) (cond-onto (sameKey (key n) k) (λ g. or-add (test n) (test s) _ (or-onto (test n) _ _ (covered-add c ss ks) g)) (λ g. g) h))
+          (λ _. rw (key-merge, test-merge)
+          (cond-onto (sameKey (key n) k) (λ g. or-add (test n) (test s) _ (or-onto (test n) _ _ (covered-add c ss ks) g)) (λ g. g) h))
           (λ _. cond-onto (sameKey (key n) k) (λ g. g) (covered-add r (s ∷ ss) (k ∷ ks)) h)
 
       covered-chain : (ss : List P) (ks : List Key) → anyOf test ss ≡ true → covered test (chain ss) (map key ss ++ ks) ≡ true
       covered-chain [] ks t = never t refl
       covered-chain (s ∷ ss) ks t = rw key-same (or-onto (test s) _ _ (covered-chain ss ks) t)
 
-      -- a way down with a position that passes the test covers its own keys, and every list that goes on from them
-      covered-own : (f : Forest P) (ss : List P) (ks : List Key) → anyOf test ss ≡ true → covered test (add key merge f ss) (map key ss ++ ks) ≡ true
+      -- a way down with a position that passes the test covers its own keys, and every list that
+      -- goes on from them
+      covered-own : (f : Forest P) (ss : List P) (ks : List Key) → anyOf test ss ≡ true → covered test (add key merge f ss)
+          (map key ss ++ ks) ≡ true
       covered-own empty ss ks t = covered-chain ss ks t
       covered-own (position n c r) [] ks t = never t refl
       covered-own (position n c r) (s ∷ ss) ks t =
@@ -201,7 +214,8 @@ module _ {P : Type 0} (key : P → Key) where
           (λ e. rw (key-merge, e, test-merge) (or-other (test n) (test s) _ (or-onto (test s) _ _ (covered-own c ss ks) t)))
           (λ e. rw e (covered-own r (s ∷ ss) ks t))
 
-      covered-addAll : (f : Forest P) (ws : List (List P)) (ks : List Key) → covered test f ks ≡ true → covered test (addAll key merge f ws) ks ≡ true
+      covered-addAll : (f : Forest P) (ws : List (List P)) (ks : List Key) → covered test f ks ≡ true → covered test
+          (addAll key merge f ws) ks ≡ true
       covered-addAll f [] ks h = h
       covered-addAll f (w ∷ ws) ks h = covered-addAll (add key merge f w) ws ks (covered-add f w ks h)
 
@@ -209,9 +223,13 @@ module _ {P : Type 0} (key : P → Key) where
       pub covered-each : (f : Forest P) (ws : List (List P)) → All (λ w. anyOf test w ≡ true) ws
           → All (λ w. (ks : List Key) → covered test (addAll key merge f ws) (map key w ++ ks) ≡ true) ws
       covered-each f [] t = tt
-      covered-each f (w ∷ ws) t = (λ ks. covered-addAll (add key merge f w) ws (map key w ++ ks) (covered-own f w ks (t .0)), covered-each (add key merge f w) ws (t .1))
+      covered-each f (w ∷ ws) t = (
+        λ ks. covered-addAll (add key merge f w) ws (map key w ++ ks) (covered-own f w ks (t .0)),
+        covered-each (add key merge f w) ws (t .1),
+      )
 
--- A property of positions and of what stands before them: B is what is known where a way down has come to, and `next` what is known one key on.
+-- A property of positions and of what stands before them: B is what is known where a way down has
+-- come to, and `next` what is known one key on.
 module _ {P B : Type 0} (key : P → Key) (next : B → Key → B) (W : B → P → Type 0) where
   -- each position of a forest, of a way down, has the property
   abbrev pub Along : B → Forest P → Type 0
@@ -228,10 +246,12 @@ module _ {P B : Type 0} (key : P → Key) (next : B → Key → B) (W : B → P 
       all-append (WayAlong b) (map (λ p. n ∷ p) (cond (test n) ([] ∷ []) (firsts test c))) (firsts test r)
       (all-of-map (WayAlong b) (λ p. n ∷ p) (cond (test n) ([] ∷ []) (firsts test c))
       (by-cond (All (λ p. WayAlong b (n ∷ p))) (test n) (λ _. ((h .0, tt), tt))
-      (λ _. all-map (WayAlong (next b (key n))) (λ p. WayAlong b (n ∷ p)) (λ p g. (h .0, g)) (firsts test c) (firsts-along test (next b (key n)) c (h .1)))))
+      (λ _. all-map (WayAlong (next b (key n))) (λ p. WayAlong b (n ∷ p)) (λ p g. (h .0, g)) (firsts test c)
+      (firsts-along test (next b (key n)) c (h .1)))))
       (firsts-along test b r (h .2))
 
-  module _ (merge : P → P → P) (key-merge : (a b : P) → key (merge a b) ≡ key a) (merges : (b : B) (n s : P) → W b n → W b s → W b (merge n s)) where
+  module _ (merge : P → P → P) (key-merge : (a b : P) → key (merge a b) ≡ key a)
+      (merges : (b : B) (n s : P) → W b n → W b s → W b (merge n s)) where
     along-chain : (b : B) (ss : List P) → WayAlong b ss → Along b (chain ss)
     along-chain b [] h = tt
     along-chain b (s ∷ ss) h = (h .0, along-chain (next b (key s)) ss (h .1), tt)
@@ -241,7 +261,12 @@ module _ {P B : Type 0} (key : P → Key) (next : B → Key → B) (W : B → P 
     along-add b (position n c r) [] h p = h
     along-add b (position n c r) (s ∷ ss) h p =
         by-cond (Along b) (sameKey (key n) (key s))
-        (λ e. (merges b n s (h .0) (p .0), rw key-merge (along-add (next b (key n)) c ss (h .1) (rw (key-true (key n) (key s) e) (p .1))), h .2))
+        (λ e. (
+          merges b n s (h .0) (p .0),
+          rw key-merge
+              (along-add (next b (key n)) c ss (h .1) (rw (key-true (key n) (key s) e) (p .1))),
+          h .2,
+        ))
         (λ e. (h .0, h .1, along-add b r (s ∷ ss) (h .2) p))
 
     pub along-addAll : (b : B) (f : Forest P) (ws : List (List P)) → Along b f → All (WayAlong b) ws → Along b (addAll key merge f ws)

@@ -1,5 +1,5 @@
--- The graph of blocks that refusals 7 and 8 let pass: its edges are the predecessors that the blocks name, a block's place is its own, and successors are
--- the converse of predecessors.
+-- The graph of blocks that refusals 7 and 8 let pass: its edges are the predecessors that the
+-- blocks name, a block's place is its own, and successors are the converse of predecessors.
 use Prim.Native.Nat.{ℕ, zero, suc, _+_, _≤_, _<_}
 use native.Mathlib.Nat.{not-suc-le-zero}
 use native.Mathlib.Omega.{arith}
@@ -17,7 +17,26 @@ use Rattle.model.specs.Rounds.{jobOrder}
 use Rattle.model.specs.Propagation.{Graph}
 use Rattle.model.specs.Job.{Block, Job, sameBlock, containsId, repeats, idsOf, hasRepeat, hasUnknown}
 use Rattle.model.specs.Stage.{blockAt, placeOf, predecessorsOf, insertById, sortById, byAscendingId, successorsOf, graphOf}
-use Rattle.laws.specs.Membership.{Some, Member, neither, all-at, all-of, some-map, some-of, some-both, some-select, all-chosen, select-none, any-some, some-any, none-any, member-getD, all-of-map, some-of-map, some-unmap}
+use Rattle.laws.specs.Membership.{
+  Some,
+  Member,
+  neither,
+  all-at,
+  all-of,
+  some-map,
+  some-of,
+  some-both,
+  some-select,
+  all-chosen,
+  select-none,
+  any-some,
+  some-any,
+  none-any,
+  member-getD,
+  all-of-map,
+  some-of-map,
+  some-unmap,
+}
 use Rattle.laws.specs.VisitOrder.{Reach, one, more}
 use Rattle.laws.specs.Places.{order-below, order-member}
 
@@ -27,21 +46,26 @@ pub same-block : (a b : BlockId) → sameBlock a b ≡ true → a ≡ b
 same-block a b e = let n : a .0 ≡ b .0 = eqb-true (a .0) (b .0) e in λ i. record { 0 = n i }
 
 pub contains-member : (ids : List BlockId) (i : BlockId) → containsId ids i ≡ true → Member i ids
-contains-member ids i h = some-map (λ x. sameBlock i x ≡ true) (λ x. x ≡ i) (λ x e. sym (same-block i x e)) ids (any-some (sameBlock i) ids h)
+contains-member ids i h = some-map (λ x. sameBlock i x ≡ true) (λ x. x ≡ i) (λ x e. sym (same-block i x e)) ids
+    (any-some (sameBlock i) ids h)
 
 pub member-contains : (ids : List BlockId) (i : BlockId) → Member i ids → containsId ids i ≡ true
-member-contains ids i m = some-any (sameBlock i) ids (some-map (λ x. x ≡ i) (λ x. sameBlock i x ≡ true) (λ x e. rw e (eqb-same (i .0))) ids m)
+member-contains ids i m = some-any (sameBlock i) ids
+    (some-map (λ x. x ≡ i) (λ x. sameBlock i x ≡ true) (λ x e. rw e (eqb-same (i .0))) ids m)
 
 -- Places.
 
 member-id : (b : Block) (bs : List Block) → Member b bs → Member (b .id) (idsOf bs)
-member-id b bs m = some-of-map (λ i. i ≡ b .id) (λ (c : Block). c .id) bs (some-map (λ c. c ≡ b) (λ c. c .id ≡ b .id) (λ c e. ap (λ (x : Block). x .id) e) bs m)
+member-id b bs m = some-of-map (λ i. i ≡ b .id) (λ (c : Block). c .id) bs
+    (some-map (λ c. c ≡ b) (λ c. c .id ≡ b .id) (λ c e. ap (λ (x : Block). x .id) e) bs m)
 
 -- where no id stands twice the first block's stands no later
-first-apart : (c : Block) (cs : List Block) (i : BlockId) → repeats (idsOf (c ∷ cs)) ≡ false → Member i (idsOf cs) → sameBlock (c .id) i ≡ false
+first-apart : (c : Block) (cs : List Block) (i : BlockId) → repeats (idsOf (c ∷ cs)) ≡ false → Member i (idsOf cs) → sameBlock
+    (c .id) i ≡ false
 first-apart c cs i d m =
     decide (sameBlock (c .id) i)
-    (λ e. never (subst (λ k. containsId (idsOf cs) k ≡ true) (sym (same-block (c .id) i e)) (member-contains (idsOf cs) i m)) (neither (containsId (idsOf cs) (c .id)) (repeats (idsOf cs)) d .0))
+    (λ e. never (subst (λ k. containsId (idsOf cs) k ≡ true) (sym (same-block (c .id) i e)) (member-contains (idsOf cs) i m))
+    (neither (containsId (idsOf cs) (c .id)) (repeats (idsOf cs)) d .0))
     (λ e. e)
 
 later-distinct : (c : Block) (cs : List Block) → repeats (idsOf (c ∷ cs)) ≡ false → repeats (idsOf cs) ≡ false
@@ -52,7 +76,8 @@ pub place-own : (bs : List Block) (k : ℕ) → repeats (idsOf bs) ≡ false →
 place-own [] k d h = absurd (not-suc-le-zero h)
 place-own (c ∷ cs) zero d h = rw (eqb-same (c .id .0))
 place-own (c ∷ cs) (suc k) d h =
-    rw (first-apart c cs (blockAt cs k .id) d (member-id (blockAt cs k) cs (member-getD cs k _ (omega arith)))) (ap suc (place-own cs k (later-distinct c cs d) (omega arith)))
+    rw (first-apart c cs (blockAt cs k .id) d (member-id (blockAt cs k) cs (member-getD cs k _ (omega arith))))
+    (ap suc (place-own cs k (later-distinct c cs d) (omega arith)))
 
 -- a block has a place
 member-place : (b : Block) (bs : List Block) → Member b bs → (k : ℕ) × (k < length bs) × (blockAt bs k ≡ b)
@@ -60,7 +85,8 @@ member-place b (c ∷ cs) (inl e) = (zero, omega arith, e)
 member-place b (c ∷ cs) (inr m) = let (k, h, e) = member-place b cs m in (suc k, omega arith, e)
 
 -- and is found there
-pub place-member : (b : Block) (bs : List Block) → repeats (idsOf bs) ≡ false → Member b bs → (placeOf bs (b .id) < length bs) × (blockAt bs (placeOf bs (b .id)) ≡ b)
+pub place-member : (b : Block) (bs : List Block) → repeats (idsOf bs) ≡ false → Member b bs → (placeOf bs (b .id) < length bs) ×
+    (blockAt bs (placeOf bs (b .id)) ≡ b)
 place-member b bs d m =
     let (k, h, e) = member-place b bs m in
     let own : placeOf bs (b .id) ≡ k = ap (λ (c : Block). placeOf bs (c .id)) (sym e) ∙ place-own bs k d h in
@@ -84,7 +110,8 @@ names-inside (c ∷ cs) (suc k) P s = let rest = names-inside cs k P s in omega 
 module _ (P : ℕ → Type 0) (bs : List Block) where
   insert-all : (k : ℕ) (js : List ℕ) → P k → All P js → All P (insertById bs k js)
   insert-all k [] h a = (h, tt)
-  insert-all k (j ∷ js) h a = by-cond (All P) (ltb (blockAt bs k .id .0) (blockAt bs j .id .0)) (λ t. (h, a)) (λ t. (a .0, insert-all k js h (a .1)))
+  insert-all k (j ∷ js) h a = by-cond (All P) (ltb (blockAt bs k .id .0) (blockAt bs j .id .0)) (λ t. (h, a))
+      (λ t. (a .0, insert-all k js h (a .1)))
 
   sort-all : (ks : List ℕ) → All P ks → All P (sortById bs ks)
   sort-all [] a = tt
@@ -92,9 +119,11 @@ module _ (P : ℕ → Type 0) (bs : List Block) where
 
   insert-some : (k : ℕ) (js : List ℕ) → P k ⊎ Some P js → Some P (insertById bs k js)
   insert-some k [] h = h
-  insert-some k (j ∷ js) (inl p) = by-cond (Some P) (ltb (blockAt bs k .id .0) (blockAt bs j .id .0)) (λ t. inl p) (λ t. inr (insert-some k js (inl p)))
+  insert-some k (j ∷ js) (inl p) = by-cond (Some P) (ltb (blockAt bs k .id .0) (blockAt bs j .id .0)) (λ t. inl p)
+      (λ t. inr (insert-some k js (inl p)))
   insert-some k (j ∷ js) (inr (inl p)) = by-cond (Some P) (ltb (blockAt bs k .id .0) (blockAt bs j .id .0)) (λ t. inr (inl p)) (λ t. inl p)
-  insert-some k (j ∷ js) (inr (inr s)) = by-cond (Some P) (ltb (blockAt bs k .id .0) (blockAt bs j .id .0)) (λ t. inr (inr s)) (λ t. inr (insert-some k js (inr s)))
+  insert-some k (j ∷ js) (inr (inr s)) = by-cond (Some P) (ltb (blockAt bs k .id .0) (blockAt bs j .id .0)) (λ t. inr (inr s))
+      (λ t. inr (insert-some k js (inr s)))
 
   sort-some : (ks : List ℕ) → Some P ks → Some P (sortById bs ks)
   sort-some (k ∷ ks) (inl p) = insert-some k (sortById bs ks) (inl p)
@@ -116,11 +145,15 @@ pub proper-blocks : (j : Job) → hasRepeat j ≡ false → hasUnknown j ≡ fal
 unfolding hasRepeat hasUnknown
 proper-blocks j r u =
     let ids = idsOf (j .blocks) in
-    let unknown = neither (anyOf (λ (b : Block). anyOf (λ i. not (containsId ids i)) (b .predecessors)) (j .blocks)) (not (containsId ids (j .scope))) u .0 in
+    let unknown = neither (anyOf (λ (b : Block). anyOf (λ i. not (containsId ids i)) (b .predecessors)) (j .blocks))
+    (not (containsId ids (j .scope))) u .0 in
     record {
       distinct = neither (repeats ids) _ r .0;
-      known = all-map (λ (b : Block). anyOf (λ i. not (containsId ids i)) (b .predecessors) ≡ false) (λ b. All (λ i. Member i ids) (b .predecessors))
-          (λ b h. all-map (λ i. not (containsId ids i) ≡ false) (λ i. Member i ids) (λ i e. contains-member ids i (not-false (containsId ids i) e)) (b .predecessors) (none-any (λ i. not (containsId ids i)) (b .predecessors) h))
+      known = all-map (λ (b : Block). anyOf (λ i. not (containsId ids i)) (b .predecessors) ≡ false)
+          (λ b. All (λ i. Member i ids) (b .predecessors))
+          (λ b h. all-map (λ i. not (containsId ids i) ≡ false) (λ i. Member i ids)
+          (λ i e. contains-member ids i (not-false (containsId ids i) e)) (b .predecessors)
+          (none-any (λ i. not (containsId ids i)) (b .predecessors) h))
           (j .blocks) (none-any (λ (b : Block). anyOf (λ i. not (containsId ids i)) (b .predecessors)) (j .blocks) unknown);
     }
 
@@ -132,7 +165,8 @@ module _ (bs : List Block) (ok : ProperBlocks bs) where
   unfolding predecessorsOf
   predecessors-inside b =
       all-of-map (λ c. c < length bs) (placeOf bs) (blockAt bs b .predecessors)
-      (all-map (λ i. Member i (idsOf bs)) (λ i. placeOf bs i < length bs) (λ i m. place-known bs i m .0) (blockAt bs b .predecessors) (known-at b))
+      (all-map (λ i. Member i (idsOf bs)) (λ i. placeOf bs i < length bs) (λ i m. place-known bs i m .0)
+      (blockAt bs b .predecessors) (known-at b))
 
   -- an edge of the graph is one of the job ..
   pub predecessor-precedes : (c b : ℕ) → Member c (predecessorsOf bs b) → Member (blockAt bs c .id) (blockAt bs b .predecessors)
@@ -140,15 +174,18 @@ module _ (bs : List Block) (ok : ProperBlocks bs) where
   predecessor-precedes c b m =
       some-map (λ i. (Member i (idsOf bs)) × (placeOf bs i ≡ c)) (λ i. i ≡ blockAt bs c .id)
       (λ i h. sym (place-known bs i (h .0) .1) ∙ ap (λ k. blockAt bs k .id) (h .1)) (blockAt bs b .predecessors)
-      (some-both (λ i. Member i (idsOf bs)) (λ i. placeOf bs i ≡ c) (blockAt bs b .predecessors) (known-at b) (some-unmap (λ k. k ≡ c) (placeOf bs) (blockAt bs b .predecessors) m))
+      (some-both (λ i. Member i (idsOf bs)) (λ i. placeOf bs i ≡ c) (blockAt bs b .predecessors) (known-at b)
+      (some-unmap (λ k. k ≡ c) (placeOf bs) (blockAt bs b .predecessors) m))
 
   pub predecessor-block : (c b : ℕ) → Member c (predecessorsOf bs b) → b < length bs
   predecessor-block c b m = names-inside bs b (λ i. i ≡ blockAt bs c .id) (predecessor-precedes c b m)
 
   -- .. and the other way round
-  pub precedes-predecessor : (a : Block) (b : ℕ) → Member a bs → Member (a .id) (blockAt bs b .predecessors) → Member (placeOf bs (a .id)) (predecessorsOf bs b)
+  pub precedes-predecessor : (a : Block) (b : ℕ) → Member a bs → Member (a .id) (blockAt bs b .predecessors) → Member
+      (placeOf bs (a .id)) (predecessorsOf bs b)
   unfolding predecessorsOf
-  precedes-predecessor a b m p = some-of-map (λ k. k ≡ placeOf bs (a .id)) (placeOf bs) (blockAt bs b .predecessors) (some-map (λ i. i ≡ a .id) (λ i. placeOf bs i ≡ placeOf bs (a .id)) (λ i e. ap (placeOf bs) e) (blockAt bs b .predecessors) p)
+  precedes-predecessor a b m p = some-of-map (λ k. k ≡ placeOf bs (a .id)) (placeOf bs) (blockAt bs b .predecessors)
+      (some-map (λ i. i ≡ a .id) (λ i. placeOf bs i ≡ placeOf bs (a .id)) (λ i e. ap (placeOf bs) e) (blockAt bs b .predecessors) p)
 
   -- A successor is a block that names this one.
   pub successors-inside : (b : ℕ) → All (λ c. c < length bs) (successorsOf bs b)
@@ -162,32 +199,38 @@ module _ (bs : List Block) (ok : ProperBlocks bs) where
   successor-precedes b c m =
       contains-member (blockAt bs c .predecessors) (blockAt bs b .id)
       (all-at (λ k. containsId (blockAt bs k .predecessors) (blockAt bs b .id) ≡ true) (successorsOf bs b) c
-      (all-chosen (λ k. containsId (blockAt bs k .predecessors) (blockAt bs b .id) ≡ true) (λ k. containsId (blockAt bs k .predecessors) (blockAt bs b .id)) (byAscendingId bs) (all-of _ (byAscendingId bs) (λ k n t. t))) m)
+      (all-chosen (λ k. containsId (blockAt bs k .predecessors) (blockAt bs b .id) ≡ true)
+      (λ k. containsId (blockAt bs k .predecessors) (blockAt bs b .id)) (byAscendingId bs) (all-of _ (byAscendingId bs) (λ k n t. t))) m)
 
-  pub precedes-successor : (b : ℕ) (P : ℕ → Type 0) (c : ℕ) → c < length bs → P c → Member (blockAt bs b .id) (blockAt bs c .predecessors) → Some P (successorsOf bs b)
+  pub precedes-successor : (b : ℕ) (P : ℕ → Type 0) (c : ℕ) → c < length bs → P c → Member (blockAt bs b .id)
+      (blockAt bs c .predecessors) → Some P (successorsOf bs b)
   unfolding successorsOf byAscendingId
   precedes-successor b P c h p n =
       some-select P (λ k. containsId (blockAt bs k .predecessors) (blockAt bs b .id)) (byAscendingId bs)
       (sort-some (λ k. (containsId (blockAt bs k .predecessors) (blockAt bs b .id) ≡ true) × P k) bs (jobOrder (length bs))
-      (some-of (λ k. (containsId (blockAt bs k .predecessors) (blockAt bs b .id) ≡ true) × P k) (jobOrder (length bs)) c (member-contains (blockAt bs c .predecessors) (blockAt bs b .id) n, p) (order-member (length bs) c h)))
+      (some-of (λ k. (containsId (blockAt bs k .predecessors) (blockAt bs b .id) ≡ true) × P k) (jobOrder (length bs)) c
+      (member-contains (blockAt bs c .predecessors) (blockAt bs b .id) n, p) (order-member (length bs) c h)))
 
   pub no-successor : (b : ℕ) → All (λ c. Member (blockAt bs b .id) (c .predecessors) → ⊥) bs → successorsOf bs b ≡ []
   unfolding successorsOf byAscendingId
   no-successor b none =
       select-none (λ k. containsId (blockAt bs k .predecessors) (blockAt bs b .id)) (byAscendingId bs)
-      (sort-all (λ k. containsId (blockAt bs k .predecessors) (blockAt bs b .id) ≡ false) bs (jobOrder (length bs)) (all-map (λ k. k < length bs) _ (λ k h. apart k h) (jobOrder (length bs)) (order-below (length bs))))
+      (sort-all (λ k. containsId (blockAt bs k .predecessors) (blockAt bs b .id) ≡ false) bs (jobOrder (length bs))
+      (all-map (λ k. k < length bs) _ (λ k h. apart k h) (jobOrder (length bs)) (order-below (length bs))))
     where
       apart : (k : ℕ) → k < length bs → containsId (blockAt bs k .predecessors) (blockAt bs b .id) ≡ false
       apart k h =
           decide (containsId (blockAt bs k .predecessors) (blockAt bs b .id))
-          (λ e. absurd (all-at (λ c. Member (blockAt bs b .id) (c .predecessors) → ⊥) bs (blockAt bs k) none (member-getD bs k _ h) (contains-member (blockAt bs k .predecessors) (blockAt bs b .id) e)))
+          (λ e. absurd (all-at (λ c. Member (blockAt bs b .id) (c .predecessors) → ⊥) bs (blockAt bs k) none (member-getD bs k _ h)
+          (contains-member (blockAt bs k .predecessors) (blockAt bs b .id) e)))
           (λ e. e)
 
   -- Going on by successors from a block of the job is going back by predecessors.
 
   successor-predecessor : (b c : ℕ) → b < length bs → Member c (successorsOf bs b) → Member b (predecessorsOf bs c)
   successor-predecessor b c h m =
-      subst (λ k. Member k (predecessorsOf bs c)) (place-own bs b (ok .distinct) h) (precedes-predecessor (blockAt bs b) c (member-getD bs b _ h) (successor-precedes b c m))
+      subst (λ k. Member k (predecessorsOf bs c)) (place-own bs b (ok .distinct) h)
+      (precedes-predecessor (blockAt bs b) c (member-getD bs b _ h) (successor-precedes b c m))
 
   pub reach-inside : {a b : ℕ} → Reach (successorsOf bs) a b → b < length bs
   reach-inside {a} {b} (one m) = all-at (λ c. c < length bs) (successorsOf bs a) b (successors-inside a) m

@@ -11,7 +11,11 @@ use Rattle.laws.specs.Membership.{Member}
 places-below : (k n : ℕ) → All (λ b. b < k + n) (placesFrom k n)
 unfolding placesFrom
 places-below k zero = tt
-places-below k (suc n) = (omega arith, all-map (λ b. b < suc k + n) (λ b. b < k + suc n) (λ b h. omega arith) (placesFrom (suc k) n) (places-below (suc k) n))
+places-below k (suc n) = (
+  omega arith,
+  all-map (λ b. b < suc k + n) (λ b. b < k + suc n) (λ b h. omega arith) (placesFrom (suc k) n)
+      (places-below (suc k) n),
+)
 
 pub order-below : (n : ℕ) → All (λ b. b < n) (jobOrder n)
 unfolding jobOrder
@@ -21,7 +25,8 @@ places-member : (k n b : ℕ) → k ≤ b → b < k + n → Member b (placesFrom
 unfolding placesFrom
 places-member k zero b low high = absurd (omega arith)
 places-member k (suc n) b low high =
-    decide (eqb k b) (λ e. inl (eqb-true k b e)) (λ e. inr (let other = eqb-false k b e in places-member (suc k) n b (omega arith) (omega arith)))
+    decide (eqb k b) (λ e. inl (eqb-true k b e))
+    (λ e. inr (let other = eqb-false k b e in places-member (suc k) n b (omega arith) (omega arith)))
 
 pub order-member : (n b : ℕ) → b < n → Member b (jobOrder n)
 unfolding jobOrder

@@ -1,4 +1,5 @@
--- Reading: a non-nullish value is reached from a non-nullish base only, one entry at a time, whatever the entries' optional marks.
+-- Reading: a non-nullish value is reached from a non-nullish base only, one entry at a time,
+-- whatever the entries' optional marks.
 use mathlib.Core.Path.{_≡_, refl, sym, ap, subst, _∙_}
 use mathlib.Core.Bool.{Bool, true, false}
 use mathlib.Core.List.{List, [], _∷_, _++_, append-nil, append-assoc}
@@ -6,7 +7,21 @@ use Rattle.entries.specs.declared.IdentifierId.{IdentifierId}
 use Rattle.entries.specs.declared.PropertyLiteral.{PropertyLiteral}
 use Rattle.entries.specs.declared.DependencyPathEntry.{DependencyPathEntry}
 use Rattle.entries.specs.Path.{ReactiveScopeDependency}
-use Rattle.model.specs.Reading.{Value, null, undefined, value, Store, Outcome, throws, readsTo, atNullish, readFrom, read, Throws, NonNullish}
+use Rattle.model.specs.ReadingPaths.{
+  Value,
+  null,
+  undefined,
+  value,
+  Store,
+  Completion,
+  throws,
+  readsTo,
+  atNullish,
+  readFrom,
+  read,
+  Throws,
+  NonNullish,
+}
 
 module _ {X : Type 0} (S : Store X) where
   -- the path reads to a value neither null nor undefined
@@ -35,6 +50,7 @@ module _ {X : Type 0} (S : Store X) where
   reaches-safe d v r h = subst NonNullish (sym (r []) ∙ ap (λ p. readFrom S (S .ofIdentifier (d .identifier)) p) (append-nil (d .path))) h
 
   -- one entry on, whatever its mark
-  pub reaches-next : (d d′ : ReactiveScopeDependency) (x : X) (f : DependencyPathEntry) (p : PropertyLiteral) → Reaches d (value x) → d′ .identifier ≡ d .identifier
+  pub reaches-next : (d d′ : ReactiveScopeDependency) (x : X) (f : DependencyPathEntry) (p : PropertyLiteral) → Reaches d (value x)
+      → d′ .identifier ≡ d .identifier
       → d′ .path ≡ d .path ++ (f ∷ []) → f .property ≡ p → Reaches d′ (S .ofProperty x p)
   reaches-next d d′ x f p r i path q es = rw (i, path, append-assoc, ← q) (r (f ∷ es))

@@ -1,4 +1,5 @@
--- Document 01, "Answer and sheet" and "Turning a job back": for any job bytes and any out buffer, the number returned and the buffer afterwards.
+-- Document 01, "Answer and sheet" and "Turning a job back": for any job bytes and any out buffer,
+-- the number returned and the buffer afterwards.
 use Prim.Native.Nat.{ℕ, zero, suc, _+_, _*_, _/_, _%_}
 use mathlib.Core.Bool.{Bool, true, false, cond}
 use mathlib.Core.List.{List, [], _∷_, _++_}
@@ -19,7 +20,20 @@ use Rattle.model.specs.Sets.{NodeSet, contains}
 use Rattle.model.specs.Registry.{nodeLimit, rootMark, Origin, root, childOf, PropertyPathNode}
 use Rattle.model.specs.Rounds.{Rounds}
 use Rattle.model.specs.Propagation.{Work, JoiningRule, doneNeighbours}
-use Rattle.model.specs.Read.{Read, got, refused, Reader, andThen, mapped, readMany, readU8, readU16, readNumber, readMark, readFlag}
+use Rattle.model.specs.ReadingBytes.{
+  Read,
+  got,
+  refused,
+  ByteReader,
+  andThen,
+  mapped,
+  readMany,
+  readU8,
+  readU16,
+  readNumber,
+  readMark,
+  readFlag,
+}
 use Rattle.model.specs.Job.{Block, Job, markOf, HD, readPath, readJob}
 use Rattle.model.specs.Stage.{propagated, returnedPaths}
 
@@ -86,7 +100,8 @@ pathBytes spanBytes mark d =
     u16 mark ++ u32 (d .identifier .0) ++ u8 (flag (d .reactive)) ++ numberBytes spanBytes (d .span) ++ u8 (length (d .path))
     ++ concatMap (entryBytes spanBytes) (d .path)
 
--- "The answer is AN, count u16, rounds u8, settled u8 (1 or 0), then a DE record per returned path, fields as PA."
+-- "The answer is AN, count u16, rounds u8, settled u8 (1 or 0), then a DE record per returned path,
+-- fields as PA."
 unfoldable pub answerBytes : ℕ → Job → Rounds Work → List ℕ
 unfolding numberBytes pathBytes returnedPaths
 answerBytes spanBytes job p =
@@ -95,14 +110,15 @@ answerBytes spanBytes job p =
 
 -- The same read back: what an answer holds.
 
--- What stands in an answer: "count, rounds, settled, .. returned path", the count being that of the list.
+-- What stands in an answer: "count, rounds, settled, .. returned path", the count being that of the
+-- list.
 pub record Answered : Type 0 where
   pub paths : List ReactiveScopeDependency
   pub rounds : ℕ
   pub settled : Bool
 
 -- The answer's fields in their order, "fields as PA": read by the readers of a job.
-unfoldable pub readAnswer : ℕ → Reader Answered
+unfoldable pub readAnswer : ℕ → ByteReader Answered
 unfolding readMark readNumber readFlag readPath
 readAnswer spanBytes s at =
     andThen (readMark AN s at) (λ _ countAt.
@@ -121,7 +137,8 @@ abbrev pub originBytes : Origin → List ℕ
 originBytes root = u8 0 ++ u8 0 ++ u64 0
 originBytes (childOf p e) = stepBytes e
 
--- "Per node NO, parent u16, identifier u32, optional u8, kind u8, value u64, span u32, the root's reactive u8."
+-- "Per node NO, parent u16, identifier u32, optional u8, kind u8, value u64, span u32, the root's
+-- reactive u8."
 unfoldable pub nodeBytes : ℕ → PropertyPathNode → List ℕ
 unfolding numberBytes
 nodeBytes spanBytes n =
@@ -139,7 +156,8 @@ unfolding bitsFrom
 rowBytes s k zero = []
 rowBytes s k (suc n) = bitsFrom s k 8 ∷ rowBytes s (k + 8) n
 
--- "Per block in job order SE, id u32, 64 bytes where node k is bit k mod 8 of byte k div 8, bit 0 being worth 1."
+-- "Per block in job order SE, id u32, 64 bytes where node k is bit k mod 8 of byte k div 8, bit 0
+-- being worth 1."
 unfoldable pub setBytes : List Block → List NodeSet → List ℕ
 unfolding numberBytes rowBytes
 setBytes [] sets = []
@@ -161,7 +179,8 @@ pub data Verdict : Type 0 where
   writes : List ℕ → Verdict
   turnsBack : Refusal → Verdict
 
--- 1: "The out buffer is shorter than 24,576 bytes." 2: "The job is longer than 32,768 bytes." The two limits are given.
+-- 1: "The out buffer is shorter than 24,576 bytes." 2: "The job is longer than 32,768 bytes." The
+-- two limits are given.
 abbrev pub withinLengths : ℕ → ℕ → List ℕ → List ℕ → Verdict → Verdict
 withinLengths leastOut mostJob job out rest =
     cond (ltb (length out) leastOut) (turnsBack ShortBuffer) (cond (ltb mostJob (length job)) (turnsBack LongJob) rest)
@@ -170,7 +189,8 @@ withinLengths leastOut mostJob job out rest =
 abbrev pub withinNodes : Rounds Work → List ℕ → Verdict
 withinNodes p bytes = cond (ltb nodeLimit (length (p .work .registry))) (turnsBack ManyNodes) (writes bytes)
 
--- A job that was read is propagated, 9 is looked at, and the bytes are written; 3 to 8 stay what they are.
+-- A job that was read is propagated, 9 is looked at, and the bytes are written; 3 to 8 stay what
+-- they are.
 abbrev pub onJob : JoiningRule → (Job → Rounds Work → List ℕ) → Read Job → Verdict
 onJob rule bytes (got job next) = let p = propagated rule (job .blocks) in withinNodes p (bytes job p)
 onJob rule bytes (refused r) = turnsBack r
@@ -187,8 +207,8 @@ longestJob = 32768
 abbrev pub spanWidth : ℕ
 spanWidth = 4
 
--- 1 and 2, then 3 to 8, and 9: of a job with a header of this mark and spans of so many bytes, under a
--- joining rule; `bytes` says what is written.
+-- 1 and 2, then 3 to 8, and 9: of a job with a header of this mark and spans of so many bytes,
+-- under a joining rule; `bytes` says what is written.
 unfoldable pub verdict : ℕ → ℕ → JoiningRule → (ℕ → Job → Rounds Work → List ℕ) → List ℕ → List ℕ → Verdict
 unfolding readJob propagated
 verdict head spanBytes rule bytes job out =
@@ -214,12 +234,14 @@ abbrev pub bufferAfter : Verdict → List ℕ → List ℕ
 bufferAfter (writes bytes) out = bytes ++ drop (length bytes) out
 bufferAfter (turnsBack r) out = out
 
--- "Program `answer` reads a job from standard input and writes the answer, or RF and the number as one byte; `sheet` likewise."
+-- "Program `answer` reads a job from standard input and writes the answer, or RF and the number as
+-- one byte; `sheet` likewise."
 abbrev pub programOutput : Verdict → List ℕ
 programOutput (writes bytes) = bytes
 programOutput (turnsBack r) = 0x52 ∷ 0x46 ∷ refusalNumber r ∷ []
 
--- "Program `answer`": its buffer has the least length, so that 1 does not occur, and its input is the job.
+-- "Program `answer`": its buffer has the least length, so that 1 does not occur, and its input is
+-- the job.
 unfoldable pub answerProgram : List ℕ → List ℕ
 answerProgram input = programOutput (answerOf input (replicate leastBuffer 0))
 

@@ -16,7 +16,7 @@ use Rattle.model.specs.Registry.{fullPathOf, getOrCreateProperty}
 use Rattle.model.specs.Reduction.{Reduced, reduceMaybeOptionalChains}
 use Rattle.model.specs.Tree.{deriveMinimalDependencies}
 use Rattle.model.specs.Job.{Block}
-use Rattle.model.specs.Stage.{Entered, enterPaths, propagated}
+use Rattle.model.specs.Stage.{PathsEntered, enterPaths, propagated}
 use Rattle.model.specs.Propagation.{doneNeighbours}
 use Rattle.model.specs.Answer.{leastBuffer, Verdict, writes, answerOf}
 
@@ -36,20 +36,20 @@ pub data Example : Type 0 where
 abbrev pub reducedPaths : Reduced → List ReactiveScopeDependency
 reducedPaths r = map (fullPathOf (r .registry)) (r .set)
 
-abbrev pub reduceEntered : Entered → Reduced
+abbrev pub reduceEntered : PathsEntered → Reduced
 reduceEntered e = reduceMaybeOptionalChains (e .registry) (e .set)
 
-abbrev pub Holds : Example → Type 0
-Holds (tree hs cs ds) = deriveMinimalDependencies hs cs ≡ ds
-Holds (reduction before after) = reducedPaths (reduceEntered (enterPaths [] [] before)) ≡ after
-Holds (propagation blocks sets rounds) =
+abbrev pub ExampleHolds : Example → Type 0
+ExampleHolds (tree hs cs ds) = deriveMinimalDependencies hs cs ≡ ds
+ExampleHolds (reduction before after) = reducedPaths (reduceEntered (enterPaths [] [] before)) ≡ after
+ExampleHolds (propagation blocks sets rounds) =
     let p = propagated doneNeighbours blocks in
     (map (map (fullPathOf (p .work .registry))) (p .work .sets) ≡ sets) × (p .rounds ≡ rounds) × (p .settled ≡ true)
-Holds (bytes job answer) = (out : List ℕ) → leastBuffer ≤ length out → answerOf job out ≡ writes answer
+ExampleHolds (bytes job answer) = (out : List ℕ) → leastBuffer ≤ length out → answerOf job out ≡ writes answer
 
 abbrev pub AllHold : List Example → Type 0
 AllHold [] = Unit {0}
-AllHold (x ∷ xs) = Holds x × AllHold xs
+AllHold (x ∷ xs) = ExampleHolds x × AllHold xs
 
 -- The notation of document 01. What it leaves open is chosen so that a wrong choice shows:
 -- hoistable paths are not reactive and have spans of their own, and a second candidate has other
@@ -193,21 +193,21 @@ examples-hold = (refl, (refl, (refl, (refl, (refl, (refl, (refl, (refl, reductio
 -- {1.11, 1?.10}; 1.12; 1: the optional path stands ahead, so the root is Optional, and the later
 -- plain path does not alter it.
 pub optional-ahead :
-    Holds (tree (hoistable (known 11 ∷ []) ∷ hoistable (knownOptional 10 ∷ []) ∷ []) (candidate (plain 12 ∷ []) ∷ []) (one [] ∷ []))
+    ExampleHolds (tree (hoistable (known 11 ∷ []) ∷ hoistable (knownOptional 10 ∷ []) ∷ []) (candidate (plain 12 ∷ []) ∷ []) (one [] ∷ []))
 unfolding deriveMinimalDependencies
 optional-ahead = refl
 
 -- {1.10, 1.10?.11}; 1.10.12; the same: "order otherwise kept" of the plain paths, so that 1.10
 -- makes the position after 10 NonNull before 1.10?.11 could make it Optional.
 pub plain-order-kept :
-    Holds (tree (hoistable (known 10 ∷ []) ∷ hoistable (known 10 ∷ knownOptional 11 ∷ []) ∷ [])
+    ExampleHolds (tree (hoistable (known 10 ∷ []) ∷ hoistable (known 10 ∷ knownOptional 11 ∷ []) ∷ [])
     (candidate (plain 10 ∷ plain 12 ∷ []) ∷ []) (one (plain 10 ∷ plain 12 ∷ []) ∷ []))
 unfolding deriveMinimalDependencies
 plain-order-kept = refl
 
 -- {1?.10.11, 1?.10?.12}; 1?.10.13; the same: and of those ahead.
 pub optional-order-kept :
-    Holds (tree (hoistable (knownOptional 10 ∷ known 11 ∷ []) ∷ hoistable (knownOptional 10 ∷ knownOptional 12 ∷ []) ∷ [])
+    ExampleHolds (tree (hoistable (knownOptional 10 ∷ known 11 ∷ []) ∷ hoistable (knownOptional 10 ∷ knownOptional 12 ∷ []) ∷ [])
     (candidate (optional 10 ∷ plain 13 ∷ []) ∷ []) (one (optional 10 ∷ plain 13 ∷ []) ∷ []))
 unfolding deriveMinimalDependencies
 optional-order-kept = refl
@@ -226,21 +226,21 @@ set-of-the-moment = refl
 -- A block that assumes 1 and 1?.10 ends with {1, 1.10} after 2 rounds: the first changed the set,
 -- though not its size.
 pub changed-by-set :
-    Holds (propagation (block 7 [] (one [] ∷ one (optional 10 ∷ []) ∷ []) ∷ []) ((one [] ∷ one (plain 10 ∷ []) ∷ []) ∷ []) 2)
+    ExampleHolds (propagation (block 7 [] (one [] ∷ one (optional 10 ∷ []) ∷ []) ∷ []) ((one [] ∷ one (plain 10 ∷ []) ∷ []) ∷ []) 2)
 unfolding propagated doneNeighbours
 changed-by-set = (refl, refl, refl)
 
 -- 0 (after 1) assumes 5, 1 (after 0): in both, 2 rounds. "Backward takes reverse job order": 1 is
 -- visited first, and 0 is Done when 1 is joined.
 pub backward-in-reverse :
-    Holds (propagation (block 0 (1 ∷ []) (five ∷ []) ∷ block 1 (0 ∷ []) [] ∷ []) ((five ∷ []) ∷ (five ∷ []) ∷ []) 2)
+    ExampleHolds (propagation (block 0 (1 ∷ []) (five ∷ []) ∷ block 1 (0 ∷ []) [] ∷ []) ((five ∷ []) ∷ (five ∷ []) ∷ []) 2)
 unfolding propagated doneNeighbours
 backward-in-reverse = (refl, refl, refl)
 
 -- 2 (after 0, 1) assumes 5, 1 (after 1, 2, 0), 0 (after 0): in all three, 2 rounds. "Successors by
 -- ascending id": those of 0 are 0, 1, 2, and not 2, 1, 0 as in the job.
 pub successors-ascend :
-    Holds (propagation (block 2 (0 ∷ 1 ∷ []) (five ∷ []) ∷ block 1 (1 ∷ 2 ∷ 0 ∷ []) [] ∷ block 0 (0 ∷ []) [] ∷ [])
+    ExampleHolds (propagation (block 2 (0 ∷ 1 ∷ []) (five ∷ []) ∷ block 1 (1 ∷ 2 ∷ 0 ∷ []) [] ∷ block 0 (0 ∷ []) [] ∷ [])
     ((five ∷ []) ∷ (five ∷ []) ∷ (five ∷ []) ∷ []) 2)
 unfolding propagated doneNeighbours
 successors-ascend = (refl, refl, refl)
@@ -248,7 +248,7 @@ successors-ascend = (refl, refl, refl)
 -- 3 (after 2, 1), 1 (after 1, 2, 3), 2 (after 1) assumes 5: only in 2, 1 round. "Predecessors in
 -- job order": those of 3 are 2, 1, as its record lists them.
 pub predecessors-as-recorded :
-    Holds (propagation (block 3 (2 ∷ 1 ∷ []) [] ∷ block 1 (1 ∷ 2 ∷ 3 ∷ []) [] ∷ block 2 (1 ∷ []) (five ∷ []) ∷ [])
+    ExampleHolds (propagation (block 3 (2 ∷ 1 ∷ []) [] ∷ block 1 (1 ∷ 2 ∷ 3 ∷ []) [] ∷ block 2 (1 ∷ []) (five ∷ []) ∷ [])
     ([] ∷ [] ∷ (five ∷ []) ∷ []) 1)
 unfolding propagated doneNeighbours
 predecessors-as-recorded = (refl, refl, refl)

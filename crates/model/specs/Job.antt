@@ -1,5 +1,5 @@
--- Document 01, "The job": its records, field by field, and refusals 3 to 8. The width of a span, in bytes, is a parameter of the records
--- that hold one.
+-- Document 01, "The job": its records, field by field, and refusals 3 to 8. The width of a span, in
+-- bytes, is a parameter of the records that hold one.
 use Prim.Native.Nat.{ℕ, zero, suc, _+_, _*_}
 use mathlib.Core.Bool.{Bool, true, false, _||_, not, cond}
 use mathlib.Core.List.{List, [], _∷_, map}
@@ -14,7 +14,24 @@ use Rattle.entries.specs.Property.{propertyOf}
 use Rattle.entries.specs.declared.Refusal.the-variants.{ExtraByte, RepeatedId, UnknownBlock}
 use Rattle.entries.specs.Path.{ReactiveScopeDependency}
 use Rattle.model.specs.Lists.{anyOf}
-use Rattle.model.specs.Read.{Read, got, refused, Reader, andThen, mapped, both, readMany, readU8, readU16, readU32, readU64, readMark, readNumber, readWithin, readFlag}
+use Rattle.model.specs.ReadingBytes.{
+  Read,
+  got,
+  refused,
+  ByteReader,
+  andThen,
+  mapped,
+  both,
+  readMany,
+  readU8,
+  readU16,
+  readU32,
+  readU64,
+  readMark,
+  readNumber,
+  readWithin,
+  readFlag,
+}
 
 -- "Each record starts with a two-byte ASCII mark."
 abbrev pub markOf : ℕ → ℕ → ℕ
@@ -37,7 +54,7 @@ abbrev pub CA : ℕ
 CA = markOf 0x43 0x41
 
 -- "Entries of 14 bytes: optional u8 (0 or 1), kind u8 (0 name, 1 number), value u64, span u32."
-unfoldable pub readEntry : ℕ → Reader DependencyPathEntry
+unfoldable pub readEntry : ℕ → ByteReader DependencyPathEntry
 unfolding readFlag readNumber
 readEntry spanBytes s at =
     andThen (readFlag s at) (λ optional kindAt.
@@ -46,8 +63,9 @@ readEntry spanBytes s at =
     andThen (readNumber spanBytes s spanAt) (λ span next.
     got (record { property = propertyOf kind value; optional = optional; span = span }) next))))
 
--- "PA: identifier u32, reactive u8 (0 or 1), span u32, entry count u8 (0 to 16), then entries." "CA, with the fields of PA."
-unfoldable pub readPath : ℕ → ℕ → Reader ReactiveScopeDependency
+-- "PA: identifier u32, reactive u8 (0 or 1), span u32, entry count u8 (0 to 16), then entries."
+-- "CA, with the fields of PA."
+unfoldable pub readPath : ℕ → ℕ → ByteReader ReactiveScopeDependency
 unfolding readMark readFlag readNumber readWithin readEntry
 readPath spanBytes mark s at =
     andThen (readMark mark s at) (λ _ identifierAt.
@@ -64,12 +82,17 @@ pub record Block : Type 0 where
   pub predecessors : List BlockId
   pub assumed : List ReactiveScopeDependency
 
--- "Id u32", of a block. "Identifiers and block ids are kept apart as in the source."
-abbrev pub readBlockId : Reader BlockId
-readBlockId s at = mapped (λ i. record { 0 = i }) (readU32 s at)
+-- A number as the id of a block.
+abbrev pub blockId : ℕ → BlockId
+blockId i = record { 0 = i }
 
--- "Per block BL: id u32, predecessor count u8 (0 to 64), assumed count u8, predecessor ids u32 each. Its assumed paths follow as PA records."
-unfoldable pub readBlock : ℕ → Reader Block
+-- "Id u32", of a block. "Identifiers and block ids are kept apart as in the source."
+abbrev pub readBlockId : ByteReader BlockId
+readBlockId s at = mapped blockId (readU32 s at)
+
+-- "Per block BL: id u32, predecessor count u8 (0 to 64), assumed count u8, predecessor ids u32
+-- each. Its assumed paths follow as PA records."
+unfoldable pub readBlock : ℕ → ByteReader Block
 unfolding readMark readNumber readWithin readPath
 readBlock spanBytes s at =
     andThen (readMark BL s at) (λ _ idAt.
@@ -86,7 +109,7 @@ pub record Header : Type 0 where
   pub scope : BlockId
 
 -- "HD: blocks u16 (1 to 128), candidates u16 (0 to 64), scope block id u32."
-unfoldable pub readHeader : ℕ → Reader Header
+unfoldable pub readHeader : ℕ → ByteReader Header
 unfolding readMark readNumber readWithin
 readHeader mark s at =
     andThen (readMark mark s at) (λ _ blocksAt.
@@ -108,7 +131,8 @@ readRecords head spanBytes s =
     andThen (readHeader head s 0) (λ header blocksAt.
     andThen (readMany (header .blocks) (readBlock spanBytes) s blocksAt) (λ blocks candidatesAt.
     andThen (readMany (header .candidates) (readPath spanBytes CA) s candidatesAt) (λ candidates next.
-    cond (eqb next (length s)) (got (record { scope = header .scope; blocks = blocks; candidates = candidates }) next) (refused ExtraByte))))
+    cond (eqb next (length s)) (got (record { scope = header .scope; blocks = blocks; candidates = candidates }) next)
+    (refused ExtraByte))))
 
 -- Two block ids are the same number.
 abbrev pub sameBlock : BlockId → BlockId → Bool

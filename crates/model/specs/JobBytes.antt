@@ -1,5 +1,5 @@
--- Document 01, "The job", written: the bytes of a job's records, field by field. The mark of the header
--- and the width of a span, in bytes, are parameters, as they are of the reader (`Job`).
+-- Document 01, "The job", written: the bytes of a job's records, field by field. The mark of the
+-- header and the width of a span, in bytes, are parameters, as they are of the reader (`Job`).
 use Prim.Native.Nat.{ℕ}
 use mathlib.Core.List.{List, _++_}
 use lib.ListN.{length}
@@ -8,16 +8,16 @@ use Rattle.model.specs.Lists.{concatMap}
 use Rattle.model.specs.Job.{Block, Job, BL, PA, CA}
 use Rattle.model.specs.Answer.{numberBytes, u8, u16, u32, pathBytes}
 
--- "Per block BL: id u32, predecessor count u8 .., assumed count u8, predecessor ids u32 each. Its assumed
--- paths follow as PA records."
+-- "Per block BL: id u32, predecessor count u8 .., assumed count u8, predecessor ids u32 each. Its
+-- assumed paths follow as PA records."
 unfoldable pub blockBytes : ℕ → Block → List ℕ
 unfolding numberBytes pathBytes
 blockBytes spanBytes b =
     u16 BL ++ u32 (b .id .0) ++ u8 (length (b .predecessors)) ++ u8 (length (b .assumed))
     ++ concatMap (λ (i : BlockId). u32 (i .0)) (b .predecessors) ++ concatMap (pathBytes spanBytes PA) (b .assumed)
 
--- "HD: blocks u16 .., candidates u16 .., scope block id u32", the blocks, and "after the blocks, candidates:
--- CA, with the fields of PA."
+-- "HD: blocks u16 .., candidates u16 .., scope block id u32", the blocks, and "after the blocks,
+-- candidates: CA, with the fields of PA."
 unfoldable pub jobBytes : ℕ → ℕ → Job → List ℕ
 unfolding numberBytes pathBytes blockBytes
 jobBytes head spanBytes j =

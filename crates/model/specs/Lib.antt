@@ -1,6 +1,6 @@
 -- definitions
 pub mod Lists
-pub mod Reading
+pub mod ReadingPaths
 pub mod Sets
 pub mod Registry
 pub mod Reduction
@@ -9,7 +9,7 @@ pub mod Rounds
 pub mod Propagation
 pub mod Forest
 pub mod Tree
-pub mod Read
+pub mod ReadingBytes
 pub mod Job
 pub mod Stage
 pub mod Answer

@@ -28,3 +28,8 @@ sumOf f (x ∷ xs) = f x + sumOf f xs
 abbrev pub concatMap : {A B : Type 0} → (A → List B) → List A → List B
 concatMap f [] = []
 concatMap f (x ∷ xs) = f x ++ concatMap f xs
+
+-- the first of some flags; false where there is none
+abbrev pub firstFlag : List Bool → Bool
+firstFlag [] = false
+firstFlag (b ∷ bs) = b

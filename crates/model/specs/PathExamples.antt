@@ -8,7 +8,7 @@ use Rattle.entries.specs.declared.PropertyLiteral.the-variants.{Number}
 use Rattle.entries.specs.declared.DependencyPathEntry.{DependencyPathEntry}
 use Rattle.entries.specs.Path.{ReactiveScopeDependency, prefixOf}
 use Rattle.entries.specs.Property.{valueOf}
-use Rattle.model.specs.Reading.{Value, null, undefined, value, Store, Outcome, throws, readsTo, read}
+use Rattle.model.specs.ReadingPaths.{Value, null, undefined, value, Store, Completion, throws, readsTo, read}
 use Rattle.model.specs.Examples.{plain, optional, known, knownOptional, pathOf, candidate}
 
 -- Reading a path.
@@ -22,7 +22,7 @@ abbrev store : Store ℕ
 store = record { ofIdentifier = λ i. valueFor 1 2 (i .0); ofProperty = λ x p. valueFor 10 11 (valueOf p) }
 
 -- a path of an identifier, read in this store
-abbrev reading : ℕ → List DependencyPathEntry → Outcome ℕ
+abbrev reading : ℕ → List DependencyPathEntry → Completion ℕ
 reading i es = read store (pathOf i false 0 es)
 
 -- 1.12 and 2.12: "a plain entry throws" at null and at undefined.

@@ -1,4 +1,5 @@
--- Document 01, module 4 (Propagation): `propagate_non_null`, over the registry and the blocks' sets.
+-- Document 01, module 4 (Propagation): `propagate_non_null`, over the registry and the blocks'
+-- sets.
 use Prim.Native.Nat.{ℕ, zero}
 use mathlib.Core.Bool.{Bool, true, false, _||_, not}
 use mathlib.Core.List.{List, [], _∷_, map, foldl}
@@ -33,7 +34,8 @@ unfoldable pub intersectionOf : List NodeSet → NodeSet
 intersectionOf [] = []
 intersectionOf (s ∷ ss) = foldl intersection s ss
 
--- how a set is reduced: `reduceMaybeOptionalChains`, and in the laws any other function that does so
+-- how a set is reduced: `reduceMaybeOptionalChains`, and in the laws any other function that does
+-- so
 abbrev pub Reducer : Type 0
 Reducer = PropertyPathRegistry → NodeSet → Reduced
 
@@ -48,8 +50,8 @@ joinWith reduce neighbours b w =
       changed = w .changed || not (sameSet (setOf (w .sets) b) (r .set));
     }
 
--- "Then joins its set with the intersection of its Done neighbours' sets .., reduces it": the rule says
--- which of a block's neighbours join.
+-- "Then joins its set with the intersection of its Done neighbours' sets .., reduces it": the rule
+-- says which of a block's neighbours join.
 unfoldable pub join : Reducer → JoiningRule → (ℕ → List ℕ) → ℕ → List TraversalState → Work → Work
 unfolding joinWith
 join reduce rule near b marks w = joinWith reduce (rule marks (near b)) b w

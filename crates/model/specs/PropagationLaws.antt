@@ -1,6 +1,6 @@
--- Along a job's propagation the registry stays sound and each set is an ascending set of its nodes, so each
--- reduction ends by a pass that changed nothing; no step makes the registry shorter; and a block that has
--- joined has a reduced set from then on.
+-- Along a job's propagation the registry stays sound and each set is an ascending set of its nodes,
+-- so each reduction ends by a pass that changed nothing; no step makes the registry shorter; and a
+-- block that has joined has a reduced set from then on.
 use Prim.Native.Nat.{ℕ, zero, suc, _≤_, _<_}
 use native.Mathlib.Nat.{le-refl, le-trans, not-suc-le-zero}
 use native.Mathlib.Omega.{arith}
@@ -18,13 +18,50 @@ use Rattle.model.specs.Registry.{PropertyPathRegistry, ownMark, getOrCre
 use Rattle.model.specs.Reduction.{Reduced, reduceNode, pass, reduceMaybeOptionalChains}
 use Rattle.model.specs.Visit.{TraversalState}
 use Rattle.model.specs.Rounds.{Rounds, roundsFrom, walk, jobOrder, reverseJobOrder}
-use Rattle.model.specs.Propagation.{Work, setOf, JoiningRule, Reducer, roundStart, intersectionOf, joinWith, join, Graph, forward, backward, round, hasChanged, propagateWith, propagateNonNull}
+use Rattle.model.specs.Propagation.{
+  Work,
+  setOf,
+  JoiningRule,
+  Reducer,
+  roundStart,
+  intersectionOf,
+  joinWith,
+  join,
+  Graph,
+  forward,
+  backward,
+  round,
+  hasChanged,
+  propagateWith,
+  propagateNonNull,
+}
 use Rattle.model.specs.Job.{Block}
-use Rattle.model.specs.Stage.{Entered, enterPaths, enterBlock, Started, enterBlocks, graphOf, propagated}
+use Rattle.model.specs.Stage.{PathsEntered, enterPaths, enterBlock, Started, enterBlocks, graphOf, propagated}
 use Rattle.model.specs.ListLaws.{All, all-map, all-select, all-getD, all-set, set-here, all-mapped}
 use Rattle.model.specs.SetLaws.{insert-from, select-from, union-from, insert-all, union-all}
-use Rattle.model.specs.RegistryLaws.{Extends, extends-refl, extends-trans, extends-length, Sound, sound-empty, Proper, path-proper, path-extends}
-use Rattle.model.specs.ReductionLaws.{Members, members-extends, reduction-members, reduction-extends, reduction-sound, Repeats, reduction-only, IsReduced, reduced-extends, reduction-reduced}
+use Rattle.model.specs.RegistryLaws.{
+  Extends,
+  extends-refl,
+  extends-trans,
+  extends-length,
+  Sound,
+  sound-empty,
+  Proper,
+  path-proper,
+  path-extends,
+}
+use Rattle.model.specs.ReductionLaws.{
+  Members,
+  members-extends,
+  reduction-members,
+  reduction-extends,
+  reduction-sound,
+  Repeats,
+  reduction-only,
+  IsReduced,
+  reduced-extends,
+  reduction-reduced,
+}
 use Rattle.model.specs.VisitLaws.{Preorder}
 use Rattle.model.specs.RoundsLaws.{walk-does, rounds-do, walk-same, rounds-same}
 
@@ -42,11 +79,16 @@ pub members-union : (reg : PropertyPathRegistry) (s t : NodeSet) → Members reg
 members-union reg s t a b =
     record { ascending = union-from s t (a .ascending); inside = union-all (λ k. k .0 < length reg) s t (a .inside) (b .inside) }
 
-members-intersections : (reg : PropertyPathRegistry) (s : NodeSet) (ss : List NodeSet) → Members reg s → Members reg (foldl intersection s ss)
+members-intersections : (reg : PropertyPathRegistry) (s : NodeSet) (ss : List NodeSet) → Members reg s → Members reg
+    (foldl intersection s ss)
 members-intersections reg s [] m = m
 members-intersections reg s (t ∷ ts) m =
     members-intersections reg (intersection s t) ts
-    (record { ascending = select-from zero (contains t) s (m .ascending); inside = all-select (λ k. k .0 < length reg) (contains t) s (m .inside) })
+    (record {
+      ascending = select-from zero (contains t) s (m .ascending);
+      inside = all-select (λ k. k .0 < length reg)
+          (contains t) s (m .inside);
+    })
 
 members-intersection : (reg : PropertyPathRegistry) (ss : List NodeSet) → All (Members reg) ss → Members reg (intersectionOf ss)
 unfolding intersectionOf
@@ -63,9 +105,11 @@ joinedSet neighbours b w = union (setOf (w .sets) b) (intersectionOf (map (setOf
 pub members-joined : (neighbours : List ℕ) (b : ℕ) (w : Work) → ProperWork w → Members (w .registry) (joinedSet neighbours b w)
 members-joined neighbours b w p =
     members-union (w .registry) (setOf (w .sets) b) _ (members-setOf w p b)
-    (members-intersection (w .registry) (map (setOf (w .sets)) neighbours) (all-mapped (Members (w .registry)) (setOf (w .sets)) neighbours (members-setOf w p)))
+    (members-intersection (w .registry) (map (setOf (w .sets)) neighbours)
+    (all-mapped (Members (w .registry)) (setOf (w .sets)) neighbours (members-setOf w p)))
 
-pub join-extends : (neighbours : List ℕ) (b : ℕ) (w : Work) → Extends (w .registry) (joinWith reduceMaybeOptionalChains neighbours b w .registry)
+pub join-extends : (neighbours : List ℕ) (b : ℕ) (w : Work) → Extends (w .registry)
+    (joinWith reduceMaybeOptionalChains neighbours b w .registry)
 unfolding joinWith
 join-extends neighbours b w = reduction-extends (w .registry) (joinedSet neighbours b w)
 
@@ -77,7 +121,8 @@ join-proper neighbours b w p =
     let x = reduction-extends (w .registry) s in
     record {
       sound = reduction-sound (w .registry) s (p .sound);
-      members = all-set (Members (r .registry)) (w .sets) b (r .set) (all-map (Members (w .registry)) (Members (r .registry)) (λ t m. members-extends t x m) (w .sets) (p .members))
+      members = all-set (Members (r .registry)) (w .sets) b (r .set)
+          (all-map (Members (w .registry)) (Members (r .registry)) (λ t m. members-extends t x m) (w .sets) (p .members))
           (reduction-members (w .registry) s (p .sound) (members-joined neighbours b w p));
     }
 
@@ -97,7 +142,8 @@ module _ (neighbours : List ℕ) (b : ℕ) (w : Work) (p : ProperWork w) where
   join-reduces =
       let s = joinedSet neighbours b w in
       let r = reduceMaybeOptionalChains (w .registry) s in
-      set-here (IsReduced (r .registry)) (w .sets) b (r .set) [] (reduction-reduced (w .registry) s (p .sound) (members-joined neighbours b w p)) (reduced-empty (r .registry))
+      set-here (IsReduced (r .registry)) (w .sets) b (r .set) []
+      (reduction-reduced (w .registry) s (p .sound) (members-joined neighbours b w p)) (reduced-empty (r .registry))
 
   -- and the set of any other stays so
   pub join-keeps-reduced : (a : ℕ) → ReducedAt w a → ReducedAt (joinWith reduceMaybeOptionalChains neighbours b w) a
@@ -105,16 +151,21 @@ module _ (neighbours : List ℕ) (b : ℕ) (w : Work) (p : ProperWork w) where
   join-keeps-reduced a h =
       let r = reduceMaybeOptionalChains (w .registry) (joinedSet neighbours b w) in
       decide (eqb a b) (λ e. subst (ReducedAt (joinWith reduceMaybeOptionalChains neighbours b w)) (sym (eqb-true a b e)) join-reduces)
-      (λ e. rw (getD-set-other (w .sets) b a (r .set) [] (eqb-false a b e)) (reduced-extends (w .registry) (setOf (w .sets) a) (p .sound) (members-setOf w p a) (join-extends neighbours b w) h))
+      (λ e. rw (getD-set-other (w .sets) b a (r .set) [] (eqb-false a b e))
+      (reduced-extends (w .registry) (setOf (w .sets) a) (p .sound) (members-setOf w p a) (join-extends neighbours b w) h))
 
 -- Rounds.
 
--- what holds between the work before and after each join, and does not look at `changed`, holds between that before and after all rounds
-module _ (R : Work → Work → Type 0) (order : Preorder R) (joins : (neighbours : List ℕ) (b : ℕ) (w : Work) → R w (joinWith reduceMaybeOptionalChains neighbours b w))
+-- what holds between the work before and after each join, and does not look at `changed`, holds
+-- between that before and after all rounds
+module _ (R : Work → Work → Type 0) (order : Preorder R)
+    (joins : (neighbours : List ℕ) (b : ℕ) (w : Work) → R w (joinWith reduceMaybeOptionalChains neighbours b w))
     (starts : (w : Work) → R w (roundStart (w .registry) (w .sets))) where
-  walk-joins : (rule : JoiningRule) (near : ℕ → List ℕ) (n : ℕ) (bs : List ℕ) (w : Work) → R w (walk n near (join reduceMaybeOptionalChains rule near) bs w)
+  walk-joins : (rule : JoiningRule) (near : ℕ → List ℕ) (n : ℕ) (bs : List ℕ) (w : Work) → R w
+      (walk n near (join reduceMaybeOptionalChains rule near) bs w)
   unfolding join
-  walk-joins rule near n bs w = walk-does R order near (join reduceMaybeOptionalChains rule near) (λ b ms u. joins (rule ms (near b)) b u) n bs w
+  walk-joins rule near n bs w = walk-does R order near (join reduceMaybeOptionalChains rule near)
+      (λ b ms u. joins (rule ms (near b)) b u) n bs w
 
   round-does : (rule : JoiningRule) (g : Graph) (w : Work) → R w (round reduceMaybeOptionalChains rule g w)
   unfolding round forward backward
@@ -122,14 +173,19 @@ module _ (R : Work → Work → Type 0) (order : Preorder R) (joins : (neighbour
       let start = roundStart (w .registry) (w .sets) in
       let mid = forward reduceMaybeOptionalChains rule g start in
       order .after w start _ (starts w)
-      (order .after start mid _ (walk-joins rule (g .predecessors) (g .size) (jobOrder (g .size)) start) (walk-joins rule (g .successors) (g .size) (reverseJobOrder (g .size)) mid))
+      (order .after start mid _ (walk-joins rule (g .predecessors) (g .size) (jobOrder (g .size)) start)
+      (walk-joins rule (g .successors) (g .size) (reverseJobOrder (g .size)) mid))
 
-  pub propagation-does : (rule : JoiningRule) (g : Graph) (reg : PropertyPathRegistry) (sets : List NodeSet) → R (roundStart reg sets) (propagateNonNull rule g reg sets .work)
+  pub propagation-does : (rule : JoiningRule) (g : Graph) (reg : PropertyPathRegistry) (sets : List NodeSet) → R
+      (roundStart reg sets) (propagateNonNull rule g reg sets .work)
   unfolding propagateNonNull propagateWith
-  propagation-does rule g reg sets = rounds-do hasChanged (round reduceMaybeOptionalChains rule g) R order (round-does rule g) 100 zero (roundStart reg sets)
+  propagation-does rule g reg sets = rounds-do hasChanged (round reduceMaybeOptionalChains rule g) R order
+      (round-does rule g) 100 zero (roundStart reg sets)
 
--- Propagation only adds nodes, so a registry that has passed the limit of refusal 9 stays beyond it.
-pub propagation-extends : (rule : JoiningRule) (g : Graph) (reg : PropertyPathRegistry) (sets : List NodeSet) → Extends reg (propagateNonNull rule g reg sets .work .registry)
+-- Propagation only adds nodes, so a registry that has passed the limit of refusal 9 stays beyond
+-- it.
+pub propagation-extends : (rule : JoiningRule) (g : Graph) (reg : PropertyPathRegistry) (sets : List NodeSet) → Extends reg
+    (propagateNonNull rule g reg sets .work .registry)
 propagation-extends =
     propagation-does (λ u w. Extends (u .registry) (w .registry))
     (record { none = λ w. extends-refl (w .registry); after = λ u v w a b. extends-trans a b })
@@ -144,7 +200,8 @@ keeps-order = record { none = λ w p. p; after = λ u v w a b p. b (a p) }
 starts-proper : (w : Work) → KeepsProper w (roundStart (w .registry) (w .sets))
 starts-proper w p = record { sound = p .sound; members = p .members }
 
-pub propagation-proper : (rule : JoiningRule) (g : Graph) (reg : PropertyPathRegistry) (sets : List NodeSet) → ProperWork (roundStart reg sets) → ProperWork (propagateNonNull rule g reg sets .work)
+pub propagation-proper : (rule : JoiningRule) (g : Graph) (reg : PropertyPathRegistry) (sets : List NodeSet) → ProperWork
+    (roundStart reg sets) → ProperWork (propagateNonNull rule g reg sets .work)
 propagation-proper rule g reg sets p = propagation-does KeepsProper keeps-order join-proper starts-proper rule g reg sets p
 
 -- Propagation with another reduction.
@@ -175,10 +232,12 @@ module _ (v : Reducer) (repeats : Repeats v) (rule : JoiningRule) where
       let start = roundStart (w .registry) (w .sets) in
       let mid = forward reduceMaybeOptionalChains rule g start in
       walk-proper-same (g .successors) (g .size) (reverseJobOrder (g .size)) mid
-      (walk-joins KeepsProper keeps-order join-proper starts-proper rule (g .predecessors) (g .size) (jobOrder (g .size)) start (starts-proper w p))
+      (walk-joins KeepsProper keeps-order join-proper starts-proper rule (g .predecessors) (g .size) (jobOrder (g .size)) start
+      (starts-proper w p))
       ∙ ap (backward v rule g) (walk-proper-same (g .predecessors) (g .size) (jobOrder (g .size)) start (starts-proper w p))
 
-  -- Any reduction that repeats passes until one changes nothing gives the same propagation: how many passes are allowed is no part of it.
+  -- Any reduction that repeats passes until one changes nothing gives the same propagation: how
+  -- many passes are allowed is no part of it.
   pub propagation-only : (g : Graph) (reg : PropertyPathRegistry) (sets : List NodeSet) → ProperWork (roundStart reg sets)
       → propagateNonNull rule g reg sets ≡ propagateWith v rule g reg sets
   unfolding propagateNonNull propagateWith
@@ -188,12 +247,13 @@ module _ (v : Reducer) (repeats : Repeats v) (rule : JoiningRule) where
 
 -- The start.
 
-pub record Filled (reg : PropertyPathRegistry) (e : Entered) : Type 0 where
+pub record Filled (reg : PropertyPathRegistry) (e : PathsEntered) : Type 0 where
   pub sound : Sound (e .registry)
   pub extends : Extends reg (e .registry)
   pub members : Members (e .registry) (e .set)
 
-pub paths-filled : (reg : PropertyPathRegistry) (s : NodeSet) (ds : List ReactiveScopeDependency) → Sound reg → Members reg s → Filled reg (enterPaths reg s ds)
+pub paths-filled : (reg : PropertyPathRegistry) (s : NodeSet) (ds : List ReactiveScopeDependency) → Sound reg → Members reg s
+    → Filled reg (enterPaths reg s ds)
 unfolding getOrCreateProperty
 paths-filled reg s [] h m = record { sound = h; extends = extends-refl reg; members = m }
 paths-filled reg s (d ∷ ds) h m =
@@ -219,7 +279,12 @@ blocks-begun reg (b ∷ bs) h =
     let e = enterBlock reg b in
     let first = paths-filled reg [] (b .assumed) h (members-empty reg) in
     let rest = blocks-begun (e .registry) bs (first .sound) in
-    record { sound = rest .sound; extends = extends-trans (first .extends) (rest .extends); members = (members-extends (e .set) (rest .extends) (first .members), rest .members) }
+    record {
+      sound = rest .sound;
+      extends = extends-trans (first .extends)
+          (rest .extends);
+      members = (members-extends (e .set) (rest .extends) (first .members), rest .members);
+    }
 
 -- A job's propagation.
 
@@ -234,4 +299,5 @@ propagated-proper rule bs = propagation-proper rule (graphOf bs) (enterBlocks []
 pub propagated-only : (v : Reducer) → Repeats v → (rule : JoiningRule) (bs : List Block)
     → propagated rule bs ≡ propagateWith v rule (graphOf bs) (enterBlocks [] bs .registry) (enterBlocks [] bs .sets)
 unfolding propagated
-propagated-only v r rule bs = propagation-only v r rule (graphOf bs) (enterBlocks [] bs .registry) (enterBlocks [] bs .sets) (start-proper bs)
+propagated-only v r rule bs = propagation-only v r rule (graphOf bs) (enterBlocks [] bs .registry) (enterBlocks [] bs .sets)
+    (start-proper bs)

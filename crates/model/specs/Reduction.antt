@@ -27,7 +27,8 @@ leftBy r = record { registry = r .registry; set = r .set }
 abbrev pub reducedMark : NodeSet → NodeId → DependencyPathEntry → Bool
 reducedMark s k e = e .optional && not (contains s k)
 
--- "Each path is walked again from its root .. A changed node is replaced at once. .. Nodes made on the way stay in the registry."
+-- "Each path is walked again from its root .. A changed node is replaced at once. .. Nodes made on
+-- the way stay in the registry."
 unfoldable pub reduceNode : PassState → NodeId → PassState
 unfolding walkFrom
 reduceNode r k =
@@ -38,7 +39,8 @@ reduceNode r k =
       changed = r .changed || not (sameNode (at .node) k);
     }
 
--- The nodes of a pass, one after the other, each with the set as the one before left it: "replaced at once".
+-- The nodes of a pass, one after the other, each with the set as the one before left it: "replaced
+-- at once".
 abbrev pub reduceNodes : PassState → List NodeId → PassState
 reduceNodes r ks = foldl reduceNode r ks
 
@@ -50,7 +52,8 @@ passStart reg s = record { registry = reg; set = s; changed = false }
 abbrev pub hasOptional : PropertyPathRegistry → NodeId → Bool
 hasOptional reg k = anyOf (λ (e : DependencyPathEntry). e .optional) (fullPathOf reg k .path)
 
--- "Passes over the set's nodes with an optional entry, ascending, from a list taken at the start of the pass."
+-- "Passes over the set's nodes with an optional entry, ascending, from a list taken at the start of
+-- the pass."
 unfoldable pub pass : PropertyPathRegistry → NodeSet → PassState
 unfolding reduceNode
 pass reg s = reduceNodes (passStart reg s) (select (hasOptional reg) s)
@@ -72,8 +75,8 @@ unfoldable pub optionalMarksOf : PropertyPathRegistry → NodeSet → ℕ
 unfolding optionalMarks
 optionalMarksOf reg s = sumOf (λ k. optionalMarks (fullPathOf reg k .path)) s
 
--- Each changing pass takes an optional mark away, so one pass more than there are marks is enough: the last
--- changed nothing (`ReductionLaws`).
+-- Each changing pass takes an optional mark away, so one pass more than there are marks is enough:
+-- the last changed nothing (`ReductionLaws`).
 unfoldable pub reduceMaybeOptionalChains : PropertyPathRegistry → NodeSet → Reduced
 unfolding passes optionalMarksOf
 reduceMaybeOptionalChains reg s = passes (suc (optionalMarksOf reg s)) reg s

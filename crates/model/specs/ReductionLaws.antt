@@ -1,8 +1,8 @@
--- The passes of a reduction are enough: in a sound registry each change takes an optional mark out of the
--- set's paths, so a further pass changes nothing (`reduction-reduced`), more passes change nothing
--- (`reduction-more`), and the reduction is the repetition that document 01 describes (`reduction-repeats`)
--- and nothing else is (`reduction-only`). A reduced set stays so when nodes are made, and reducing it
--- again changes nothing.
+-- The passes of a reduction are enough: in a sound registry each change takes an optional mark out
+-- of the set's paths, so a further pass changes nothing (`reduction-reduced`), more passes change
+-- nothing (`reduction-more`), and the reduction is the repetition that document 01 describes
+-- (`reduction-repeats`) and nothing else is (`reduction-only`). A reduced set stays so when nodes
+-- are made, and reducing it again changes nothing.
 use Prim.Native.Nat.{ℕ, zero, suc, _+_, _≤_, _<_}
 use native.Mathlib.Nat.{le-refl, le-trans, not-suc-le-zero}
 use native.Mathlib.Omega.{arith}
@@ -17,12 +17,68 @@ use Rattle.entries.specs.declared.DependencyPathEntry.{DependencyPathEntry}
 use Rattle.entries.specs.Path.{ReactiveScopeDependency}
 use Rattle.model.specs.Lists.{select, countOf, sumOf}
 use Rattle.model.specs.Sets.{NodeSet, sameNode, contains, insert, remove}
-use Rattle.model.specs.Registry.{PropertyPathRegistry, Reached, fullPathOf, getOrCreateIdentifier, getOrCreatePropertyEntry, withOptional, walkFrom, walkPath, ownMark}
-use Rattle.model.specs.Reduction.{PassState, Reduced, leftBy, reducedMark, reduceNode, reduceNodes, passStart, hasOptional, pass, passes, optionalMarks, optionalMarksOf, reduceMaybeOptionalChains}
+use Rattle.model.specs.Registry.{
+  PropertyPathRegistry,
+  Reached,
+  fullPathOf,
+  getOrCreateIdentifier,
+  getOrCreatePropertyEntry,
+  withOptional,
+  walkFrom,
+  walkPath,
+  ownMark,
+}
+use Rattle.model.specs.Reduction.{
+  PassState,
+  Reduced,
+  leftBy,
+  reducedMark,
+  reduceNode,
+  reduceNodes,
+  passStart,
+  hasOptional,
+  pass,
+  passes,
+  optionalMarks,
+  optionalMarksOf,
+  reduceMaybeOptionalChains,
+}
 use Rattle.model.specs.Tests.{by-cond, decide, never, eqb-same, eqb-true, eqb-false, eqb-apart, and-first}
 use Rattle.model.specs.ListLaws.{All, all-map, all-both, all-select, select-same}
-use Rattle.model.specs.SetLaws.{same-node, Ascending, From, from-above, insert-from, select-from, insert-all, contains-all, contains-insert, contains-select, all-contained, sum-insert, sum-remove, sum-same}
-use Rattle.model.specs.RegistryLaws.{Extends, extends-refl, extends-trans, extends-length, extends-path, entry-optional, Sound, Proper, root-reached, child-reached, walk-proper, walk-extends, path-proper, path-extends, walk-extended, leads-back}
+use Rattle.model.specs.SetLaws.{
+  same-node,
+  Ascending,
+  From,
+  from-above,
+  insert-from,
+  select-from,
+  insert-all,
+  contains-all,
+  contains-insert,
+  contains-select,
+  all-contained,
+  sum-insert,
+  sum-remove,
+  sum-same,
+}
+use Rattle.model.specs.RegistryLaws.{
+  Extends,
+  extends-refl,
+  extends-trans,
+  extends-length,
+  extends-path,
+  entry-optional,
+  Sound,
+  Proper,
+  root-reached,
+  child-reached,
+  walk-proper,
+  walk-extends,
+  path-proper,
+  path-extends,
+  walk-extended,
+  leads-back,
+}
 
 -- Optional marks.
 
@@ -30,7 +86,8 @@ abbrev mark-value : Bool → ℕ
 mark-value true = 1
 mark-value false = 0
 
-marks-snoc : (es : List DependencyPathEntry) (e : DependencyPathEntry) → optionalMarks (es ++ (e ∷ [])) ≡ optionalMarks es + mark-value (e .optional)
+marks-snoc : (es : List DependencyPathEntry) (e : DependencyPathEntry) → optionalMarks
+    (es ++ (e ∷ [])) ≡ optionalMarks es + mark-value (e .optional)
 unfolding optionalMarks
 marks-snoc [] e = go (e .optional)
   where
@@ -39,7 +96,8 @@ marks-snoc [] e = go (e .optional)
     go false = refl
 marks-snoc (x ∷ es) e = let h = marks-snoc es e in decide (x .optional) (λ t. rw t (omega arith)) (λ t. rw t h)
 
-marks-cons : (e : DependencyPathEntry) (es : List DependencyPathEntry) → optionalMarks (e ∷ es) ≡ mark-value (e .optional) + optionalMarks es
+marks-cons : (e : DependencyPathEntry) (es : List DependencyPathEntry) → optionalMarks (e ∷ es) ≡ mark-value
+    (e .optional) + optionalMarks es
 unfolding optionalMarks
 marks-cons e es = decide (e .optional) (λ t. rw t (omega arith)) (λ t. rw t (omega arith))
 
@@ -50,10 +108,12 @@ marksAt reg k = optionalMarks (fullPathOf reg k .path)
 abbrev marksReached : Reached → ℕ
 marksReached at = marksAt (at .registry) (at .node)
 
-child-marks : (at : Reached) (e : DependencyPathEntry) → Proper at → marksReached (getOrCreatePropertyEntry (at .registry) (at .node) e) ≡ marksReached at + mark-value (e .optional)
+child-marks : (at : Reached) (e : DependencyPathEntry) → Proper at → marksReached
+    (getOrCreatePropertyEntry (at .registry) (at .node) e) ≡ marksReached at + mark-value (e .optional)
 child-marks at e h =
     let c = child-reached (at .registry) (at .node) e (h .sound) (h .inside) in
-    ap optionalMarks (c .child .path) ∙ marks-snoc (fullPathOf (at .registry) (at .node) .path) (c .entry) ∙ ap (λ b. marksReached at + mark-value b) (entry-optional (c .entry) e (c .same))
+    ap optionalMarks (c .child .path) ∙ marks-snoc (fullPathOf (at .registry) (at .node) .path) (c .entry) ∙ ap
+    (λ b. marksReached at + mark-value b) (entry-optional (c .entry) e (c .same))
 
 -- Walks that only take marks away.
 
@@ -65,12 +125,14 @@ record Lowered (mark : NodeId → DependencyPathEntry → Bool) (at : Reached) (
   fewer : marksReached (walkFrom mark at es) ≤ marksReached at + optionalMarks es
   kept : marksReached (walkFrom mark at es) ≡ marksReached at + optionalMarks es → walkFrom mark at es ≡ walkFrom ownMark at es
 
-walk-lowers : (mark : NodeId → DependencyPathEntry → Bool) → Lowers mark → (at : Reached) (es : List DependencyPathEntry) → Proper at → Lowered mark at es
+walk-lowers : (mark : NodeId → DependencyPathEntry → Bool) → Lowers mark → (at : Reached) (es : List DependencyPathEntry)
+    → Proper at → Lowered mark at es
 unfolding walkFrom optionalMarks
 walk-lowers mark low at [] h = record { fewer = omega arith; kept = λ e. refl }
 walk-lowers mark low at (e ∷ es) h =
     let o = mark (at .node) e in
-    go o (e .optional) refl refl (walk-lowers mark low _ es (child-reached (at .registry) (at .node) (withOptional e o) (h .sound) (h .inside) .proper)) (child-marks at (withOptional e o) h)
+    go o (e .optional) refl refl (walk-lowers mark low _ es
+    (child-reached (at .registry) (at .node) (withOptional e o) (h .sound) (h .inside) .proper)) (child-marks at (withOptional e o) h)
   where
     next : Bool → Reached
     next o = getOrCreatePropertyEntry (at .registry) (at .node) (withOptional e o)
@@ -79,7 +141,8 @@ walk-lowers mark low at (e ∷ es) h =
     all = marks-cons e es
 
     -- the entry keeps its mark
-    same : (o : Bool) → mark (at .node) e ≡ o → e .optional ≡ o → Lowered mark (next o) es → marksReached (next o) ≡ marksReached at + mark-value o → Lowered mark at (e ∷ es)
+    same : (o : Bool) → mark (at .node) e ≡ o → e .optional ≡ o → Lowered mark (next o) es → marksReached
+        (next o) ≡ marksReached at + mark-value o → Lowered mark at (e ∷ es)
     same o m t r here =
         let whole = all in
         let here-marks = ap (λ b. marksReached (walkFrom mark (next b) es)) m in
@@ -90,10 +153,13 @@ walk-lowers mark low at (e ∷ es) h =
           kept = λ k. ap (λ b. walkFrom mark (next b) es) m ∙ r .kept (omega arith) ∙ sym (ap (λ b. walkFrom ownMark (next b) es) t);
         }
 
-    go : (o b : Bool) → mark (at .node) e ≡ o → e .optional ≡ b → Lowered mark (next (mark (at .node) e)) es → marksReached (next (mark (at .node) e)) ≡ marksReached at + mark-value (mark (at .node) e) → Lowered mark at (e ∷ es)
+    go : (o b : Bool) → mark (at .node) e ≡ o → e .optional ≡ b → Lowered mark (next (mark (at .node) e)) es → marksReached
+        (next (mark (at .node) e)) ≡ marksReached at + mark-value (mark (at .node) e) → Lowered mark at (e ∷ es)
     go true false m t r here = never (low (at .node) e m) t
-    go true true m t r here = same true m t (subst (λ o. Lowered mark (next o) es) m r) (subst (λ o. marksReached (next o) ≡ marksReached at + mark-value o) m here)
-    go false false m t r here = same false m t (subst (λ o. Lowered mark (next o) es) m r) (subst (λ o. marksReached (next o) ≡ marksReached at + mark-value o) m here)
+    go true true m t r here = same true m t (subst (λ o. Lowered mark (next o) es) m r)
+        (subst (λ o. marksReached (next o) ≡ marksReached at + mark-value o) m here)
+    go false false m t r here = same false m t (subst (λ o. Lowered mark (next o) es) m r)
+        (subst (λ o. marksReached (next o) ≡ marksReached at + mark-value o) m here)
     go false true m t r here =
         let whole = all in
         let gone = ap mark-value m in
@@ -106,10 +172,12 @@ walk-lowers mark low at (e ∷ es) h =
 lowers : (s : NodeSet) → Lowers (reducedMark s)
 lowers s k e h = and-first (e .optional) _ h
 
--- A walk that comes back to its node takes no mark away, and one that does not takes one away at least.
+-- A walk that comes back to its node takes no mark away, and one that does not takes one away at
+-- least.
 node-lowered : (s : NodeSet) (reg : PropertyPathRegistry) (k : NodeId) → Sound reg → k .0 < length reg
     → (marksReached (walkPath (reducedMark s) reg (fullPathOf reg k)) ≤ marksAt reg k)
-    × (sameNode (walkPath (reducedMark s) reg (fullPathOf reg k) .node) k ≡ false → marksReached (walkPath (reducedMark s) reg (fullPathOf reg k)) < marksAt reg k)
+    × (sameNode (walkPath (reducedMark s) reg (fullPathOf reg k) .node) k ≡ false → marksReached
+    (walkPath (reducedMark s) reg (fullPathOf reg k)) < marksAt reg k)
 unfolding optionalMarks
 node-lowered s reg k h le =
     let d = fullPathOf reg k in
@@ -141,7 +209,9 @@ members-extends {a} {b} s x m =
 marks-extends : {a b : PropertyPathRegistry} (s : NodeSet) → Extends a b → Members a s → optionalMarksOf b s ≡ optionalMarksOf a s
 unfolding optionalMarksOf
 marks-extends {a} {b} s x m =
-    sum-same (marksAt b) (marksAt a) s (all-map (λ k. k .0 < length a) (λ k. marksAt b k ≡ marksAt a k) (λ k h. ap (λ d. optionalMarks (d .path)) (extends-path k x h)) s (m .inside))
+    sum-same (marksAt b) (marksAt a) s
+    (all-map (λ k. k .0 < length a) (λ k. marksAt b k ≡ marksAt a k)
+    (λ k h. ap (λ d. optionalMarks (d .path)) (extends-path k x h)) s (m .inside))
 
 -- No step of a reduction takes a node out of the registry, sound or not.
 
@@ -174,13 +244,15 @@ pass-sound reg s h = nodes-sound (passStart reg s) (select (hasOptional reg) s) 
 -- What reducing does to the set: `changed` is paid for by a mark.
 pub record Shrunk (r r′ : PassState) : Type 0 where
   pub members : Members (r′ .registry) (r′ .set)
-  pub paid : optionalMarksOf (r′ .registry) (r′ .set) + mark-value (r′ .changed) ≤ optionalMarksOf (r .registry) (r .set) + mark-value (r .changed)
+  pub paid : optionalMarksOf (r′ .registry) (r′ .set) + mark-value (r′ .changed) ≤ optionalMarksOf (r .registry)
+      (r .set) + mark-value (r .changed)
 
 shrunk-trans : {a b c : PassState} → Shrunk a b → Shrunk b c → Shrunk a c
 shrunk-trans x y = record { members = y .members; paid = le-trans (y .paid) (x .paid) }
 
 -- the set after a node of it was walked again
-module _ (r : PassState) (k : NodeId) (h : Sound (r .registry)) (m : Members (r .registry) (r .set)) (has : contains (r .set) k ≡ true) where
+module _ (r : PassState) (k : NodeId) (h : Sound (r .registry)) (m : Members (r .registry) (r .set))
+    (has : contains (r .set) k ≡ true) where
   at : Reached
   at = walkPath (reducedMark (r .set)) (r .registry) (fullPathOf (r .registry) k)
 
@@ -207,7 +279,8 @@ module _ (r : PassState) (k : NodeId) (h : Sound (r .registry)) (m : Members (r 
       let gone : NodeId → Bool = λ x. not (sameNode x k) in
       record {
         ascending = insert-from zero (at .node) (remove k (r .set)) (omega arith) (select-from zero gone (r .set) (m .ascending));
-        inside = insert-all (λ j. j .0 < length (at .registry)) (at .node) (remove k (r .set)) (proper .inside) (all-select (λ j. j .0 < length (at .registry)) gone (r .set) (kept-members .inside));
+        inside = insert-all (λ j. j .0 < length (at .registry)) (at .node) (remove k (r .set)) (proper .inside)
+            (all-select (λ j. j .0 < length (at .registry)) gone (r .set) (kept-members .inside));
       }
 
   moved-marks : sameNode (at .node) k ≡ false → optionalMarksOf (at .registry) moved-set < optionalMarksOf (r .registry) (r .set)
@@ -245,15 +318,18 @@ module _ (r : PassState) (k : NodeId) (h : Sound (r .registry)) (m : Members (r 
   unfolding reduceNode at
   node-keeps j above c =
       by-cond (λ s. contains s j ≡ true) (sameNode (at .node) k) (λ e. c)
-      (λ e. contains-insert (at .node) j (remove k (r .set)) (contains-select (λ x. not (sameNode x k)) j (r .set) (rw (eqb-apart (j .0) (k .0) (λ same. omega arith))) c))
+      (λ e. contains-insert (at .node) j (remove k (r .set))
+      (contains-select (λ x. not (sameNode x k)) j (r .set) (rw (eqb-apart (j .0) (k .0) (λ same. omega arith))) c))
 
 -- A pass.
 
-nodes-shrunk : (r : PassState) (b : ℕ) (ks : List NodeId) → Sound (r .registry) → Members (r .registry) (r .set) → From b ks → All (λ k. contains (r .set) k ≡ true) ks → Shrunk r (reduceNodes r ks)
+nodes-shrunk : (r : PassState) (b : ℕ) (ks : List NodeId) → Sound (r .registry) → Members (r .registry) (r .set) → From b ks → All
+    (λ k. contains (r .set) k ≡ true) ks → Shrunk r (reduceNodes r ks)
 nodes-shrunk r b [] h m f c = record { members = m; paid = le-refl _ }
 nodes-shrunk r b (k ∷ ks) h m f c =
     let one = node-shrunk r k h m (c .0) in
-    let still = all-map (λ j. (k .0 < j .0) × (contains (r .set) j ≡ true)) (λ j. contains (reduceNode r k .set) j ≡ true) (λ j x. node-keeps r k h m (c .0) j (x .0) (x .1)) ks
+    let still = all-map (λ j. (k .0 < j .0) × (contains (r .set) j ≡ true)) (λ j. contains (reduceNode r k .set) j ≡ true)
+    (λ j x. node-keeps r k h m (c .0) j (x .0) (x .1)) ks
     (all-both (λ j. k .0 < j .0) (λ j. contains (r .set) j ≡ true) ks (from-above (suc (k .0)) ks (f .1)) (c .1)) in
     shrunk-trans one (nodes-shrunk (reduceNode r k) (suc (k .0)) ks (node-sound r k h) (one .members) (f .1) still)
 
@@ -290,38 +366,45 @@ passes-sound : (most : ℕ) (reg : PropertyPathRegistry) (s : NodeSet) → Sound
 unfolding passes
 passes-sound zero reg s h = h
 passes-sound (suc most) reg s h =
-    decide (pass reg s .changed) (λ e. rw (passes-on most reg s e) (passes-sound most (pass reg s .registry) (pass reg s .set) (pass-sound reg s h)))
+    decide (pass reg s .changed) (λ e. rw (passes-on most reg s e)
+    (passes-sound most (pass reg s .registry) (pass reg s .set) (pass-sound reg s h)))
     (λ e. rw (passes-stop most reg s e) (pass-sound reg s h))
 
 -- the marks that are left after a pass that changed something
-pub pass-less : (reg : PropertyPathRegistry) (s : NodeSet) → Sound reg → Members reg s → pass reg s .changed ≡ true → optionalMarksOf (pass reg s .registry) (pass reg s .set) < optionalMarksOf reg s
+pub pass-less : (reg : PropertyPathRegistry) (s : NodeSet) → Sound reg → Members reg s → pass reg s .changed ≡ true
+    → optionalMarksOf (pass reg s .registry) (pass reg s .set) < optionalMarksOf reg s
 pass-less reg s h m e = let paid = pass-shrunk reg s h m .paid in let one = ap mark-value e in omega arith
 
 -- any function that repeats passes until one changes nothing
 abbrev pub Repeats : (PropertyPathRegistry → NodeSet → Reduced) → Type 0
 Repeats v = (reg : PropertyPathRegistry) (s : NodeSet) → Sound reg → Members reg s →
-    (pass reg s .changed ≡ true → v reg s ≡ v (pass reg s .registry) (pass reg s .set)) × (pass reg s .changed ≡ false → v reg s ≡ leftBy (pass reg s))
+    (pass reg s .changed ≡ true → v reg s ≡ v (pass reg s .registry) (pass reg s .set)) ×
+    (pass reg s .changed ≡ false → v reg s ≡ leftBy (pass reg s))
 
 -- the passes do as such a function does, where the set's marks are fewer than the passes
-passes-same : (v : PropertyPathRegistry → NodeSet → Reduced) → Repeats v → (most : ℕ) (reg : PropertyPathRegistry) (s : NodeSet) → Sound reg → Members reg s
+passes-same : (v : PropertyPathRegistry → NodeSet → Reduced) → Repeats v → (most : ℕ) (reg : PropertyPathRegistry) (s : NodeSet)
+    → Sound reg → Members reg s
     → optionalMarksOf reg s < most → passes most reg s ≡ v reg s
 passes-same v r zero reg s h m lt = absurd (not-suc-le-zero lt)
 passes-same v r (suc most) reg s h m lt =
     let p = pass-shrunk reg s h m in
     decide (pass reg s .changed)
     (λ e. let less = pass-less reg s h m e in
-    passes-on most reg s e ∙ passes-same v r most (pass reg s .registry) (pass reg s .set) (pass-sound reg s h) (p .members) (omega arith) ∙ sym (r reg s h m .0 e))
+    passes-on most reg s e ∙ passes-same v r most (pass reg s .registry) (pass reg s .set) (pass-sound reg s h) (p .members)
+    (omega arith) ∙ sym (r reg s h m .0 e))
     (λ e. passes-stop most reg s e ∙ sym (r reg s h m .1 e))
 
 -- two numbers of passes that are each enough give the same
-passes-enough : (a b : ℕ) (reg : PropertyPathRegistry) (s : NodeSet) → Sound reg → Members reg s → optionalMarksOf reg s < a → optionalMarksOf reg s < b → passes a reg s ≡ passes b reg s
+passes-enough : (a b : ℕ) (reg : PropertyPathRegistry) (s : NodeSet) → Sound reg → Members reg s → optionalMarksOf reg s < a
+    → optionalMarksOf reg s < b → passes a reg s ≡ passes b reg s
 passes-enough zero b reg s h m la lb = absurd (not-suc-le-zero la)
 passes-enough (suc a) zero reg s h m la lb = absurd (not-suc-le-zero lb)
 passes-enough (suc a) (suc b) reg s h m la lb =
     let p = pass-shrunk reg s h m in
     decide (pass reg s .changed)
     (λ e. let less = pass-less reg s h m e in
-    passes-on a reg s e ∙ passes-enough a b (pass reg s .registry) (pass reg s .set) (pass-sound reg s h) (p .members) (omega arith) (omega arith) ∙ sym (passes-on b reg s e))
+    passes-on a reg s e ∙ passes-enough a b (pass reg s .registry) (pass reg s .set) (pass-sound reg s h) (p .members) (omega arith)
+    (omega arith) ∙ sym (passes-on b reg s e))
     (λ e. passes-stop a reg s e ∙ sym (passes-stop b reg s e))
 
 -- a set of the registry's nodes comes out
@@ -363,12 +446,14 @@ reduction-repeats reg s h m =
     let p = pass-shrunk reg s h m in (
       λ e. let less = pass-less reg s h m e in
           passes-on (optionalMarksOf reg s) reg s e
-          ∙ passes-enough (optionalMarksOf reg s) (suc (optionalMarksOf (pass reg s .registry) (pass reg s .set))) (pass reg s .registry) (pass reg s .set) (pass-sound reg s h) (p .members) less (le-refl _),
+          ∙ passes-enough (optionalMarksOf reg s) (suc (optionalMarksOf (pass reg s .registry) (pass reg s .set)))
+          (pass reg s .registry) (pass reg s .set) (pass-sound reg s h) (p .members) less (le-refl _),
       λ e. passes-stop (optionalMarksOf reg s) reg s e,
     )
 
 -- .. and nothing else does.
-pub reduction-only : (v : PropertyPathRegistry → NodeSet → Reduced) → Repeats v → (reg : PropertyPathRegistry) (s : NodeSet) → Sound reg → Members reg s
+pub reduction-only : (v : PropertyPathRegistry → NodeSet → Reduced) → Repeats v → (reg : PropertyPathRegistry) (s : NodeSet)
+    → Sound reg → Members reg s
     → reduceMaybeOptionalChains reg s ≡ v reg s
 unfolding reduceMaybeOptionalChains
 reduction-only v r reg s h m = passes-same v r (suc (optionalMarksOf reg s)) reg s h m (le-refl _)
@@ -383,8 +468,10 @@ IsReduced reg s = pass reg s ≡ passStart reg s
 abbrev pub LeadsBack : PropertyPathRegistry → NodeSet → NodeId → Type 0
 LeadsBack reg s k = walkPath (reducedMark s) reg (fullPathOf reg k) ≡ record { registry = reg; node = k }
 
--- a walk that comes back to its node took no mark away, so it is the walk under the path's own marks
-pub node-back : (s : NodeSet) (reg : PropertyPathRegistry) (k : NodeId) → Sound reg → k .0 < length reg → sameNode (walkPath (reducedMark s) reg (fullPathOf reg k) .node) k ≡ true → LeadsBack reg s k
+-- a walk that comes back to its node took no mark away, so it is the walk under the path's own
+-- marks
+pub node-back : (s : NodeSet) (reg : PropertyPathRegistry) (k : NodeId) → Sound reg → k .0 < length reg → sameNode
+    (walkPath (reducedMark s) reg (fullPathOf reg k) .node) k ≡ true → LeadsBack reg s k
 unfolding optionalMarks
 node-back s reg k h le same =
     let d = fullPathOf reg k in
@@ -394,13 +481,19 @@ node-back s reg k h le same =
     let none : marksReached start ≡ 0 = ap optionalMarks (r .path) in
     let to = walkFrom (reducedMark s) start (d .path) in
     let back : marksReached to ≡ marksAt reg k =
-    ap (marksAt (to .registry)) (same-node (to .node) k same) ∙ ap (λ (p : ReactiveScopeDependency). optionalMarks (p .path)) (extends-path k (path-extends (reducedMark s) reg d) le) in
+    ap (marksAt (to .registry)) (same-node (to .node) k same) ∙ ap (λ (p : ReactiveScopeDependency). optionalMarks (p .path))
+    (extends-path k (path-extends (reducedMark s) reg d) le) in
     low .kept (omega arith) ∙ leads-back reg h (suc (k .0)) k (le-refl _) le (d .reactive) (d .span)
 
 pub node-still : (r : PassState) (k : NodeId) → LeadsBack (r .registry) (r .set) k → reduceNode r k ≡ r
 unfolding reduceNode
 node-still r k e =
-    ap (λ (at : Reached). record { registry = at .registry; set = cond (sameNode (at .node) k) (r .set) (insert (at .node) (remove k (r .set))); changed = r .changed || not (sameNode (at .node) k) }) e
+    ap (λ (at : Reached). record {
+      registry = at .registry;
+      set = cond (sameNode (at .node) k) (r .set)
+          (insert (at .node) (remove k (r .set)));
+      changed = r .changed || not (sameNode (at .node) k);
+    }) e
     ∙ rw (eqb-same (k .0), or-false (r .changed))
 
 nodes-still : (r : PassState) (ks : List NodeId) → All (LeadsBack (r .registry) (r .set)) ks → reduceNodes r ks ≡ r
@@ -408,13 +501,15 @@ nodes-still r [] a = refl
 nodes-still r (k ∷ ks) a = ap (λ (x : PassState). reduceNodes x ks) (node-still r k (a .0)) ∙ nodes-still r ks (a .1)
 
 -- where the flag says that nothing has changed, each node led back
-nodes-back : (r : PassState) (ks : List NodeId) → Sound (r .registry) → All (λ k. k .0 < length (r .registry)) ks → reduceNodes r ks .changed ≡ false
+nodes-back : (r : PassState) (ks : List NodeId) → Sound (r .registry) → All (λ k. k .0 < length (r .registry)) ks
+    → reduceNodes r ks .changed ≡ false
     → (r .changed ≡ false) × All (LeadsBack (r .registry) (r .set)) ks
 unfolding reduceNode
 nodes-back r [] h a e = (e, tt)
 nodes-back r (k ∷ ks) h a e =
     let longer = extends-length (node-extends r k) in
-    let rest = nodes-back (reduceNode r k) ks (node-sound r k h) (all-map (λ j. j .0 < length (r .registry)) (λ j. j .0 < length (reduceNode r k .registry)) (λ j l. omega arith) ks (a .1)) e in
+    let rest = nodes-back (reduceNode r k) ks (node-sound r k h)
+    (all-map (λ j. j .0 < length (r .registry)) (λ j. j .0 < length (reduceNode r k .registry)) (λ j l. omega arith) ks (a .1)) e in
     let at = walkPath (reducedMark (r .set)) (r .registry) (fullPathOf (r .registry) k) in
     let flags = neither (r .changed) (sameNode (at .node) k) (rest .0) in
     let back = node-back (r .set) (r .registry) k h (a .0) (flags .1) in
@@ -428,7 +523,8 @@ nodes-back r (k ∷ ks) h a e =
 module _ (reg : PropertyPathRegistry) (s : NodeSet) (h : Sound reg) (m : Members reg s) where
   pass-back : pass reg s .changed ≡ false → All (LeadsBack reg s) (select (hasOptional reg) s)
   unfolding pass
-  pass-back e = nodes-back (passStart reg s) (select (hasOptional reg) s) h (all-select (λ k. k .0 < length reg) (hasOptional reg) s (m .inside)) e .1
+  pass-back e = nodes-back (passStart reg s) (select (hasOptional reg) s) h
+      (all-select (λ k. k .0 < length reg) (hasOptional reg) s (m .inside)) e .1
 
   -- a pass that changes nothing makes nothing
   pass-still : pass reg s .changed ≡ false → IsReduced reg s
@@ -440,12 +536,15 @@ module _ (reg : PropertyPathRegistry) (s : NodeSet) (h : Sound reg) (m : Members
   unfolding pass
   reduced-extends {reg′} x e =
       let path : (k : NodeId) → k .0 < length reg → fullPathOf reg′ k ≡ fullPathOf reg k = λ k l. extends-path k x l in
-      let same = select-same (hasOptional reg) (hasOptional reg′) s (all-map (λ k. k .0 < length reg) (λ k. hasOptional reg k ≡ hasOptional reg′ k) (λ k l. rw (path k l)) s (m .inside)) in
+      let same = select-same (hasOptional reg) (hasOptional reg′) s
+      (all-map (λ k. k .0 < length reg) (λ k. hasOptional reg k ≡ hasOptional reg′ k) (λ k l. rw (path k l)) s (m .inside)) in
       let inside = all-select (λ k. k .0 < length reg) (hasOptional reg) s (m .inside) in
       nodes-still (passStart reg′ s) (select (hasOptional reg′) s)
       (subst (All (LeadsBack reg′ s)) same
-      (all-map (λ k. (k .0 < length reg) × LeadsBack reg s k) (LeadsBack reg′ s) (λ k b. rw (path k (b .0)) (walk-extended (reducedMark s) x (fullPathOf reg k) (b .1))) (select (hasOptional reg) s)
-      (all-both (λ k. k .0 < length reg) (LeadsBack reg s) (select (hasOptional reg) s) inside (pass-back (ap (λ (r : PassState). r .changed) e)))))
+      (all-map (λ k. (k .0 < length reg) × LeadsBack reg s k) (LeadsBack reg′ s)
+      (λ k b. rw (path k (b .0)) (walk-extended (reducedMark s) x (fullPathOf reg k) (b .1))) (select (hasOptional reg) s)
+      (all-both (λ k. k .0 < length reg) (LeadsBack reg s) (select (hasOptional reg) s) inside
+      (pass-back (ap (λ (r : PassState). r .changed) e)))))
 
   -- and the reduction leaves it as it is
   pub reduced-already : IsReduced reg s → reduceMaybeOptionalChains reg s ≡ record { registry = reg; set = s }
@@ -459,10 +558,13 @@ passes-reduced (suc most) reg s h m lt =
     decide (pass reg s .changed)
     (λ e.
     let less = pass-less reg s h m e in
-    rw (passes-on most reg s e) (passes-reduced most (pass reg s .registry) (pass reg s .set) (pass-sound reg s h) (pass-shrunk reg s h m .members) (omega arith)))
-    (λ e. let still = pass-still reg s h m e in rw (passes-stop most reg s e) (subst (λ (r : PassState). IsReduced (r .registry) (r .set)) (sym still) still))
+    rw (passes-on most reg s e) (passes-reduced most (pass reg s .registry) (pass reg s .set) (pass-sound reg s h)
+    (pass-shrunk reg s h m .members) (omega arith)))
+    (λ e. let still = pass-still reg s h m e in rw (passes-stop most reg s e)
+    (subst (λ (r : PassState). IsReduced (r .registry) (r .set)) (sym still) still))
 
 -- What a reduction returns is reduced.
-pub reduction-reduced : (reg : PropertyPathRegistry) (s : NodeSet) → Sound reg → Members reg s → IsReduced (reduceMaybeOptionalChains reg s .registry) (reduceMaybeOptionalChains reg s .set)
+pub reduction-reduced : (reg : PropertyPathRegistry) (s : NodeSet) → Sound reg → Members reg s → IsReduced
+    (reduceMaybeOptionalChains reg s .registry) (reduceMaybeOptionalChains reg s .set)
 unfolding reduceMaybeOptionalChains
 reduction-reduced reg s h m = passes-reduced (suc (optionalMarksOf reg s)) reg s h m (le-refl _)

@@ -27,7 +27,8 @@ pub record PropertyPathNode : Type 0 where
   pub origin : Origin
   pub fullPath : ReactiveScopeDependency
 
--- "Nodes are numbered from 0 as made": a node's number is its place. The list has no limit; refusal 9 is put at the end of propagation.
+-- "Nodes are numbered from 0 as made": a node's number is its place. The list has no limit; refusal
+-- 9 is put at the end of propagation.
 abbrev pub PropertyPathRegistry : Type 0
 PropertyPathRegistry = List PropertyPathNode
 
@@ -45,11 +46,13 @@ abbrev pub isChild : NodeId → DependencyPathEntry → Origin → Bool
 isChild p e root = false
 isChild p e (childOf q f) = eqb (q .0) (p .0) && sameEntry f e
 
--- "A child per parent, property and optional mark": this node is the parent's child by an equal entry.
+-- "A child per parent, property and optional mark": this node is the parent's child by an equal
+-- entry.
 abbrev pub isChildBy : NodeId → DependencyPathEntry → PropertyPathNode → Bool
 isChildBy p e n = isChild p e (n .origin)
 
--- the place of the first node that passes the test; where none does, the number that the next node gets
+-- the place of the first node that passes the test; where none does, the number that the next node
+-- gets
 abbrev pub find : (PropertyPathNode → Bool) → PropertyPathRegistry → ℕ
 find test [] = zero
 find test (n ∷ ns) = cond (test n) zero (suc (find test ns))
@@ -87,7 +90,8 @@ fullPathOf reg k = (getD reg (k .0) (rootNode (record { 0 = zero }) false zero))
 abbrev pub getOrCreateIdentifier : PropertyPathRegistry → IdentifierId → Bool → ℕ → Reached
 getOrCreateIdentifier reg i r s = findOrMake (isRootFor i) (rootNode i r s) reg
 
--- "A child per parent, property and optional mark", found or made (`get_or_create_property_entry` of the Rust).
+-- "A child per parent, property and optional mark", found or made (`get_or_create_property_entry`
+-- of the Rust).
 abbrev pub getOrCreatePropertyEntry : PropertyPathRegistry → NodeId → DependencyPathEntry → Reached
 getOrCreatePropertyEntry reg p e = findOrMake (isChildBy p e) (childNode p (fullPathOf reg p) e) reg
 
@@ -95,7 +99,8 @@ getOrCreatePropertyEntry reg p e = findOrMake (isChildBy p e) (childNode p (full
 abbrev pub withOptional : DependencyPathEntry → Bool → DependencyPathEntry
 withOptional e o = record { property = e .property; optional = o; span = e .span }
 
--- down from a node by entries, each under the optional mark that `mark` gives it at the node reached so far
+-- down from a node by entries, each under the optional mark that `mark` gives it at the node
+-- reached so far
 unfoldable pub walkFrom : (NodeId → DependencyPathEntry → Bool) → Reached → List DependencyPathEntry → Reached
 walkFrom mark at [] = at
 walkFrom mark at (e ∷ es) = walkFrom mark (getOrCreatePropertyEntry (at .registry) (at .node) (withOptional e (mark (at .node) e))) es

@@ -1,4 +1,5 @@
--- Document 01, module 4 (Propagation): walks over all blocks, and rounds until one changes nothing, over any kind of work W.
+-- Document 01, module 4 (Propagation): walks over all blocks, and rounds until one changes nothing,
+-- over any kind of work W.
 use Prim.Native.Nat.{ℕ, zero, suc}
 use mathlib.Core.Bool.{Bool, true, false}
 use mathlib.Core.List.{List, [], _∷_, reverse}
@@ -20,7 +21,8 @@ unfoldable pub reverseJobOrder : ℕ → List ℕ
 unfolding jobOrder
 reverseJobOrder n = reverse (jobOrder n)
 
--- A visit of each block in turn. "Marks are cleared between walks": a walk of n blocks starts with none of them marked.
+-- A visit of each block in turn. "Marks are cleared between walks": a walk of n blocks starts with
+-- none of them marked.
 unfoldable pub walk : {W : Type 0} → ℕ → (ℕ → List ℕ) → (ℕ → List TraversalState → W → W) → List ℕ → W → W
 unfolding visit
 walk n near join order w = each (visit near join) order (record { marks = replicate n Unmarked; work = w }) .work

@@ -9,7 +9,19 @@ use lib.Dec.{eqb, ltb}
 use Rattle.entries.specs.declared.NodeId.{NodeId}
 use Rattle.model.specs.Lists.{select, anyOf, sumOf}
 use Rattle.model.specs.Sets.{NodeSet, sameNode, contains, insert, remove, union, intersection}
-use Rattle.model.specs.Tests.{by-cond, decide, never, eqb-same, eqb-true, eqb-false, eqb-apart, ltb-true, ltb-false, or-second, or-cases}
+use Rattle.model.specs.Tests.{
+  by-cond,
+  decide,
+  never,
+  eqb-same,
+  eqb-true,
+  eqb-false,
+  eqb-apart,
+  ltb-true,
+  ltb-false,
+  or-second,
+  or-cases,
+}
 use Rattle.model.specs.ListLaws.{All, all-map, all-select}
 
 pub same-node : (a b : NodeId) → sameNode a b ≡ true → a ≡ b
@@ -34,7 +46,8 @@ insert-from b k (x ∷ xs) h f =
     (λ e. (
       f .0,
       by-cond (From (suc (x .0))) (sameNode x k) (λ t. f .1)
-          (λ t. let le = ltb-false (k .0) (x .0) e in let ne = eqb-false (x .0) (k .0) t in insert-from (suc (x .0)) k xs (omega arith) (f .1)),
+          (λ t. let le = ltb-false (k .0) (x .0) e in let ne = eqb-false (x .0) (k .0) t in insert-from (suc (x .0)) k xs
+          (omega arith) (f .1)),
     ))
 
 pub select-from : (b : ℕ) (test : NodeId → Bool) (s : NodeSet) → From b s → From b (select test s)
@@ -50,14 +63,19 @@ union-from s (x ∷ xs) f = union-from (insert x s) xs (insert-from zero x s (om
 -- each node of an ascending list is above its start
 pub from-above : (b : ℕ) (s : NodeSet) → From b s → All (λ k. b ≤ k .0) s
 from-above b [] f = tt
-from-above b (x ∷ xs) f = (f .0, all-map (λ k. suc (x .0) ≤ k .0) (λ k. b ≤ k .0) (λ k h. let le = f .0 in omega arith) xs (from-above (suc (x .0)) xs (f .1)))
+from-above b (x ∷ xs) f = (
+  f .0,
+  all-map (λ k. suc (x .0) ≤ k .0) (λ k. b ≤ k .0) (λ k h. let le = f .0 in omega arith) xs
+      (from-above (suc (x .0)) xs (f .1)),
+)
 
 -- What holds of each node holds of each node of the set made.
 module _ (P : NodeId → Type 0) where
   pub insert-all : (k : NodeId) (s : NodeSet) → P k → All P s → All P (insert k s)
   insert-all k [] p a = (p, tt)
   insert-all k (x ∷ xs) p a =
-      by-cond (All P) (ltb (k .0) (x .0)) (λ e. (p, a)) (λ e. (a .0, by-cond (All P) (sameNode x k) (λ t. a .1) (λ t. insert-all k xs p (a .1))))
+      by-cond (All P) (ltb (k .0) (x .0)) (λ e. (p, a))
+      (λ e. (a .0, by-cond (All P) (sameNode x k) (λ t. a .1) (λ t. insert-all k xs p (a .1))))
 
   pub union-all : (s t : NodeSet) → All P s → All P t → All P (union s t)
   union-all s [] a b = a
@@ -86,7 +104,8 @@ contains-inserted k j [] = refl
 contains-inserted k j (x ∷ xs) =
     by-cond (λ r. contains r j ≡ (sameNode k j || (sameNode x j || contains xs j))) (ltb (k .0) (x .0)) (λ e. refl)
     (λ e. by-cond (λ r. sameNode x j || contains r j ≡ (sameNode k j || (sameNode x j || contains xs j))) (sameNode x k)
-    (λ t. ap (λ y. sameNode y j || contains xs j) (same-node x k t) ∙ sym (ap (λ y. sameNode k j || (sameNode y j || contains xs j)) (same-node x k t) ∙ or-self-left (sameNode k j) (contains xs j)))
+    (λ t. ap (λ y. sameNode y j || contains xs j) (same-node x k t) ∙ sym
+    (ap (λ y. sameNode k j || (sameNode y j || contains xs j)) (same-node x k t) ∙ or-self-left (sameNode k j) (contains xs j)))
     (λ t. ap (λ y. sameNode x j || y) (contains-inserted k j xs) ∙ or-swap (sameNode x j) (sameNode k j) (contains xs j)))
   where
     or-swap : (a b c : Bool) → a || (b || c) ≡ (b || (a || c))
@@ -94,17 +113,23 @@ contains-inserted k j (x ∷ xs) =
     or-swap true false c = refl
     or-swap false b c = refl
 
-pub contains-select : (test : NodeId → Bool) (j : NodeId) (s : NodeSet) → test j ≡ true → contains s j ≡ true → contains (select test s) j ≡ true
+pub contains-select : (test : NodeId → Bool) (j : NodeId) (s : NodeSet) → test j ≡ true → contains s j ≡ true → contains
+    (select test s) j ≡ true
 contains-select test j [] t h = never h refl
 contains-select test j (x ∷ xs) t h =
     or-cases (sameNode x j) (contains xs j) h
-    (λ e. by-cond (λ r. contains r j ≡ true) (test x) (λ u. rw e refl) (λ u. never (subst (λ n. test n ≡ true) (sym (same-node x j e)) t) u))
-    (λ e. by-cond (λ r. contains r j ≡ true) (test x) (λ u. or-second (sameNode x j) _ (contains-select test j xs t e)) (λ u. contains-select test j xs t e))
+    (λ e. by-cond (λ r. contains r j ≡ true) (test x) (λ u. rw e refl)
+    (λ u. never (subst (λ n. test n ≡ true) (sym (same-node x j e)) t) u))
+    (λ e. by-cond (λ r. contains r j ≡ true) (test x) (λ u. or-second (sameNode x j) _ (contains-select test j xs t e))
+    (λ u. contains-select test j xs t e))
 
 pub all-contained : (s : NodeSet) → All (λ k. contains s k ≡ true) s
 all-contained [] = tt
-all-contained (x ∷ xs) =
-    (contains-same x xs, all-map (λ k. contains xs k ≡ true) (λ k. contains (x ∷ xs) k ≡ true) (λ k h. or-second (sameNode x k) _ h) xs (all-contained xs))
+all-contained (x ∷ xs) = (
+  contains-same x xs,
+  all-map (λ k. contains xs k ≡ true) (λ k. contains (x ∷ xs) k ≡ true)
+      (λ k h. or-second (sameNode x k) _ h) xs (all-contained xs),
+)
 
 -- Sums over a set.
 module _ (f : NodeId → ℕ) where
@@ -112,7 +137,8 @@ module _ (f : NodeId → ℕ) where
   sum-insert k [] = le-refl _
   sum-insert k (x ∷ xs) =
       by-cond (λ r. sumOf f r ≤ f k + (f x + sumOf f xs)) (ltb (k .0) (x .0)) (λ e. le-refl _)
-      (λ e. by-cond (λ r. f x + sumOf f r ≤ f k + (f x + sumOf f xs)) (sameNode x k) (λ t. omega arith) (λ t. let h = sum-insert k xs in omega arith))
+      (λ e. by-cond (λ r. f x + sumOf f r ≤ f k + (f x + sumOf f xs)) (sameNode x k) (λ t. omega arith)
+      (λ t. let h = sum-insert k xs in omega arith))
 
   pub sum-select : (test : NodeId → Bool) (s : NodeSet) → sumOf f (select test s) ≤ sumOf f s
   sum-select test [] = le-refl _

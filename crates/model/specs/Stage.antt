@@ -44,12 +44,14 @@ unfoldable pub byAscendingId : List Block → List ℕ
 unfolding jobOrder
 byAscendingId bs = sortById bs (jobOrder (length bs))
 
--- "A block's successors are the blocks that name it as a predecessor"; "successors by ascending id".
+-- "A block's successors are the blocks that name it as a predecessor"; "successors by ascending
+-- id".
 unfoldable pub successorsOf : List Block → ℕ → List ℕ
 unfolding byAscendingId
 successorsOf bs k = select (λ j. containsId (blockAt bs j .predecessors) (blockAt bs k .id)) (byAscendingId bs)
 
--- The job's graph: its blocks by place, with "predecessors in job order" and "successors by ascending id".
+-- The job's graph: its blocks by place, with "predecessors in job order" and "successors by
+-- ascending id".
 unfoldable pub graphOf : List Block → Graph
 unfolding predecessorsOf successorsOf
 graphOf bs = record { size = length bs; predecessors = predecessorsOf bs; successors = successorsOf bs }
@@ -57,17 +59,17 @@ graphOf bs = record { size = length bs; predecessors = predecessorsOf bs; succes
 -- The start.
 
 -- The registry and one block's set, as paths are entered.
-pub record Entered : Type 0 where
+pub record PathsEntered : Type 0 where
   pub registry : PropertyPathRegistry
   pub set : NodeSet
 
 -- "Assumed paths are entered .. in job order": each path's node joins the block's set.
-abbrev pub enterPaths : PropertyPathRegistry → NodeSet → List ReactiveScopeDependency → Entered
+abbrev pub enterPaths : PropertyPathRegistry → NodeSet → List ReactiveScopeDependency → PathsEntered
 enterPaths reg s [] = record { registry = reg; set = s }
 enterPaths reg s (d ∷ ds) = let at = getOrCreateProperty reg d in enterPaths (at .registry) (insert (at .node) s) ds
 
 -- a block's set at the start: its assumed paths
-abbrev pub enterBlock : PropertyPathRegistry → Block → Entered
+abbrev pub enterBlock : PropertyPathRegistry → Block → PathsEntered
 enterBlock reg b = enterPaths reg [] (b .assumed)
 
 -- the registry, and the blocks' sets in job order

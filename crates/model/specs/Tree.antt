@@ -1,5 +1,5 @@
--- Document 01, module 6 (Tree): `ReactiveScopeDependencyTreeHIR`: the hoistable tree, the candidates' walks, the dependency tree and the returned
--- paths.
+-- Document 01, module 6 (Tree): `ReactiveScopeDependencyTreeHIR`: the hoistable tree, the
+-- candidates' walks, the dependency tree and the returned paths.
 use Prim.Native.Nat.{ℕ, zero}
 use mathlib.Core.Bool.{Bool, true, false, _||_, not, cond}
 use mathlib.Core.List.{List, [], _∷_, _++_, map}
@@ -28,7 +28,8 @@ startsOptional (e ∷ es) = e .optional
 unfoldable pub ordered : List ReactiveScopeDependency → List ReactiveScopeDependency
 ordered ds = select (λ d. startsOptional (d .path)) ds ++ select (λ d. not (startsOptional (d .path))) ds
 
--- A position of the hoistable tree: its key ("keyed by property alone") and its access ("Optional .., else NonNull").
+-- A position of the hoistable tree: its key ("keyed by property alone") and its access ("Optional
+-- .., else NonNull").
 pub record HoistablePosition : Type 0 where
   pub key : Key
   pub access : HoistableAccessType
@@ -42,7 +43,8 @@ abbrev pub accessIsNonNull : HoistableAccessType → Bool
 accessIsNonNull Optional = false
 accessIsNonNull NonNull = true
 
--- "A position is Optional if the next entry of the path that first made it is optional, else NonNull": `es` are the entries after it.
+-- "A position is Optional if the next entry of the path that first made it is optional, else
+-- NonNull": `es` are the entries after it.
 abbrev pub accessBefore : List DependencyPathEntry → HoistableAccessType
 accessBefore es = cond (startsOptional es) Optional NonNull
 
@@ -52,8 +54,8 @@ hoistableEntries [] = []
 hoistableEntries (e ∷ es) = record { key = propertyKey (e .property); access = accessBefore es } ∷ hoistableEntries es
 
 -- The positions of a whole path: its root's, keyed by the identifier, and its entries'.
-abbrev pub hoistablePath : ReactiveScopeDependency → List HoistablePosition
-hoistablePath d = record { key = identifierKey (d .identifier); access = accessBefore (d .path) } ∷ hoistableEntries (d .path)
+abbrev pub hoistablePositions : ReactiveScopeDependency → List HoistablePosition
+hoistablePositions d = record { key = identifierKey (d .identifier); access = accessBefore (d .path) } ∷ hoistableEntries (d .path)
 
 -- "Later paths don't alter it."
 abbrev pub firstMade : HoistablePosition → HoistablePosition → HoistablePosition
@@ -62,7 +64,7 @@ firstMade old new = old
 -- "The scope block's set, ascending, .. builds the hoistable tree, keyed by property alone."
 unfoldable pub hoistableTree : List ReactiveScopeDependency → Forest HoistablePosition
 unfolding ordered
-hoistableTree ds = addAll hoistableKey firstMade empty (map hoistablePath (ordered ds))
+hoistableTree ds = addAll hoistableKey firstMade empty (map hoistablePositions (ordered ds))
 
 -- The walk of a candidate.
 
@@ -85,7 +87,8 @@ isDependency p = isDependencyAccess (p .access)
 abbrev pub withMerged : DependencyPosition → PropertyAccessType → DependencyPosition
 withMerged p a = record { key = p .key; access = mergeAccess (p .access) a; span = p .span; reactive = p .reactive }
 
--- A position met again is merged ("`merge_access`"), the one that was there keeping its span and reactive.
+-- A position met again is merged ("`merge_access`"), the one that was there keeping its span and
+-- reactive.
 abbrev pub mergePosition : DependencyPosition → DependencyPosition → DependencyPosition
 mergePosition old new = withMerged old (new .access)
 
@@ -107,8 +110,9 @@ stepAccess false = OptionalAccess
 abbrev pub stepTo : DependencyPathEntry → PropertyAccessType → DependencyPosition
 stepTo e a = record { key = propertyKey (e .property); access = a; span = e .span; reactive = false }
 
--- "Each candidate walks its entries: at a NonNull position plain; otherwise optional if its own entry is; otherwise it is cut there." The walk has
--- come to position p, where the hoistable tree has h or nothing.
+-- "Each candidate walks its entries: at a NonNull position plain; otherwise optional if its own
+-- entry is; otherwise it is cut there." The walk has come to position p, where the hoistable tree
+-- has h or nothing.
 unfoldable pub walkEntries : Option (Found HoistablePosition) → DependencyPosition → List DependencyPathEntry → List DependencyPosition
 walkEntries h p [] = ended p ∷ []
 walkEntries h p (e ∷ es) =
@@ -120,7 +124,8 @@ walkEntries h p (e ∷ es) =
 abbrev pub rootPosition : ReactiveScopeDependency → DependencyPosition
 rootPosition d = record { key = identifierKey (d .identifier); access = UnconditionalAccess; span = d .span; reactive = d .reactive }
 
--- "Each candidate walks its entries", from its root; the hoistable tree is looked up by the identifier.
+-- "Each candidate walks its entries", from its root; the hoistable tree is looked up by the
+-- identifier.
 unfoldable pub walkCandidate : Forest HoistablePosition → ReactiveScopeDependency → List DependencyPosition
 unfolding walkEntries
 walkCandidate t d = walkEntries (findKey hoistableKey t (identifierKey (d .identifier))) (rootPosition d) (d .path)
@@ -156,7 +161,8 @@ abbrev pub dependencyOf : List DependencyPosition → ReactiveScopeDependency
 dependencyOf [] = record { identifier = record { 0 = zero }; reactive = false; path = []; span = zero }
 dependencyOf (p ∷ ps) = record { identifier = keyIdentifier (p .key); reactive = p .reactive; path = map entryOf ps; span = lastSpan p ps }
 
--- "Returned are the first dependencies on each way down, roots and children in order of first insertion."
+-- "Returned are the first dependencies on each way down, roots and children in order of first
+-- insertion."
 unfoldable pub deriveMinimalDependencies : List ReactiveScopeDependency → List ReactiveScopeDependency → List ReactiveScopeDependency
 unfolding dependencyTree
 deriveMinimalDependencies hs cs = map dependencyOf (firsts isDependency (dependencyTree hs cs))

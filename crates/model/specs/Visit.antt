@@ -1,6 +1,7 @@
--- Document 01, module 4 (Propagation): the depth-first visit of blocks (`recursively_propagate_non_null`), over any kind of work W.
--- Blocks are known by their places in the job. `near b` lists the neighbours of a block, and `join b marks w` is what a block does to the work
--- once its neighbours are visited.
+-- Document 01, module 4 (Propagation): the depth-first visit of blocks
+-- (`recursively_propagate_non_null`), over any kind of work W. Blocks are known by their places in
+-- the job. `near b` lists the neighbours of a block, and `join b marks w` is what a block does to
+-- the work once its neighbours are visited.
 use Prim.Native.Nat.{ℕ, zero, suc}
 use mathlib.Core.Bool.{Bool, true, false}
 use mathlib.Core.List.{List, [], _∷_, foldl}
@@ -50,7 +51,8 @@ leave join b v = record { marks = set (v .marks) b Done; work = join b (v .marks
 abbrev pub each : {S : Type 0} → (ℕ → S → S) → List ℕ → S → S
 each step bs s = foldl (λ t b. step b t) s bs
 
--- "A visit marks the block Active, visits unmarked neighbours, then joins .. and marks it Done", at most `most` visits deep.
+-- "A visit marks the block Active, visits unmarked neighbours, then joins .. and marks it Done", at
+-- most `most` visits deep.
 unfoldable pub visitWithin : {W : Type 0} → ℕ → (ℕ → List ℕ) → (ℕ → List TraversalState → W → W) → ℕ → Visited W → Visited W
 visitWithin zero near join b v = v
 visitWithin (suc most) near join b v =

@@ -1,6 +1,7 @@
--- The depth of a visit is enough: `visit` satisfies the recursion that names no depth, and nothing else does. What holds between the work before and
--- after each join holds between the work before and after a visit, a walk and all rounds. What a join makes of its block, and every join keeps, holds of
--- each block that a visit marks.
+-- The depth of a visit is enough: `visit` satisfies the recursion that names no depth, and nothing
+-- else does. What holds between the work before and after each join holds between the work before
+-- and after a visit, a walk and all rounds. What a join makes of its block, and every join keeps,
+-- holds of each block that a visit marks.
 use Prim.Native.Nat.{ℕ, zero, suc, _≤_, _<_}
 use native.Mathlib.Nat.{le-refl, le-trans}
 use native.Mathlib.Omega.{arith}
@@ -12,7 +13,21 @@ use lib.Seq.{getD-set-other}
 use lib.Dec.{eqb}
 use Rattle.model.specs.Tests.{decide, never, eqb-true, eqb-false}
 use Rattle.model.specs.ListLaws.{All, set-here}
-use Rattle.model.specs.Visit.{TraversalState, Unmarked, Active, Done, isMarked, Visited, unmarkedIn, marked, enter, leave, each, visitWithin, visit}
+use Rattle.model.specs.Visit.{
+  TraversalState,
+  Unmarked,
+  Active,
+  Done,
+  isMarked,
+  Visited,
+  unmarkedIn,
+  marked,
+  enter,
+  leave,
+  each,
+  visitWithin,
+  visit,
+}
 
 -- Marks.
 
@@ -33,7 +48,8 @@ unmarked-set (Active ∷ ms) (suc b) m e = unmarked-set ms b m e
 unmarked-set (Done ∷ ms) (suc b) m e = unmarked-set ms b m e
 
 -- entering an unmarked block marks one
-pub unmarked-enter : (ms : List TraversalState) (b : ℕ) → isMarked (getD ms b Done) ≡ false → unmarkedIn ms ≡ suc (unmarkedIn (set ms b Active))
+pub unmarked-enter : (ms : List TraversalState) (b : ℕ) → isMarked (getD ms b Done) ≡ false → unmarkedIn ms ≡ suc
+    (unmarkedIn (set ms b Active))
 unfolding unmarkedIn
 unmarked-enter [] b e = never refl e
 unmarked-enter (Unmarked ∷ ms) zero e = refl
@@ -55,11 +71,13 @@ Marks {W} step = (b : ℕ) (v : Visited W) → unmarkedIn (step b v .marks) ≤ 
 abbrev AgreeTo : {W : Type 0} → ℕ → (f g : ℕ → Visited W → Visited W) → Type 0
 AgreeTo {W} k f g = (b : ℕ) (v : Visited W) → unmarkedIn (v .marks) ≤ k → f b v ≡ g b v
 
-pub each-marks : {W : Type 0} (step : ℕ → Visited W → Visited W) → Marks step → (bs : List ℕ) (v : Visited W) → unmarkedIn (each step bs v .marks) ≤ unmarkedIn (v .marks)
+pub each-marks : {W : Type 0} (step : ℕ → Visited W → Visited W) → Marks step → (bs : List ℕ) (v : Visited W) → unmarkedIn
+    (each step bs v .marks) ≤ unmarkedIn (v .marks)
 each-marks step h [] v = le-refl _
 each-marks step h (b ∷ bs) v = le-trans (each-marks step h bs (step b v)) (h b v)
 
-each-agree : {W : Type 0} (k : ℕ) (f g : ℕ → Visited W → Visited W) → Marks f → AgreeTo k f g → (bs : List ℕ) (v : Visited W) → unmarkedIn (v .marks) ≤ k → each f bs v ≡ each g bs v
+each-agree : {W : Type 0} (k : ℕ) (f g : ℕ → Visited W → Visited W) → Marks f → AgreeTo k f g → (bs : List ℕ) (v : Visited W)
+    → unmarkedIn (v .marks) ≤ k → each f bs v ≡ each g bs v
 each-agree k f g h same [] v le = refl
 each-agree k f g h same (b ∷ bs) v le = each-agree k f g h same bs (f b v) (le-trans (h b v) le) ∙ ap (each g bs) (same b v le)
 
@@ -79,7 +97,9 @@ module _ {W : Type 0} (near : ℕ → List ℕ) (join : ℕ → List TraversalSt
   within-marks (suc most) b x =
       let inner = each-marks (visitWithin most near join) (within-marks most) (near b) (enter b x) in
       decide (marked b x) (λ e. rw (within-step most b x .0 e) (le-refl _))
-      (λ e. rw (within-step most b x .1 e) (le-trans (unmarked-set (each (visitWithin most near join) (near b) (enter b x) .marks) b Done refl) (le-trans inner (unmarked-set (x .marks) b Active refl))))
+      (λ e. rw (within-step most b x .1 e)
+      (le-trans (unmarked-set (each (visitWithin most near join) (near b) (enter b x) .marks) b Done refl)
+      (le-trans inner (unmarked-set (x .marks) b Active refl))))
 
   within-marked : (most b : ℕ) (x : Visited W) → marked b x ≡ true → visitWithin most near join b x ≡ x
   unfolding visitWithin
@@ -87,16 +107,19 @@ module _ {W : Type 0} (near : ℕ → List ℕ) (join : ℕ → List TraversalSt
   within-marked (suc most) b x e = within-step most b x .0 e
 
   -- two depths that are each enough give the same
-  within-enough : (f g b : ℕ) (x : Visited W) → unmarkedIn (x .marks) ≤ f → unmarkedIn (x .marks) ≤ g → visitWithin f near join b x ≡ visitWithin g near join b x
+  within-enough : (f g b : ℕ) (x : Visited W) → unmarkedIn (x .marks) ≤ f → unmarkedIn (x .marks) ≤ g
+      → visitWithin f near join b x ≡ visitWithin g near join b x
   within-enough zero g b x hf hg = within-marked zero b x (none-unmarked b x hf) ∙ sym (within-marked g b x (none-unmarked b x hf))
-  within-enough (suc f) zero b x hf hg = within-marked (suc f) b x (none-unmarked b x hg) ∙ sym (within-marked zero b x (none-unmarked b x hg))
+  within-enough (suc f) zero b x hf hg = within-marked (suc f) b x (none-unmarked b x hg) ∙ sym
+      (within-marked zero b x (none-unmarked b x hg))
   within-enough (suc f) (suc g) b x hf hg =
       let k = unmarkedIn (enter b x .marks) in
       decide (marked b x) (λ e. within-marked (suc f) b x e ∙ sym (within-marked (suc g) b x e))
       (λ e.
       let fewer = unmarked-enter (x .marks) b e in
       within-step f b x .1 e
-      ∙ ap (leave join b) (each-agree k (visitWithin f near join) (visitWithin g near join) (within-marks f) (λ n y le. within-enough f g n y (omega arith) (omega arith)) (near b) (enter b x) (le-refl _))
+      ∙ ap (leave join b) (each-agree k (visitWithin f near join) (visitWithin g near join) (within-marks f)
+      (λ n y le. within-enough f g n y (omega arith) (omega arith)) (near b) (enter b x) (le-refl _))
       ∙ sym (within-step g b x .1 e))
 
   pub visit-marks : Marks (visit near join)
@@ -112,7 +135,8 @@ module _ {W : Type 0} (near : ℕ → List ℕ) (join : ℕ → List TraversalSt
         let k = unmarkedIn (enter b x .marks) in
         ap (λ (most : ℕ). visitWithin most near join b x) (unmarked-enter (x .marks) b e)
         ∙ within-step k b x .1 e
-        ∙ ap (leave join b) (each-agree k (visitWithin k near join) (visit near join) (within-marks k) (λ n y le. within-enough k (unmarkedIn (y .marks)) n y le (le-refl _)) (near b) (enter b x) (le-refl _)),
+        ∙ ap (leave join b) (each-agree k (visitWithin k near join) (visit near join) (within-marks k)
+        (λ n y le. within-enough k (unmarkedIn (y .marks)) n y le (le-refl _)) (near b) (enter b x) (le-refl _)),
   )
 
   -- .. more depth changes nothing ..
@@ -126,7 +150,8 @@ module _ {W : Type 0} (near : ℕ → List ℕ) (join : ℕ → List TraversalSt
       decide (marked b x) (λ e. visit-recurs b x .0 e ∙ sym (r b x .0 e))
       (λ e.
       let fewer = unmarked-enter (x .marks) b e in
-      visit-recurs b x .1 e ∙ ap (leave join b) (each-agree k (visit near join) v visit-marks (only-to v r k) (near b) (enter b x) (omega arith)) ∙ sym (r b x .1 e))
+      visit-recurs b x .1 e ∙ ap (leave join b)
+      (each-agree k (visit near join) v visit-marks (only-to v r k) (near b) (enter b x) (omega arith)) ∙ sym (r b x .1 e))
 
   -- .. and no other function satisfies it.
   pub visit-only : (v : ℕ → Visited W → Visited W) → Recurs v v → (b : ℕ) (x : Visited W) → visit near join b x ≡ v b x
@@ -140,11 +165,13 @@ pub record Preorder {W : Type 0} (R : W → W → Type 0) : Type 0 where
   pub after : (u v w : W) → R u v → R v w → R u w
 
 module _ {W : Type 0} (R : W → W → Type 0) (order : Preorder R) where
-  pub each-does : (step : ℕ → Visited W → Visited W) → ((b : ℕ) (x : Visited W) → R (x .work) (step b x .work)) → (bs : List ℕ) (x : Visited W) → R (x .work) (each step bs x .work)
+  pub each-does : (step : ℕ → Visited W → Visited W) → ((b : ℕ) (x : Visited W) → R (x .work) (step b x .work)) → (bs : List ℕ)
+      (x : Visited W) → R (x .work) (each step bs x .work)
   each-does step h [] x = order .none (x .work)
   each-does step h (b ∷ bs) x = order .after (x .work) (step b x .work) _ (h b x) (each-does step h bs (step b x))
 
-  module _ (near : ℕ → List ℕ) (join : ℕ → List TraversalState → W → W) (does : (b : ℕ) (ms : List TraversalState) (w : W) → R w (join b ms w)) where
+  module _ (near : ℕ → List ℕ) (join : ℕ → List TraversalState → W → W)
+      (does : (b : ℕ) (ms : List TraversalState) (w : W) → R w (join b ms w)) where
     within-does : (most b : ℕ) (x : Visited W) → R (x .work) (visitWithin most near join b x .work)
     unfolding visitWithin
     within-does zero b x = order .none (x .work)
@@ -160,8 +187,10 @@ module _ {W : Type 0} (R : W → W → Type 0) (order : Preorder R) where
 
 -- Two joins that agree on the work that the first keeps give the same visits.
 module _ {W : Type 0} (P : W → Type 0) (near : ℕ → List ℕ) (f g : ℕ → List TraversalState → W → W)
-    (keeps : (b : ℕ) (ms : List TraversalState) (w : W) → P w → P (f b ms w)) (same : (b : ℕ) (ms : List TraversalState) (w : W) → P w → f b ms w ≡ g b ms w) where
-  each-same : (u v : ℕ → Visited W → Visited W) → ((b : ℕ) (x : Visited W) → P (x .work) → P (u b x .work)) → ((b : ℕ) (x : Visited W) → P (x .work) → u b x ≡ v b x)
+    (keeps : (b : ℕ) (ms : List TraversalState) (w : W) → P w → P (f b ms w))
+    (same : (b : ℕ) (ms : List TraversalState) (w : W) → P w → f b ms w ≡ g b ms w) where
+  each-same : (u v : ℕ → Visited W → Visited W) → ((b : ℕ) (x : Visited W) → P (x .work) → P (u b x .work)) →
+      ((b : ℕ) (x : Visited W) → P (x .work) → u b x ≡ v b x)
       → (bs : List ℕ) (x : Visited W) → P (x .work) → each u bs x ≡ each v bs x
   each-same u v k s [] x p = refl
   each-same u v k s (b ∷ bs) x p = each-same u v k s bs (u b x) (k b x p) ∙ ap (each v bs) (s b x p)
@@ -177,23 +206,28 @@ module _ {W : Type 0} (P : W → Type 0) (near : ℕ → List ℕ) (f g : ℕ �
   within-same zero b x p = refl
   within-same (suc most) b x p =
       let mid = each (visitWithin most near f) (near b) (enter b x) in
-      let kept = each-does Keeps keeps-order (visitWithin most near f) (within-does Keeps keeps-order near f keeps most) (near b) (enter b x) p in
+      let kept = each-does Keeps keeps-order (visitWithin most near f) (within-does Keeps keeps-order near f keeps most) (near b)
+      (enter b x) p in
       decide (marked b x) (λ e. within-step near f most b x .0 e ∙ sym (within-step near g most b x .0 e))
       (λ e.
       within-step near f most b x .1 e
       ∙ (λ i. record { marks = set (mid .marks) b Done; work = same b (mid .marks) (mid .work) kept i })
-      ∙ ap (leave g b) (each-same (visitWithin most near f) (visitWithin most near g) (within-does Keeps keeps-order near f keeps most) (within-same most) (near b) (enter b x) p)
+      ∙ ap (leave g b) (each-same (visitWithin most near f) (visitWithin most near g)
+      (within-does Keeps keeps-order near f keeps most) (within-same most) (near b) (enter b x) p)
       ∙ sym (within-step near g most b x .1 e))
 
   pub visits-same : (bs : List ℕ) (x : Visited W) → P (x .work) → each (visit near f) bs x ≡ each (visit near g) bs x
   unfolding visit
-  visits-same bs x p = each-same (visit near f) (visit near g) (visit-does Keeps keeps-order near f keeps) (λ b y q. within-same (unmarkedIn (y .marks)) b y q) bs x p
+  visits-same bs x p = each-same (visit near f) (visit near g) (visit-does Keeps keeps-order near f keeps)
+      (λ b y q. within-same (unmarkedIn (y .marks)) b y q) bs x p
 
 -- What a join makes of its block.
 
-marked-set : (ms : List TraversalState) (b : ℕ) (m : TraversalState) → isMarked m ≡ true → (a : ℕ) → isMarked (getD ms a Done) ≡ true → isMarked (getD (set ms b m) a Done) ≡ true
+marked-set : (ms : List TraversalState) (b : ℕ) (m : TraversalState) → isMarked m ≡ true → (a : ℕ) → isMarked
+    (getD ms a Done) ≡ true → isMarked (getD (set ms b m) a Done) ≡ true
 marked-set ms b m t a e =
-    decide (eqb a b) (λ s. rw (eqb-true a b s) (set-here (λ x. isMarked x ≡ true) ms b m Done t refl)) (λ o. rw (getD-set-other ms b a m Done (eqb-false a b o)) e)
+    decide (eqb a b) (λ s. rw (eqb-true a b s) (set-here (λ x. isMarked x ≡ true) ms b m Done t refl))
+    (λ o. rw (getD-set-other ms b a m Done (eqb-false a b o)) e)
 
 -- P holds of the work throughout; G holds of a block once it has joined.
 module _ {W : Type 0} (P : W → Type 0) (G : W → ℕ → Type 0) where
@@ -215,22 +249,27 @@ module _ {W : Type 0} (P : W → Type 0) (G : W → ℕ → Type 0) where
     made = λ a o m. decide (marked a v) (λ t. y .kept a (x .made a o t)) (λ f. y .made a f m);
   }
 
-  pub each-makes : (step : ℕ → Visited W → Visited W) → ((b : ℕ) (v : Visited W) → P (v .work) → Makes v (step b v)) → (bs : List ℕ) (v : Visited W) → P (v .work) → Makes v (each step bs v)
+  pub each-makes : (step : ℕ → Visited W → Visited W) → ((b : ℕ) (v : Visited W) → P (v .work) → Makes v (step b v)) → (bs : List ℕ)
+      (v : Visited W) → P (v .work) → Makes v (each step bs v)
   each-makes step h [] v p = makes-none v p
   each-makes step h (b ∷ bs) v p = let one = h b v p in makes-after one (each-makes step h bs (step b v) (one .proper))
 
-  module _ (near : ℕ → List ℕ) (join : ℕ → List TraversalState → W → W) (keeps : (b : ℕ) (ms : List TraversalState) (w : W) → P w → P (join b ms w))
-      (stays : (b : ℕ) (ms : List TraversalState) (w : W) → P w → (a : ℕ) → G w a → G (join b ms w) a) (makes : (b : ℕ) (ms : List TraversalState) (w : W) → P w → G (join b ms w) b) where
+  module _ (near : ℕ → List ℕ) (join : ℕ → List TraversalState → W → W)
+      (keeps : (b : ℕ) (ms : List TraversalState) (w : W) → P w → P (join b ms w))
+      (stays : (b : ℕ) (ms : List TraversalState) (w : W) → P w → (a : ℕ) → G w a → G (join b ms w) a)
+      (makes : (b : ℕ) (ms : List TraversalState) (w : W) → P w → G (join b ms w) b) where
     -- the block is entered, and left after its neighbours
     around : (b : ℕ) (v mid : Visited W) → Makes (enter b v) mid → Makes v (leave join b mid)
     around b v mid x = record {
       proper = keeps b (mid .marks) (mid .work) (x .proper);
       kept = λ a g. stays b (mid .marks) (mid .work) (x .proper) a (x .kept a g);
       marks = λ a m. marked-set (mid .marks) b Done refl a (x .marks a (marked-set (v .marks) b Active refl a m));
-      made = λ a o m. decide (eqb a b) (λ s. subst (G (leave join b mid .work)) (sym (eqb-true a b s)) (makes b (mid .marks) (mid .work) (x .proper)))
+      made = λ a o m. decide (eqb a b)
+          (λ s. subst (G (leave join b mid .work)) (sym (eqb-true a b s)) (makes b (mid .marks) (mid .work) (x .proper)))
           (λ f. let other = eqb-false a b f in
           stays b (mid .marks) (mid .work) (x .proper) a
-          (x .made a (ap isMarked (getD-set-other (v .marks) b a Active Done other) ∙ o) (ap isMarked (sym (getD-set-other (mid .marks) b a Done Done other)) ∙ m)));
+          (x .made a (ap isMarked (getD-set-other (v .marks) b a Active Done other) ∙ o)
+          (ap isMarked (sym (getD-set-other (mid .marks) b a Done Done other)) ∙ m)));
     }
 
     within-makes : (most b : ℕ) (v : Visited W) → P (v .work) → Makes v (visitWithin most near join b v)
@@ -238,7 +277,8 @@ module _ {W : Type 0} (P : W → Type 0) (G : W → ℕ → Type 0) where
     within-makes zero b v p = makes-none v p
     within-makes (suc most) b v p =
         decide (marked b v) (λ e. rw (within-step near join most b v .0 e) (makes-none v p))
-        (λ e. rw (within-step near join most b v .1 e) (around b v _ (each-makes (visitWithin most near join) (within-makes most) (near b) (enter b v) p)))
+        (λ e. rw (within-step near join most b v .1 e)
+        (around b v _ (each-makes (visitWithin most near join) (within-makes most) (near b) (enter b v) p)))
 
     pub visit-makes : (b : ℕ) (v : Visited W) → P (v .work) → Makes v (visit near join b v)
     unfolding visit
@@ -247,7 +287,8 @@ module _ {W : Type 0} (P : W → Type 0) (G : W → ℕ → Type 0) where
     visit-marked : (b : ℕ) (v : Visited W) → marked b (visit near join b v) ≡ true
     visit-marked b v =
         decide (marked b v) (λ e. rw (visit-recurs near join b v .0 e) e)
-        (λ e. rw (visit-recurs near join b v .1 e) (set-here (λ x. isMarked x ≡ true) (each (visit near join) (near b) (enter b v) .marks) b Done Done refl refl))
+        (λ e. rw (visit-recurs near join b v .1 e)
+        (set-here (λ x. isMarked x ≡ true) (each (visit near join) (near b) (enter b v) .marks) b Done Done refl refl))
 
     pub visits-mark : (bs : List ℕ) (v : Visited W) → P (v .work) → All (λ b. marked b (each (visit near join) bs v) ≡ true) bs
     visits-mark [] v p = tt

@@ -1,4 +1,5 @@
--- The entries that are left of a path: what enters them from the node reached so far enters the whole.
+-- The entries that are left of a path: what enters them from the node reached so far enters the
+-- whole.
 use Prim.Native.Nat.{ℕ, suc, _-_, _≤_, _<_}
 use native.Mathlib.Omega.{arith}
 use mathlib.Core.Path.{_≡_, refl, sym, ap, subst, _∙_}
@@ -9,7 +10,7 @@ use Rattle.entries.specs.declared.IdentifierId.{IdentifierId}
 use Rattle.entries.specs.declared.NodeId.{NodeId}
 use Rattle.entries.specs.declared.Refusal.{Refusal}
 use Rattle.entries.specs.declared.DependencyPathEntry.{DependencyPathEntry}
-use Rattle.model.specs.Read.{Read, got, refused, mapped, both, readMany, readMark}
+use Rattle.model.specs.ReadingBytes.{Read, got, refused, mapped, both, readMany, readMark}
 use Rattle.model.specs.Job.{PA, readEntry, readPath}
 use Rattle.job.specs.declared.PathHead.{PathHead}
 use Rattle.job.specs.Head.{readPathHead}
@@ -20,8 +21,8 @@ use Rattle.model.specs.Registry.{nodeLimit, PropertyPathRegistry, Reached, full
 use Rattle.model.specs.Registry.{getOrCreateIdentifier, getOrCreatePropertyEntry, getOrCreateProperty}
 use Rattle.model.specs.RegistryLaws.{entry-same, extends-length, reached-inside, walk-extends}
 use Rattle.model.specs.Tests.{eqb-same}
-use Rattle.registry.specs.declared.Entered.{Entered}
-use Rattle.registry.specs.declared.Entered.the-variants as entered
+use Rattle.registry.specs.declared.NodeEntered.{NodeEntered}
+use Rattle.registry.specs.declared.NodeEntered.the-variants as entered
 use Rattle.registry.specs.Words.{countIn, registryOf, Held, Arrives}
 use Rattle.registry.proofs.View.{registry-length}
 use Rattle.paths.specs.declared.EnteredPath.{EnteredPath}
@@ -54,21 +55,26 @@ pub record Made (want : Reached) (ws os : List ℕ) (k : NodeId) : Type 0 where
   pub inside : k .0 < countIn ws
   pub is : want ≡ record { registry = registryOf ws; node = k }
 
-made-at : (want : Reached) → want .node .0 < length (want .registry) → (r : Entered) (ws os : List ℕ) → Arrives want r ws os → (k : NodeId) → r ≡ entered.At k → Made want ws os k
+made-at : (want : Reached) → want .node .0 < length (want .registry) → (r : NodeEntered) (ws os : List ℕ) → Arrives want r ws os → (k : NodeId)
+    → r ≡ entered.At k
+    → Made want ws os k
 made-at want within r ws os a k e =
     let there = subst (λ x. Arrives want x ws os) e a in
     let size = registry-length ws in
     let l = subst (λ (x : Reached). x .node .0 < length (x .registry)) (there .1) within in
     record { held = there .0; inside = omega arith; is = there .1 }
 
-pub made-full : (want : Reached) (r : Entered) (ws os : List ℕ) → Arrives want r ws os → r ≡ entered.Full → nodeLimit < length (want .registry)
+pub made-full : (want : Reached) (r : NodeEntered) (ws os : List ℕ) → Arrives want r ws os → r ≡ entered.Full → nodeLimit < length (want .registry)
 made-full want r ws os a e = subst (λ x. Arrives want x ws os) e a
 
-pub root-made-at : (reg : PropertyPathRegistry) (i : IdentifierId) (reactive : Bool) (span : ℕ) (r : Entered) (ws os : List ℕ) → Arrives (getOrCreateIdentifier reg i reactive span) r ws os
+pub root-made-at : (reg : PropertyPathRegistry) (i : IdentifierId) (reactive : Bool) (span : ℕ) (r : NodeEntered) (ws os : List ℕ)
+    → Arrives (getOrCreateIdentifier reg i reactive span) r ws os
     → (k : NodeId) → r ≡ entered.At k → Made (getOrCreateIdentifier reg i reactive span) ws os k
-root-made-at reg i reactive span = made-at (getOrCreateIdentifier reg i reactive span) (reached-inside (isRootFor i) (rootNode i reactive span) (eqb-same (i .0)) reg)
+root-made-at reg i reactive span =
+    made-at (getOrCreateIdentifier reg i reactive span) (reached-inside (isRootFor i) (rootNode i reactive span) (eqb-same (i .0)) reg)
 
-pub child-made-at : (reg : PropertyPathRegistry) (p : NodeId) (e : DependencyPathEntry) (r : Entered) (ws os : List ℕ) → Arrives (getOrCreatePropertyEntry reg p e) r ws os
+pub child-made-at : (reg : PropertyPathRegistry) (p : NodeId) (e : DependencyPathEntry) (r : NodeEntered) (ws os : List ℕ)
+    → Arrives (getOrCreatePropertyEntry reg p e) r ws os
     → (k : NodeId) → r ≡ entered.At k → Made (getOrCreatePropertyEntry reg p e) ws os k
 child-made-at reg p e =
     made-at (getOrCreatePropertyEntry reg p e) (reached-inside (isChildBy p e) (childNode p (fullPathOf reg p) e) (rw (eqb-same (p .0)) (entry-same e)) reg)

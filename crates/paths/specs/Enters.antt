@@ -5,9 +5,9 @@ use mathlib.Core.List.{List}
 use lib.ListN.{length}
 use Rattle.entries.specs.declared.NodeId.{NodeId}
 use Rattle.entries.specs.declared.DependencyPathEntry.{DependencyPathEntry}
-use Rattle.model.specs.Read.{Read, got, refused}
+use Rattle.model.specs.ReadingBytes.{Read, got, refused}
 use Rattle.model.specs.Registry.{nodeLimit, PropertyPathRegistry, Reached, walkFrom, ownMark}
-use Rattle.registry.specs.declared.Entered.the-variants as entered
+use Rattle.registry.specs.declared.NodeEntered.the-variants as entered
 use Rattle.registry.specs.Words.{Arrives}
 use Rattle.paths.specs.declared.EnteredPath.{EnteredPath}
 use Rattle.paths.specs.declared.EnteredPath.the-variants.{At, Full}
@@ -16,8 +16,8 @@ use Rattle.paths.specs.declared.EnteredPath.the-variants.{At, Full}
 abbrev pub walkOwn : PropertyPathRegistry → NodeId → List DependencyPathEntry → Reached
 walkOwn reg k es = walkFrom ownMark (record { registry = reg; node = k }) es
 
--- The record that reads to a value leads to the node that `reach` gives for it, with the place after
--- the record; or the registry has no room for that (refusal 9 by the model's `withinNodes`).
+-- The record that reads to a value leads to the node that `reach` gives for it, with the place
+-- after the record; or the registry has no room for that (refusal 9 by the model's `withinNodes`).
 abbrev pub Enters : {A : Type 0} → Read A → (A → Reached) → EnteredPath → List ℕ → List ℕ → Type 0
 Enters (got a next) reach (At k n) ws os = Arrives (reach a) (entered.At k) ws os × (n ≡ next)
 Enters (got a next) reach Full ws os = nodeLimit < length (reach a .registry)

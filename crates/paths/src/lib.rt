@@ -2,7 +2,7 @@
 // before, with the whole job, so that no record is refused here.
 ghost use mathlib.Core.Path.{_≡_};
 ghost use Prim.Native.Nat.{_<_};
-ghost use Rattle.model.specs.Read.{readMany};
+ghost use Rattle.model.specs.ReadingBytes.{readMany};
 ghost use Rattle.model.specs.Job.{PA, readEntry, readPath};
 ghost use Rattle.model.specs.Registry.{getOrCreateProperty};
 ghost use Rattle.model.specs.Answer.{spanWidth};
@@ -13,7 +13,7 @@ use entries::NodeId;
 use fields::Passed;
 use job::ReadEntry;
 use job::ReadPathHead;
-use registry::Entered;
+use registry::NodeEntered;
 
 // The path's node and the place after the record; or that the registry has no room. Where a part
 // that was read before is refused, `Full` stands for an answer that no caller sees.
@@ -31,8 +31,10 @@ fn enter_entries(
     optional: &mut [u64; 8],
     from: NodeId,
 ) -> EnteredPath
-    requires { ⌜ Held (now ws) (now optional) × (from .0 < countIn (now ws)) × IsRead (readMany count (readEntry spanWidth) (now s) start) ⌝ }
-    ensures { λ r. ⌜ Enters (readMany count (readEntry spanWidth) (now (s .entry)) start) (walkOwn (registryOf (now (ws .entry))) from) r (now (ws .exit)) (now (optional .exit)) ⌝ }
+    requires { ⌜ Held (now ws) (now optional) × (from .0 < countIn (now ws)) × IsRead (readMany count (readEntry spanWidth) (now s) start)
+        ⌝ }
+    ensures { λ r. ⌜ Enters (readMany count (readEntry spanWidth) (now (s .entry)) start) (walkOwn (registryOf (now (ws .entry))) from) r
+        (now (ws .exit)) (now (optional .exit)) ⌝ }
 {
     let mut at = start;
     let mut left = count;
@@ -43,7 +45,7 @@ fn enter_entries(
             return EnteredPath::Full;
         };
         let child = registry::get_or_create_property_entry(ws, optional, node, entry);
-        let Entered::At(reached) = child else {
+        let NodeEntered::At(reached) = child else {
             return EnteredPath::Full;
         };
         node = reached;
@@ -56,7 +58,8 @@ fn enter_entries(
 // The assumed path at a place.
 pub fn enter_path(s: &[u8], at: usize, ws: &mut [u64; 1665], optional: &mut [u64; 8]) -> EnteredPath
     requires { ⌜ Held (now ws) (now optional) × IsRead (readPath spanWidth PA (now s) at) ⌝ }
-    ensures { λ r. ⌜ Enters (readPath spanWidth PA (now (s .entry)) at) (getOrCreateProperty (registryOf (now (ws .entry)))) r (now (ws .exit)) (now (optional .exit)) ⌝ }
+    ensures { λ r. ⌜ Enters (readPath spanWidth PA (now (s .entry)) at) (getOrCreateProperty (registryOf (now (ws .entry)))) r
+        (now (ws .exit)) (now (optional .exit)) ⌝ }
 {
     let marked = fields::mark_at(s, at, job::PA);
     let Passed::To(head_at) = marked else {
@@ -74,7 +77,7 @@ pub fn enter_path(s: &[u8], at: usize, ws: &mut [u64; 1665], optional: &mut [u64
         head.reactive,
         head.span,
     );
-    let Entered::At(reached) = root else {
+    let NodeEntered::At(reached) = root else {
         return EnteredPath::Full;
     };
     enter_entries(s, entries_at, head.entries, ws, optional, reached)

@@ -15,7 +15,7 @@ use Rattle.model.specs.PropagationLaws.{join-extends}
 use Rattle.graph.specs.Bytes.{sizeIn, neighbours}
 use Rattle.propagation.specs.declared.Progress.{Progress}
 use Rattle.propagation.specs.declared.Progress.the-variants.{Changed, Full}
-use Rattle.propagation.specs.Joins.{visitedOf, joinIn, visitIn, Stands, ReducedBefore, Holds, HoldsVisited, Joins, Visits}
+use Rattle.propagation.specs.Joins.{visitedOf, joinIn, visitIn, RowsStand, ReducedBefore, HoldsWork, HoldsVisited, Joins, Visits}
 use Rattle.propagation.proofs.Marks.{more-marked}
 use Rattle.propagation.proofs.Reductions.{stands-proper, reduced-work, reduced-rows, visit-keeps-reduced}
 
@@ -64,22 +64,25 @@ module _ (want : Visited Work) (n : ℕ) (r : Progress) (marks sets ws os : List
   visited-full e = subst (λ a. Visits want n a marks sets ws os) e h
 
 module _ (want : Work) (n : ℕ) (r : Progress) (sets ws os : List ℕ) (h : Joins want n r sets ws os) where
-  pub joined-to : (c : Bool) → r ≡ Changed c → Holds want n c sets ws os
+  pub joined-to : (c : Bool) → r ≡ Changed c → HoldsWork want n c sets ws os
   joined-to c e = subst (λ a. Joins want n a sets ws os) e h
 
   pub joined-full : r ≡ Full → nodeLimit < length (want .registry)
   joined-full e = subst (λ a. Joins want n a sets ws os) e h
 
--- A loop that visits blocks: the visits of the blocks of `order`, those still to come, lead from what the arrays hold to `end`.
-pub record Along (rule : JoiningRule) (g : List ℕ) (backward later : Bool) (order : List ℕ) (end : Visited Work) (marks sets ws os : List ℕ) (c : Bool) : Type 0 where
+-- A loop that visits blocks: the visits of the blocks of `order`, those still to come, lead from
+-- what the arrays hold to `end`.
+pub record Along (rule : JoiningRule) (g : List ℕ) (backward later : Bool) (order : List ℕ) (end : Visited Work) (marks sets ws os : List ℕ)
+    (c : Bool) : Type 0 where
   pub long : length marks ≡ 128
-  pub stands : Stands (sizeIn g) sets ws os
+  pub stands : RowsStand (sizeIn g) sets ws os
   pub before : ReducedBefore later (sizeIn g) sets ws
   pub rest : each (visitIn rule g backward) order (visitedOf (sizeIn g) marks sets ws c) ≡ end
 
 module _ {rule : JoiningRule} {g : List ℕ} {backward later : Bool} {end : Visited Work} {marks sets ws os : List ℕ} {c : Bool} where
   -- the same with the blocks to come in another form
-  pub along-by : {order order′ : List ℕ} → order ≡ order′ → Along rule g backward later order end marks sets ws os c → Along rule g backward later order′ end marks sets ws os c
+  pub along-by : {order order′ : List ℕ} → order ≡ order′ → Along rule g backward later order end marks sets ws os c
+      → Along rule g backward later order′ end marks sets ws os c
   along-by e a = subst (λ (bs : List ℕ). Along rule g backward later bs end marks sets ws os c) e a
 
   pub along-end : Along rule g backward later [] end marks sets ws os c → visitedOf (sizeIn g) marks sets ws c ≡ end
@@ -98,7 +101,8 @@ module _ {rule : JoiningRule} {g : List ℕ} {backward later : Bool} {end : Visi
           rest = ap (each (visitIn rule g backward) order) (sym (visit-marked rule g backward b (visitedOf (sizeIn g) marks sets ws c) here)) ∙ a .rest;
         }
 
-    module _ (r : Progress) (marks′ sets′ ws′ os′ : List ℕ) (h : Visits (visitIn rule g backward b (visitedOf (sizeIn g) marks sets ws c)) (sizeIn g) r marks′ sets′ ws′ os′) where
+    module _ (r : Progress) (marks′ sets′ ws′ os′ : List ℕ)
+        (h : Visits (visitIn rule g backward b (visitedOf (sizeIn g) marks sets ws c)) (sizeIn g) r marks′ sets′ ws′ os′) where
       pub along-more : (c′ : Bool) → r ≡ Changed c′ → Along rule g backward later order end marks′ sets′ ws′ os′ c′
       along-more c′ e =
           let to = visited-to _ _ r marks′ sets′ ws′ os′ h c′ e in
@@ -114,4 +118,5 @@ module _ {rule : JoiningRule} {g : List ℕ} {backward later : Bool} {end : Visi
       pub along-full : r ≡ Full → nodeLimit < length (end .work .registry)
       along-full e =
           subst (λ (v : Visited Work). nodeLimit < length (v .work .registry)) (a .rest)
-          (lt-of-lt-of-le (visited-full _ _ r marks′ sets′ ws′ os′ h e) (visits-add rule g backward order (visitIn rule g backward b (visitedOf (sizeIn g) marks sets ws c))))
+          (lt-of-lt-of-le (visited-full _ _ r marks′ sets′ ws′ os′ h e)
+          (visits-add rule g backward order (visitIn rule g backward b (visitedOf (sizeIn g) marks sets ws c))))

@@ -8,20 +8,20 @@ use Rattle.model.specs.Rounds.{Rounds}
 use Rattle.model.specs.Propagation.{Work}
 use Rattle.rows.specs.Rows.{rowsOf}
 use Rattle.registry.specs.Words.{registryOf}
-use Rattle.propagation.specs.declared.Run.{Run}
+use Rattle.propagation.specs.declared.RoundsRun.{RoundsRun}
 use Rattle.propagation.specs.declared.Propagated.{Propagated}
 use Rattle.propagation.specs.declared.Propagated.the-variants.{Ran, Full}
 use Rattle.propagation.specs.Joins.{workOf}
 use Rattle.propagation.specs.Propagates.{HoldsRounds, Propagates}
 
 module _ (want : Rounds Work) (n : ℕ) (r : Propagated) (sets ws os : List ℕ) (h : Propagates want n r sets ws os) where
-  pub propagated-ran : (run : Run) → r ≡ Ran run → HoldsRounds want n run sets ws os
+  pub propagated-ran : (run : RoundsRun) → r ≡ Ran run → HoldsRounds want n run sets ws os
   propagated-ran run e = subst (λ a. Propagates want n a sets ws os) e h
 
   pub propagated-full : r ≡ Full → nodeLimit < length (want .work .registry)
   propagated-full e = subst (λ a. Propagates want n a sets ws os) e h
 
-module _ {want : Rounds Work} {n : ℕ} {run : Run} {sets ws os : List ℕ} (h : HoldsRounds want n run sets ws os) where
+module _ {want : Rounds Work} {n : ℕ} {run : RoundsRun} {sets ws os : List ℕ} (h : HoldsRounds want n run sets ws os) where
   pub propagated-registry : want .work .registry ≡ registryOf ws
   unfolding workOf
   propagated-registry = ap (λ (x : Rounds Work). x .work .registry) (h .same)

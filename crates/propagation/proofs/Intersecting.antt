@@ -30,7 +30,8 @@ module _ (marks sets : List ℕ) (k : ℕ) where
   unfolding setsToJoin doneNeighbours
   passed h n bs l = rw (below-done n marks k l h)
 
-  joins : 2 ≤ getD marks k 0 → (n : ℕ) (bs : List ℕ) → k < n → setsToJoin doneNeighbours n marks sets (k ∷ bs) ≡ rowOf sets k ∷ setsToJoin doneNeighbours n marks sets bs
+  joins : 2 ≤ getD marks k 0 → (n : ℕ) (bs : List ℕ) → k < n → setsToJoin doneNeighbours n marks sets (k ∷ bs) ≡ rowOf sets k
+      ∷ setsToJoin doneNeighbours n marks sets bs
   unfolding setsToJoin doneNeighbours
   joins h n bs l = rw (is-done n marks k l h, row-at sets n k l)
 
@@ -52,18 +53,27 @@ module _ (marks sets : List ℕ) (k : ℕ) where
 -- The loop over a block's neighbours: those from `from` on are still to come.
 pub record Intersecting (g : List ℕ) (backward : Bool) (b : ℕ) (marks sets : List ℕ) (m : Intersection) (from : ℕ) : Type 0 where
   pub within : from ≤ 128
-  pub rest : intersectionWith m (setsToJoin doneNeighbours (sizeIn g) marks sets (neighboursFrom g backward b from)) ≡ intersectionOf (setsToJoin doneNeighbours (sizeIn g) marks sets (neighbours g backward b))
+  pub rest : intersectionWith m (setsToJoin doneNeighbours (sizeIn g) marks sets (neighboursFrom g backward b from)) ≡ intersectionOf
+      (setsToJoin doneNeighbours (sizeIn g) marks sets (neighbours g backward b))
 
-pub intersecting-start : (g : List ℕ) (backward : Bool) (b : ℕ) (marks sets : List ℕ) (m : Intersection) → m .any ≡ false → Intersecting g backward b marks sets m 0
-intersecting-start g backward b marks sets m e = record { within = omega arith; rest = ap (λ (t : Bool). intersectionBy t (membersOf (m .set .words)) (setsToJoin doneNeighbours (sizeIn g) marks sets (neighbours g backward b))) e }
+pub intersecting-start : (g : List ℕ) (backward : Bool) (b : ℕ) (marks sets : List ℕ) (m : Intersection) → m .any ≡ false
+    → Intersecting g backward b marks sets m 0
+intersecting-start g backward b marks sets m e = record {
+  within = omega arith;
+  rest = ap
+      (λ (t : Bool). intersectionBy t (membersOf (m .set .words)) (setsToJoin doneNeighbours (sizeIn g) marks sets (neighbours g backward b))) e;
+}
 
 module _ {g : List ℕ} {backward : Bool} {b : ℕ} {marks sets : List ℕ} {m : Intersection} {from : ℕ} (a : Intersecting g backward b marks sets m from) where
-  pub intersecting-end : neighboursFrom g backward b from ≡ [] → intersectionWith m [] ≡ intersectionOf (setsToJoin doneNeighbours (sizeIn g) marks sets (neighbours g backward b))
+  pub intersecting-end : neighboursFrom g backward b from ≡ [] → intersectionWith m [] ≡ intersectionOf
+      (setsToJoin doneNeighbours (sizeIn g) marks sets (neighbours g backward b))
   unfolding setsToJoin doneNeighbours
   intersecting-end none = sym (ap (λ (bs : List ℕ). intersectionWith m (setsToJoin doneNeighbours (sizeIn g) marks sets bs)) none) ∙ a .rest
 
-  pub intersecting-more : {k next : ℕ} → Next g backward b from k next → (r : Intersection) → Intersects doneNeighbours marks sets k m r → Intersecting g backward b marks sets r next
+  pub intersecting-more : {k next : ℕ} → Next g backward b from k next → (r : Intersection) → Intersects doneNeighbours marks sets k m r
+      → Intersecting g backward b marks sets r next
   intersecting-more {k} {next} to r taken = record {
     within = to .within;
-    rest = taken (sizeIn g) (neighboursFrom g backward b next) (to .inside) ∙ sym (ap (λ (bs : List ℕ). intersectionWith m (setsToJoin doneNeighbours (sizeIn g) marks sets bs)) (to .rest)) ∙ a .rest;
+    rest = taken (sizeIn g) (neighboursFrom g backward b next) (to .inside) ∙ sym
+        (ap (λ (bs : List ℕ). intersectionWith m (setsToJoin doneNeighbours (sizeIn g) marks sets bs)) (to .rest)) ∙ a .rest;
   }

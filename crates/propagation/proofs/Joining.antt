@@ -1,4 +1,5 @@
--- A block's join, from what its calls leave or from nothing's joining a reduced set, and the block's being Done after it.
+-- A block's join, from what its calls leave or from nothing's joining a reduced set, and the
+-- block's being Done after it.
 use Prim.Native.Nat.{ℕ, _<_}
 use mathlib.Core.Path.{_≡_, sym, ap, ap₂, subst, _∙_}
 use mathlib.Core.Bool.{Bool, true, false, _||_, not, or-false}
@@ -24,7 +25,7 @@ use Rattle.reduction.proofs.Repeats.{reduces-to, reduces-full}
 use Rattle.graph.specs.Bytes.{sizeIn, neighbours}
 use Rattle.propagation.specs.declared.Progress.{Progress}
 use Rattle.propagation.specs.declared.Progress.the-variants.{Changed, Full}
-use Rattle.propagation.specs.Joins.{marksOf, workOf, visitedOf, joinIn, setsToJoin, Ready, ReducedBefore, AllReduced, Holds, Joins, Visits}
+use Rattle.propagation.specs.Joins.{marksOf, workOf, visitedOf, joinIn, setsToJoin, Ready, ReducedBefore, AllReduced, HoldsWork, Joins, Visits}
 use Rattle.propagation.proofs.Marks.{mark-set}
 use Rattle.propagation.proofs.Reductions.{stands-proper}
 
@@ -43,7 +44,8 @@ joining rule g backward b marks = rule (marksOf (sizeIn g) marks) (neighbours g 
 abbrev want : JoiningRule → List ℕ → Bool → ℕ → List ℕ → List ℕ → List ℕ → Bool → Work
 want rule g backward b marks sets ws changed = joinIn rule g backward b (marksOf (sizeIn g) marks) (workOf (sizeIn g) sets ws changed)
 
-module _ {rule : JoiningRule} {g : List ℕ} {backward : Bool} {b : ℕ} {marks sets ws os own found all : List ℕ} (made : Made rule g backward b marks sets ws os own found all) where
+module _ {rule : JoiningRule} {g : List ℕ} {backward : Bool} {b : ℕ} {marks sets ws os own found all : List ℕ}
+    (made : Made rule g backward b marks sets ws os own found all) where
   own-row : membersOf own ≡ setOf (rowsOf sets (sizeIn g)) b
   own-row = made .own-is ∙ sym (row-at sets (sizeIn g) b (made .inside))
 
@@ -60,24 +62,34 @@ module _ {rule : JoiningRule} {g : List ℕ} {backward : Bool} {b : ℕ} {marks 
 
     pub join-members : Members (registryOf ws) (membersOf all)
     unfolding workOf
-    join-members = subst (Members (registryOf ws)) (sym joined-is) (members-joined (joining rule g backward b marks) b (workOf (sizeIn g) sets ws changed) proper)
+    join-members = subst (Members (registryOf ws)) (sym joined-is)
+        (members-joined (joining rule g backward b marks) b (workOf (sizeIn g) sets ws changed) proper)
 
     -- the block's own set is reduced where all are
     pub join-known : {later : Bool} → ReducedBefore later (sizeIn g) sets ws → KnownReduced later (registryOf ws) (membersOf own)
     unfolding workOf
-    join-known before e =
-        (subst (Members (registryOf ws)) (sym own-row) (members-setOf (workOf (sizeIn g) sets ws changed) proper b), subst (IsReduced (registryOf ws)) (sym own-row) (before e b (made .inside)))
+    join-known before e = (
+      subst (Members (registryOf ws)) (sym own-row) (members-setOf (workOf (sizeIn g) sets ws changed) proper b),
+      subst (IsReduced (registryOf ws))
+          (sym own-row) (before e b (made .inside)),
+    )
 
     -- what a reduced set makes of the work
     abbrev joinedBy : Reduced → Work
-    joinedBy r = record { registry = r .registry; sets = set (rowsOf sets (sizeIn g)) b (r .set); changed = changed || not (sameSet (setOf (rowsOf sets (sizeIn g)) b) (r .set)) }
+    joinedBy r = record {
+      registry = r .registry;
+      sets = set (rowsOf sets (sizeIn g)) b (r .set);
+      changed = changed || not
+          (sameSet (setOf (rowsOf sets (sizeIn g)) b) (r .set));
+    }
 
     want-is : want rule g backward b marks sets ws changed ≡ joinedBy reduced
     unfolding joinIn join joinWith workOf
     want-is = ap (λ (s : NodeSet). joinedBy (reduceMaybeOptionalChains (registryOf ws) s)) (sym joined-is)
 
     -- where nothing joins a set that is reduced already, the work stays
-    pub join-still : AllReduced (sizeIn g) sets ws → sameSet (membersOf own) (membersOf all) ≡ true → Holds (want rule g backward b marks sets ws changed) (sizeIn g) changed sets ws os
+    pub join-still : AllReduced (sizeIn g) sets ws → sameSet (membersOf own) (membersOf all) ≡ true → HoldsWork
+        (want rule g backward b marks sets ws changed) (sizeIn g) changed sets ws os
     unfolding workOf
     join-still before none =
         let rows = rowsOf sets (sizeIn g) in
@@ -107,19 +119,21 @@ module _ {rule : JoiningRule} {g : List ℕ} {backward : Bool} {b : ℕ} {marks 
         unfolding workOf
         became = want-is ∙ ap joinedBy (held .1) ∙ (λ i. record { registry = registryOf vs; sets = sym (stored .rows (sizeIn g)) i; changed = flag i })
 
-        pub join-holds : Holds (want rule g backward b marks sets ws changed) (sizeIn g) c ts vs ps
+        pub join-holds : HoldsWork (want rule g backward b marks sets ws changed) (sizeIn g) c ts vs ps
         unfolding joinIn join workOf
         join-holds = record {
           stands = record {
             lent = stored .lent;
             held = held .0;
-            members = subst (λ (w : Work). All (Members (w .registry)) (w .sets)) became (join-proper (joining rule g backward b marks) b (workOf (sizeIn g) sets ws changed) proper .members);
+            members = subst (λ (w : Work). All (Members (w .registry)) (w .sets)) became
+                (join-proper (joining rule g backward b marks) b (workOf (sizeIn g) sets ws changed) proper .members);
           };
           same = became;
         }
 
 -- After its join the block is Done.
-pub leaves : (rule : JoiningRule) (g : List ℕ) (backward : Bool) (b : ℕ) (marks sets ws : List ℕ) (changed : Bool) (r : Progress) (ts vs ps : List ℕ) → b < sizeIn g → length marks ≡ 128
+pub leaves : (rule : JoiningRule) (g : List ℕ) (backward : Bool) (b : ℕ) (marks sets ws : List ℕ) (changed : Bool) (r : Progress) (ts vs ps : List ℕ)
+    → b < sizeIn g → length marks ≡ 128
     → Joins (joinIn rule g backward b (marksOf (sizeIn g) marks) (workOf (sizeIn g) sets ws changed)) (sizeIn g) r ts vs ps
     → Visits (leave (joinIn rule g backward) b (visitedOf (sizeIn g) marks sets ws changed)) (sizeIn g) r (set marks b 2) ts vs ps
 leaves rule g backward b marks sets ws changed (Changed c) ts vs ps inside long h = record {

@@ -1,4 +1,5 @@
--- Which sets are reduced already: a visit keeps those that are, and after a forward walk all of them are.
+-- Which sets are reduced already: a visit keeps those that are, and after a forward walk all of
+-- them are.
 use Prim.Native.Nat.{ℕ, _<_}
 use mathlib.Core.Path.{_≡_, subst}
 use mathlib.Core.Bool.{Bool, false}
@@ -9,10 +10,10 @@ use Rattle.model.specs.RoundsLaws as laws
 use Rattle.model.specs.Propagation.{Work, JoiningRule, join}
 use Rattle.model.specs.PropagationLaws.{ProperWork, join-proper, ReducedAt, join-reduces, join-keeps-reduced}
 use Rattle.graph.specs.Bytes.{sizeIn, neighbours}
-use Rattle.propagation.specs.Joins.{workOf, joinIn, visitIn, Stands, AllReduced}
+use Rattle.propagation.specs.Joins.{workOf, joinIn, visitIn, RowsStand, AllReduced}
 use Rattle.propagation.specs.Propagates.{orderOf, walkIn}
 
-pub stands-proper : {n : ℕ} {sets ws os : List ℕ} → Stands n sets ws os → (c : Bool) → ProperWork (workOf n sets ws c)
+pub stands-proper : {n : ℕ} {sets ws os : List ℕ} → RowsStand n sets ws os → (c : Bool) → ProperWork (workOf n sets ws c)
 unfolding workOf
 stands-proper s c = record { sound = s .held .sound; members = s .members }
 
@@ -38,18 +39,22 @@ module _ (rule : JoiningRule) (g : List ℕ) (backward : Bool) where
   unfolding joinIn join
   makes b ms w p = join-reduces (rule ms (neighbours g backward b)) b w p
 
-  pub visit-keeps-reduced : (b : ℕ) (v : Visited Work) → ProperWork (v .work) → (a : ℕ) → ReducedAt (v .work) a → ReducedAt (visitIn rule g backward b v .work) a
+  pub visit-keeps-reduced : (b : ℕ) (v : Visited Work) → ProperWork (v .work) → (a : ℕ) → ReducedAt (v .work) a → ReducedAt
+      (visitIn rule g backward b v .work) a
   unfolding visitIn
   visit-keeps-reduced b v p = visit-makes ProperWork ReducedAt (neighbours g backward) (joinIn rule g backward) keeps stays makes b v p .kept
 
   pub walk-keeps-reduced : (w : Work) → ProperWork w → (b : ℕ) → ReducedAt w b → ReducedAt (walkIn rule g backward w) b
   unfolding walkIn
-  walk-keeps-reduced = laws.walk-keeps ProperWork ReducedAt (neighbours g backward) (joinIn rule g backward) keeps stays makes (sizeIn g) (orderOf backward (sizeIn g))
+  walk-keeps-reduced = laws.walk-keeps ProperWork ReducedAt (neighbours g backward) (joinIn rule g backward) keeps stays makes (sizeIn g)
+      (orderOf backward (sizeIn g))
 
   pub walk-stays-proper : (w : Work) → ProperWork w → ProperWork (walkIn rule g backward w)
   unfolding walkIn
-  walk-stays-proper = laws.walk-proper ProperWork ReducedAt (neighbours g backward) (joinIn rule g backward) keeps stays makes (sizeIn g) (orderOf backward (sizeIn g))
+  walk-stays-proper = laws.walk-proper ProperWork ReducedAt (neighbours g backward) (joinIn rule g backward) keeps stays makes (sizeIn g)
+      (orderOf backward (sizeIn g))
 
 pub walk-reduces : (rule : JoiningRule) (g : List ℕ) (w : Work) → ProperWork w → (b : ℕ) → b < sizeIn g → ReducedAt (walkIn rule g false w) b
 unfolding walkIn
-walk-reduces rule g = laws.walk-makes ProperWork ReducedAt (neighbours g false) (joinIn rule g false) (keeps rule g false) (stays rule g false) (makes rule g false) (sizeIn g)
+walk-reduces rule g = laws.walk-makes ProperWork ReducedAt (neighbours g false) (joinIn rule g false) (keeps rule g false) (stays rule g false)
+    (makes rule g false) (sizeIn g)

@@ -20,7 +20,7 @@ use Rattle.registry.specs.Words.{registryOf}
 use Rattle.graph.specs.Bytes.{sizeIn, graphIn}
 use Rattle.propagation.specs.declared.Progress.{Progress}
 use Rattle.propagation.specs.declared.Progress.the-variants.{Changed, Full}
-use Rattle.propagation.specs.Joins.{workOf, joinIn, Stands, AllReduced, ReducedBefore, Holds, Joins}
+use Rattle.propagation.specs.Joins.{workOf, joinIn, RowsStand, AllReduced, ReducedBefore, HoldsWork, Joins}
 use Rattle.propagation.specs.Propagates.{walkIn, HoldsRounds}
 use Rattle.propagation.proofs.Along.{Adds, adds-order, joined-to, joined-full}
 use Rattle.propagation.proofs.Reductions.{stands-proper, reduced-rows, walk-keeps-reduced, walk-stays-proper, walk-reduces}
@@ -39,14 +39,16 @@ module _ (rule : JoiningRule) (g : List ℕ) where
   round-adds : (w : Work) → Adds w (roundIn rule g w)
   round-adds w =
       subst (Adds w) (sym (two-walks w))
-      (le-trans (walk-adds rule g false (roundStart (w .registry) (w .sets))) (walk-adds rule g true (walkIn rule g false (roundStart (w .registry) (w .sets)))))
+      (le-trans (walk-adds rule g false (roundStart (w .registry) (w .sets)))
+      (walk-adds rule g true (walkIn rule g false (roundStart (w .registry) (w .sets)))))
 
   -- after a round each block's set is reduced
   round-reduces : (w : Work) → ProperWork w → (b : ℕ) → b < sizeIn g → ReducedAt (roundIn rule g w) b
   round-reduces w p b l =
       let start = roundStart (w .registry) (w .sets) in
       let q : ProperWork start = record { sound = p .sound; members = p .members } in
-      subst (λ (u : Work). ReducedAt u b) (sym (two-walks w)) (walk-keeps-reduced rule g true (walkIn rule g false start) (walk-stays-proper rule g false start q) b (walk-reduces rule g start q b l))
+      subst (λ (u : Work). ReducedAt u b) (sym (two-walks w))
+      (walk-keeps-reduced rule g true (walkIn rule g false start) (walk-stays-proper rule g false start q) b (walk-reduces rule g start q b l))
 
   module _ (sets ws : List ℕ) where
     -- a round does not look at whether a set has changed before it
@@ -61,20 +63,24 @@ module _ (rule : JoiningRule) (g : List ℕ) where
         (lt-of-lt-of-le (joined-full _ (sizeIn g) r ts vs ps j e) (walk-adds rule g true (walkIn rule g false (workOf (sizeIn g) sets ws false))))
 
     -- after its forward walk each set is reduced
-    pub round-halfway : {os : List ℕ} → Stands (sizeIn g) sets ws os → {c : Bool} {ts vs ps : List ℕ} → Holds (walkIn rule g false (workOf (sizeIn g) sets ws false)) (sizeIn g) c ts vs ps → AllReduced (sizeIn g) ts vs
-    round-halfway s {c} {ts} {vs} h = reduced-rows (sizeIn g) ts vs c (walkIn rule g false (workOf (sizeIn g) sets ws false)) (h .same) (walk-reduces rule g (workOf (sizeIn g) sets ws false) (stands-proper s false))
+    pub round-halfway : {os : List ℕ} → RowsStand (sizeIn g) sets ws os → {c : Bool} {ts vs ps : List ℕ} → HoldsWork
+        (walkIn rule g false (workOf (sizeIn g) sets ws false)) (sizeIn g) c ts vs ps → AllReduced (sizeIn g) ts vs
+    round-halfway s {c} {ts} {vs} h = reduced-rows (sizeIn g) ts vs c (walkIn rule g false (workOf (sizeIn g) sets ws false)) (h .same)
+        (walk-reduces rule g (workOf (sizeIn g) sets ws false) (stands-proper s false))
 
-    pub round-done : {c : Bool} {ts vs ps : List ℕ} → Holds (walkIn rule g false (workOf (sizeIn g) sets ws false)) (sizeIn g) c ts vs ps → (r : Progress) (us xs os : List ℕ)
-        → Joins (walkIn rule g true (workOf (sizeIn g) ts vs c)) (sizeIn g) r us xs os → Joins (roundIn rule g (workOf (sizeIn g) sets ws true)) (sizeIn g) r us xs os
+    pub round-done : {c : Bool} {ts vs ps : List ℕ} → HoldsWork (walkIn rule g false (workOf (sizeIn g) sets ws false)) (sizeIn g) c ts vs ps →
+        (r : Progress) (us xs os : List ℕ)
+        → Joins (walkIn rule g true (workOf (sizeIn g) ts vs c)) (sizeIn g) r us xs os → Joins (roundIn rule g (workOf (sizeIn g) sets ws true))
+        (sizeIn g) r us xs os
     round-done h r us xs os j = subst (λ (w : Work). Joins w (sizeIn g) r us xs os) (ap (walkIn rule g true) (sym (h .same)) ∙ sym (from-unchanged true)) j
 
 -- The loop over rounds: `ran` of them are run, and those still allowed lead to `end`.
 pub record Rounding (rule : JoiningRule) (g : List ℕ) (end : Rounds Work) (sets ws os : List ℕ) (ran : ℕ) : Type 0 where
-  pub stands : Stands (sizeIn g) sets ws os
+  pub stands : RowsStand (sizeIn g) sets ws os
   pub before : ReducedBefore (ltb 0 ran) (sizeIn g) sets ws
   pub rest : roundsFrom hasChanged (roundIn rule g) (100 - ran) ran (workOf (sizeIn g) sets ws true) ≡ end
 
-pub rounds-start : (rule : JoiningRule) (g sets ws os : List ℕ) → Stands (sizeIn g) sets ws os
+pub rounds-start : (rule : JoiningRule) (g sets ws os : List ℕ) → RowsStand (sizeIn g) sets ws os
     → Rounding rule g (propagateNonNull rule (graphIn g) (registryOf ws) (rowsOf sets (sizeIn g))) sets ws os 0
 unfolding propagateNonNull propagateWith roundsFrom round workOf
 rounds-start rule g sets ws os s = record { stands = s; before = λ t. never t refl; rest = refl }
@@ -100,14 +106,15 @@ module _ {rule : JoiningRule} {g : List ℕ} {end : Rounds Work} {sets ws os : L
         (decide (hasChanged (roundIn rule g now))
         (λ e. subst (λ (x : Rounds Work). Adds (roundIn rule g now) (x .work)) (sym (laws.rounds-on hasChanged (roundIn rule g) (100 - (ran + 1)) ran now e))
         (laws.rounds-do hasChanged (roundIn rule g) Adds adds-order (round-adds rule g) (100 - (ran + 1)) (suc ran) (roundIn rule g now)))
-        (λ e. subst (λ (x : Rounds Work). Adds (roundIn rule g now) (x .work)) (sym (laws.rounds-stop hasChanged (roundIn rule g) (100 - (ran + 1)) ran now e)) (le-refl _)))
+        (λ e. subst (λ (x : Rounds Work). Adds (roundIn rule g now) (x .work))
+        (sym (laws.rounds-stop hasChanged (roundIn rule g) (100 - (ran + 1)) ran now e)) (le-refl _)))
 
     module _ (a : Progress) (ts vs ps : List ℕ) (j : Joins (roundIn rule g now) (sizeIn g) a ts vs ps) where
       pub rounds-full : a ≡ Full → nodeLimit < length (end .work .registry)
       rounds-full e = lt-of-lt-of-le (joined-full (roundIn rule g now) (sizeIn g) a ts vs ps j e) after-round
 
       module _ (c : Bool) (went : a ≡ Changed c) where
-        held : Holds (roundIn rule g now) (sizeIn g) c ts vs ps
+        held : HoldsWork (roundIn rule g now) (sizeIn g) c ts vs ps
         held = joined-to (roundIn rule g now) (sizeIn g) a ts vs ps j c went
 
         module _ (t : Bool) (is : c ≡ t) where

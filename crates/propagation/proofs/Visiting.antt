@@ -15,7 +15,18 @@ use Rattle.propagation.specs.declared.Progress.{Progress}
 use Rattle.propagation.specs.declared.Progress.the-variants.{Changed, Full}
 use Rattle.propagation.specs.Joins.{marksOf, workOf, visitedOf, joinIn, visitIn, Ready, ReducedBefore, Visits}
 use Rattle.propagation.proofs.Marks.{mark-set, zero-unmarked}
-use Rattle.propagation.proofs.Along.{join-adds, visit-fewer, visit-unmarked, visited-to, Along, along-by, along-marked, along-more, along-full, along-end}
+use Rattle.propagation.proofs.Along.{
+  join-adds,
+  visit-fewer,
+  visit-unmarked,
+  visited-to,
+  Along,
+  along-by,
+  along-marked,
+  along-more,
+  along-full,
+  along-end,
+}
 
 -- what a visit requires
 pub record Enters (g : List ℕ) (b : ℕ) (marks sets ws os : List ℕ) (later : Bool) : Type 0 where
@@ -25,9 +36,12 @@ pub record Enters (g : List ℕ) (b : ℕ) (marks sets ws os : List ℕ) (later 
   pub long : length marks ≡ 128
   pub unmarked : getD marks b 0 ≡ 0
 
--- The loop over the neighbours of block b: those from `from` on are still to be visited, and no more blocks are unmarked than at `entered`.
-pub record Neighbouring (rule : JoiningRule) (g : List ℕ) (backward later : Bool) (b : ℕ) (entered : Visited Work) (marks sets ws os : List ℕ) (c : Bool) (from : ℕ) : Type 0 where
-  pub along : Along rule g backward later (neighboursFrom g backward b from) (each (visitIn rule g backward) (neighbours g backward b) entered) marks sets ws os c
+-- The loop over the neighbours of block b: those from `from` on are still to be visited, and no
+-- more blocks are unmarked than at `entered`.
+pub record Neighbouring (rule : JoiningRule) (g : List ℕ) (backward later : Bool) (b : ℕ) (entered : Visited Work) (marks sets ws os : List ℕ)
+    (c : Bool) (from : ℕ) : Type 0 where
+  pub along : Along rule g backward later (neighboursFrom g backward b from)
+      (each (visitIn rule g backward) (neighbours g backward b) entered) marks sets ws os c
   pub fewer : unmarkedIn (marksOf (sizeIn g) marks) ≤ unmarkedIn (entered .marks)
 
 module _ {g : List ℕ} {b : ℕ} {marks sets ws os : List ℕ} {later : Bool} (e : Enters g b marks sets ws os later) where
@@ -46,7 +60,8 @@ module _ {g : List ℕ} {b : ℕ} {marks sets ws os : List ℕ} {later : Bool} (
         ≡ leave (joinIn rule g backward) b (each (visitIn rule g backward) (neighbours g backward b) (visitedOf (sizeIn g) (set marks b 1) sets ws changed))
     opened =
         visit-unmarked rule g backward b (visitedOf (sizeIn g) marks sets ws changed) unmarked-here
-        ∙ ap (λ (ms : List TraversalState). leave (joinIn rule g backward) b (each (visitIn rule g backward) (neighbours g backward b) (record { marks = ms; work = workOf (sizeIn g) sets ws changed })))
+        ∙ ap (λ (ms : List TraversalState). leave (joinIn rule g backward) b
+        (each (visitIn rule g backward) (neighbours g backward b) (record { marks = ms; work = workOf (sizeIn g) sets ws changed })))
         (sym (mark-set (sizeIn g) marks b (e .inside) 1))
 
     pub neighbours-start : Neighbouring rule g backward later b (visitedOf (sizeIn g) (set marks b 1) sets ws changed) (set marks b 1) sets ws os changed 0
@@ -56,11 +71,13 @@ module _ {g : List ℕ} {b : ℕ} {marks sets ws os : List ℕ} {later : Bool} (
     }
 
 -- The facts in the loop over the neighbours: those at the entry, and the invariant.
-pub record Looping (rule : JoiningRule) (g : List ℕ) (backward later : Bool) (b : ℕ) (marks sets ws os : List ℕ) (changed : Bool) (marks′ sets′ ws′ os′ : List ℕ) (c : Bool) (from : ℕ) : Type 0 where
+pub record Looping (rule : JoiningRule) (g : List ℕ) (backward later : Bool) (b : ℕ) (marks sets ws os : List ℕ) (changed : Bool)
+    (marks′ sets′ ws′ os′ : List ℕ) (c : Bool) (from : ℕ) : Type 0 where
   pub entry : Enters g b marks sets ws os later
   pub inv : Neighbouring rule g backward later b (visitedOf (sizeIn g) (set marks b 1) sets ws changed) marks′ sets′ ws′ os′ c from
 
-module _ {rule : JoiningRule} {g : List ℕ} {backward later : Bool} {b : ℕ} {marks sets ws os : List ℕ} {changed : Bool} {marks′ sets′ ws′ os′ : List ℕ} {c : Bool} {from : ℕ}
+module _ {rule : JoiningRule} {g : List ℕ} {backward later : Bool} {b : ℕ} {marks sets ws os : List ℕ} {changed : Bool} {marks′ sets′ ws′ os′ : List ℕ}
+    {c : Bool} {from : ℕ}
     (l : Looping rule g backward later b marks sets ws os changed marks′ sets′ ws′ os′ c from) where
   pub still-ready : Ready g sets′ ws′ os′
   still-ready = record { fits = l .entry .ready .fits; stands = l .inv .along .stands }
@@ -78,27 +95,32 @@ module _ {rule : JoiningRule} {g : List ℕ} {backward later : Bool} {b : ℕ} {
 
   -- the next neighbour is k
   module _ {k next : ℕ} (to : Next g backward b from k next) where
-    abbrev here-along : Along rule g backward later (k ∷ neighboursFrom g backward b next) (each (visitIn rule g backward) (neighbours g backward b) (visitedOf (sizeIn g) (set marks b 1) sets ws changed)) marks′ sets′ ws′ os′ c
+    abbrev here-along : Along rule g backward later (k ∷ neighboursFrom g backward b next)
+        (each (visitIn rule g backward) (neighbours g backward b) (visitedOf (sizeIn g) (set marks b 1) sets ws changed)) marks′ sets′ ws′ os′ c
     here-along = along-by (to .rest) (l .inv .along)
 
     pub neighbour-inside : k < 128
     neighbour-inside = let few = l .entry .ready .fits .size in let h = to .inside in omega arith
 
     -- it is marked already
-    pub neighbours-marked : (getD marks′ k 0 ≡ 0 → ⊥) → Neighbouring rule g backward later b (visitedOf (sizeIn g) (set marks b 1) sets ws changed) marks′ sets′ ws′ os′ c next
+    pub neighbours-marked : (getD marks′ k 0 ≡ 0 → ⊥) → Neighbouring rule g backward later b
+        (visitedOf (sizeIn g) (set marks b 1) sets ws changed) marks′ sets′ ws′ os′ c next
     neighbours-marked h = record { along = along-marked here-along (to .inside) (l .entry .ready .fits .size) h; fewer = l .inv .fewer }
 
     -- it is visited
-    module _ (r : Progress) (marks″ sets″ ws″ os″ : List ℕ) (h : Visits (visitIn rule g backward k (visitedOf (sizeIn g) marks′ sets′ ws′ c)) (sizeIn g) r marks″ sets″ ws″ os″) where
+    module _ (r : Progress) (marks″ sets″ ws″ os″ : List ℕ)
+        (h : Visits (visitIn rule g backward k (visitedOf (sizeIn g) marks′ sets′ ws′ c)) (sizeIn g) r marks″ sets″ ws″ os″) where
       pub end-full : r ≡ Full → nodeLimit < length (visitIn rule g backward b (visitedOf (sizeIn g) marks sets ws changed) .work .registry)
       end-full e =
           subst (λ (v : Visited Work). nodeLimit < length (v .work .registry)) (sym (opened (l .entry) rule backward changed))
           (lt-of-lt-of-le (along-full here-along r marks″ sets″ ws″ os″ h e) (join-adds rule g backward b _ _))
 
-      pub neighbours-more : (c″ : Bool) → r ≡ Changed c″ → Neighbouring rule g backward later b (visitedOf (sizeIn g) (set marks b 1) sets ws changed) marks″ sets″ ws″ os″ c″ next
+      pub neighbours-more : (c″ : Bool) → r ≡ Changed c″ → Neighbouring rule g backward later b
+          (visitedOf (sizeIn g) (set marks b 1) sets ws changed) marks″ sets″ ws″ os″ c″ next
       neighbours-more c″ e = record {
         along = along-more here-along r marks″ sets″ ws″ os″ h c″ e;
         fewer =
-            le-trans (subst (λ (v : Visited Work). unmarkedIn (v .marks) ≤ unmarkedIn (marksOf (sizeIn g) marks′)) (visited-to _ _ r marks″ sets″ ws″ os″ h c″ e .same)
+            le-trans (subst (λ (v : Visited Work). unmarkedIn (v .marks) ≤ unmarkedIn (marksOf (sizeIn g) marks′))
+            (visited-to _ _ r marks″ sets″ ws″ os″ h c″ e .same)
             (visit-fewer rule g backward k (visitedOf (sizeIn g) marks′ sets′ ws′ c))) (l .inv .fewer);
       }

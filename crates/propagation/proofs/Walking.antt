@@ -13,7 +13,7 @@ use Rattle.model.specs.RoundsLaws.{walk-does}
 use Rattle.model.specs.Propagation.{Work, JoiningRule}
 use Rattle.graph.specs.Bytes.{sizeIn, neighbours}
 use Rattle.graph.proofs.Neighbours.{places-more, places-end}
-use Rattle.propagation.specs.Joins.{workOf, visitedOf, joinIn, visitIn, Ready, ReducedBefore, Holds}
+use Rattle.propagation.specs.Joins.{workOf, visitedOf, joinIn, visitIn, Ready, ReducedBefore, HoldsWork}
 use Rattle.propagation.specs.Propagates.{orderOf, inOrder, walkIn}
 use Rattle.propagation.proofs.Marks.{marks-cleared}
 use Rattle.propagation.proofs.Along.{Adds, adds-order, join-adds, Along, along-by, along-end}
@@ -55,19 +55,23 @@ order-end true n i l = let e : n - i ≡ 0 = omega arith in ap falling e
 abbrev pub walkEnd : JoiningRule → List ℕ → Bool → Work → Visited Work
 walkEnd rule g backward w = each (visitIn rule g backward) (orderOf backward (sizeIn g)) (record { marks = replicate (sizeIn g) Unmarked; work = w })
 
-pub walk-start : (rule : JoiningRule) {g sets ws os : List ℕ} → Ready g sets ws os → (backward later : Bool) → ReducedBefore later (sizeIn g) sets ws → (n : ℕ) → n ≡ sizeIn g → (c : Bool)
+pub walk-start : (rule : JoiningRule) {g sets ws os : List ℕ} → Ready g sets ws os → (backward later : Bool) → ReducedBefore later (sizeIn g) sets ws →
+    (n : ℕ) → n ≡ sizeIn g → (c : Bool)
     → Along rule g backward later (orderFrom backward n 0) (walkEnd rule g backward (workOf (sizeIn g) sets ws c)) (replicate 128 0) sets ws os c
 walk-start rule {g} {sets} {ws} {os} ready backward later before n e c = record {
   long = length-replicate {A = ℕ} 128 0;
   stands = ready .stands;
   before = before;
   rest =
-      ap (λ (bs : List ℕ). each (visitIn rule g backward) bs (visitedOf (sizeIn g) (replicate 128 0) sets ws c)) (order-start backward n ∙ ap (orderOf backward) e)
-      ∙ ap (λ (ms : List TraversalState). each (visitIn rule g backward) (orderOf backward (sizeIn g)) (record { marks = ms; work = workOf (sizeIn g) sets ws c })) (marks-cleared (sizeIn g) (ready .fits .size));
+      ap (λ (bs : List ℕ). each (visitIn rule g backward) bs (visitedOf (sizeIn g) (replicate 128 0) sets ws c))
+      (order-start backward n ∙ ap (orderOf backward) e)
+      ∙ ap (λ (ms : List TraversalState). each (visitIn rule g backward) (orderOf backward (sizeIn g))
+      (record { marks = ms; work = workOf (sizeIn g) sets ws c })) (marks-cleared (sizeIn g) (ready .fits .size));
 }
 
 -- the next block is b
-pub walk-next : {rule : JoiningRule} {g : List ℕ} {backward later : Bool} (n i : ℕ) {end : Visited Work} {marks sets ws os : List ℕ} {c : Bool} → Along rule g backward later (orderFrom backward n i) end marks sets ws os c
+pub walk-next : {rule : JoiningRule} {g : List ℕ} {backward later : Bool} (n i : ℕ) {end : Visited Work} {marks sets ws os : List ℕ} {c : Bool}
+    → Along rule g backward later (orderFrom backward n i) end marks sets ws os c
     → i < n → {b : ℕ} → b ≡ inOrder backward n i → Along rule g backward later (b ∷ orderFrom backward n (i + 1)) end marks sets ws os c
 walk-next {rule} {g} {backward} n i a l e = along-by (order-more backward n i l ∙ ap (λ (k : ℕ). k ∷ orderFrom backward n (i + 1)) (sym e)) a
 
@@ -76,7 +80,8 @@ module _ (rule : JoiningRule) (g : List ℕ) (backward : Bool) (w : Work) where
   unfolding walkIn walk visitIn
   walk-full h = h
 
-  pub walk-end : {later : Bool} {marks sets ws os : List ℕ} {c : Bool} → Along rule g backward later [] (walkEnd rule g backward w) marks sets ws os c → Holds (walkIn rule g backward w) (sizeIn g) c sets ws os
+  pub walk-end : {later : Bool} {marks sets ws os : List ℕ} {c : Bool} → Along rule g backward later [] (walkEnd rule g backward w) marks sets ws os c
+      → HoldsWork (walkIn rule g backward w) (sizeIn g) c sets ws os
   unfolding walkIn walk visitIn
   walk-end a = record { stands = a .stands; same = sym (ap (λ (v : Visited Work). v .work) (along-end a)) }
 

@@ -65,7 +65,7 @@ Intersects rule marks sets k before after =
     → intersectionWith after (setsToJoin rule n marks sets bs) ≡ intersectionWith before (setsToJoin rule n marks sets (k ∷ bs))
 
 -- What the lent arrays are between two joins: each of n rows is a set of the registry's nodes.
-pub record Stands (n : ℕ) (sets ws os : List ℕ) : Type 0 where
+pub record RowsStand (n : ℕ) (sets ws os : List ℕ) : Type 0 where
   pub lent : Lent sets
   pub held : Held ws os
   pub members : All (Members (registryOf ws)) (rowsOf sets n)
@@ -73,7 +73,7 @@ pub record Stands (n : ℕ) (sets ws os : List ℕ) : Type 0 where
 -- the same, with a graph of these blocks
 pub record Ready (g sets ws os : List ℕ) : Type 0 where
   pub fits : GraphFits g
-  pub stands : Stands (sizeIn g) sets ws os
+  pub stands : RowsStand (sizeIn g) sets ws os
 
 -- a pass over any of n rows changes nothing and makes nothing
 abbrev pub AllReduced : ℕ → List ℕ → List ℕ → Type 0
@@ -84,19 +84,20 @@ abbrev pub ReducedBefore : Bool → ℕ → List ℕ → List ℕ → Type 0
 ReducedBefore later n sets ws = later ≡ true → AllReduced n sets ws
 
 -- the arrays hold the work that was to be reached
-pub record Holds (want : Work) (n : ℕ) (changed : Bool) (sets ws os : List ℕ) : Type 0 where
-  pub stands : Stands n sets ws os
+pub record HoldsWork (want : Work) (n : ℕ) (changed : Bool) (sets ws os : List ℕ) : Type 0 where
+  pub stands : RowsStand n sets ws os
   pub same : want ≡ workOf n sets ws changed
 
 -- the arrays hold the marks and the work that were to be reached
 pub record HoldsVisited (want : Visited Work) (n : ℕ) (changed : Bool) (marks sets ws os : List ℕ) : Type 0 where
   pub long : length marks ≡ 128
-  pub stands : Stands n sets ws os
+  pub stands : RowsStand n sets ws os
   pub same : want ≡ visitedOf n marks sets ws changed
 
--- What a join, a walk or a round leaves: the work that was to be reached; or that has no room. The definition has no limit and goes on to its end.
+-- What a join, a walk or a round leaves: the work that was to be reached; or that has no room. The
+-- definition has no limit and goes on to its end.
 abbrev pub Joins : Work → ℕ → Progress → List ℕ → List ℕ → List ℕ → Type 0
-Joins want n (Changed c) sets ws os = Holds want n c sets ws os
+Joins want n (Changed c) sets ws os = HoldsWork want n c sets ws os
 Joins want n Full sets ws os = nodeLimit < length (want .registry)
 
 -- What a visit leaves: the marks and the work that were to be reached; or the work has no room.

@@ -8,8 +8,8 @@ use Rattle.model.specs.Registry.{nodeLimit}
 use Rattle.model.specs.Rounds.{jobOrder, reverseJobOrder, walk, Rounds}
 use Rattle.model.specs.Propagation.{Work, JoiningRule}
 use Rattle.graph.specs.Bytes.{sizeIn, neighbours}
-use Rattle.propagation.specs.Joins.{workOf, joinIn, Stands}
-use Rattle.propagation.specs.declared.Run.{Run}
+use Rattle.propagation.specs.Joins.{workOf, joinIn, RowsStand}
+use Rattle.propagation.specs.declared.RoundsRun.{RoundsRun}
 use Rattle.propagation.specs.declared.Propagated.{Propagated}
 use Rattle.propagation.specs.declared.Propagated.the-variants.{Ran, Full}
 
@@ -27,14 +27,14 @@ inOrder true n i = n - 1 - i
 unfoldable pub walkIn : JoiningRule → List ℕ → Bool → Work → Work
 walkIn rule g backward w = walk (sizeIn g) (neighbours g backward) (joinIn rule g backward) (orderOf backward (sizeIn g)) w
 
--- "The number of rounds run and whether the last one changed nothing", with the work that the arrays hold: a set has changed in the last round unless
--- it settled
-abbrev pub roundsOf : ℕ → List ℕ → List ℕ → Run → Rounds Work
+-- "The number of rounds run and whether the last one changed nothing", with the work that the
+-- arrays hold: a set has changed in the last round unless it settled
+abbrev pub roundsOf : ℕ → List ℕ → List ℕ → RoundsRun → Rounds Work
 roundsOf n sets ws run = record { work = workOf n sets ws (not (run .settled)); rounds = run .rounds; settled = run .settled }
 
 -- the arrays hold the work that was to be reached, and the run is its rounds
-pub record HoldsRounds (want : Rounds Work) (n : ℕ) (run : Run) (sets ws os : List ℕ) : Type 0 where
-  pub stands : Stands n sets ws os
+pub record HoldsRounds (want : Rounds Work) (n : ℕ) (run : RoundsRun) (sets ws os : List ℕ) : Type 0 where
+  pub stands : RowsStand n sets ws os
   pub same : want ≡ roundsOf n sets ws run
 
 -- What propagation leaves: the work that was to be reached and its rounds; or that has no room.

@@ -1,5 +1,5 @@
-// `propagate_non_null`: rounds of a forward and a backward walk over the blocks, until one changes nothing. Mark 0 is an unmarked block, 1
-// an Active one, 2 a Done one.
+// `propagate_non_null`: rounds of a forward and a backward walk over the blocks, until one changes
+// nothing. Mark 0 is an unmarked block, 1 an Active one, 2 a Done one.
 ghost use mathlib.Core.Path.{_≡_};
 ghost use mathlib.Core.Bool.{true, false};
 ghost use mathlib.Core.List.{[]};
@@ -12,7 +12,20 @@ ghost use Rattle.rows.specs.Members.{membersOf};
 ghost use Rattle.rows.specs.Rows.{rowsOf};
 ghost use Rattle.registry.specs.Words.{registryOf};
 ghost use Rattle.graph.specs.Bytes.{sizeIn, neighbours, GraphFits, graphIn};
-ghost use Rattle.propagation.specs.Joins.{marksOf, workOf, visitedOf, joinIn, visitIn, setsToJoin, intersectionWith, Intersects, Ready, ReducedBefore, Joins, Visits};
+ghost use Rattle.propagation.specs.Joins.{
+  marksOf,
+  workOf,
+  visitedOf,
+  joinIn,
+  visitIn,
+  setsToJoin,
+  intersectionWith,
+  Intersects,
+  Ready,
+  ReducedBefore,
+  Joins,
+  Visits,
+};
 ghost use Rattle.propagation.specs.Propagates.{inOrder, walkIn, Propagates};
 use graph::Neighbour;
 use rows::NodeBits;
@@ -30,14 +43,14 @@ enum Progress {
 }
 
 // How many rounds were run, and whether the last one changed nothing.
-pub struct Run {
+pub struct RoundsRun {
     pub rounds: usize,
     pub settled: bool,
 }
 
 // The rounds that were run; or the registry has no room.
 pub enum Propagated {
-    Ran(Run),
+    Ran(RoundsRun),
     Full,
 }
 
@@ -97,7 +110,9 @@ fn intersection_of_done(
     sets: &[u64; 1024],
 ) -> NodeBits
     requires { ⌜ GraphFits (now graph) × (b < sizeIn (now graph)) ⌝ }
-    ensures { λ r. ⌜ membersOf (r .words) ≡ intersectionOf (setsToJoin doneNeighbours (sizeIn (now (graph .entry))) (now (marks .entry)) (now (sets .entry)) (neighbours (now (graph .entry)) backward b)) ⌝ }
+    ensures { λ r. ⌜ membersOf (r .words) ≡ intersectionOf
+        (setsToJoin doneNeighbours (sizeIn (now (graph .entry))) (now (marks .entry)) (now (sets .entry))
+        (neighbours (now (graph .entry)) backward b)) ⌝ }
 {
     let mut found = Intersection::of_none();
     let mut from = 0;
@@ -110,8 +125,8 @@ fn intersection_of_done(
     }
 }
 
-// The block's set is joined with that intersection and reduced. In a walk later than the first it was reduced before, so where nothing new
-// joins, it stays.
+// The block's set is joined with that intersection and reduced. In a walk later than the first it
+// was reduced before, so where nothing new joins, it stays.
 fn join(
     graph: &[u8; 10497],
     backward: bool,
@@ -123,9 +138,11 @@ fn join(
     later: bool,
     changed: bool,
 ) -> Progress
-    requires { ⌜ Ready (now graph) (now sets) (now ws) (now optional) × ReducedBefore later (sizeIn (now graph)) (now sets) (now ws) × (b < sizeIn (now graph)) ⌝ }
+    requires { ⌜ Ready (now graph) (now sets) (now ws) (now optional) × ReducedBefore later (sizeIn (now graph)) (now sets) (now ws)
+        × (b < sizeIn (now graph)) ⌝ }
     ensures { λ r. ⌜ (let n = sizeIn (now (graph .entry)) in
-        Joins (joinIn doneNeighbours (now (graph .entry)) backward b (marksOf n (now (marks .entry))) (workOf n (now (sets .entry)) (now (ws .entry)) changed))
+        Joins (joinIn doneNeighbours (now (graph .entry)) backward b (marksOf n (now (marks .entry)))
+        (workOf n (now (sets .entry)) (now (ws .entry)) changed))
         n r (now (sets .exit)) (now (ws .exit)) (now (optional .exit))) ⌝ }
 {
     let own = rows::row(sets, b);
@@ -156,9 +173,11 @@ fn leave(
     later: bool,
     changed: bool,
 ) -> Progress
-    requires { ⌜ Ready (now graph) (now sets) (now ws) (now optional) × ReducedBefore later (sizeIn (now graph)) (now sets) (now ws) × (b < sizeIn (now graph)) × (length (now marks) ≡ 128) ⌝ }
+    requires { ⌜ Ready (now graph) (now sets) (now ws) (now optional) × ReducedBefore later (sizeIn (now graph)) (now sets) (now ws)
+        × (b < sizeIn (now graph)) × (length (now marks) ≡ 128) ⌝ }
     ensures { λ r. ⌜ (let n = sizeIn (now (graph .entry)) in
-        Visits (leave (joinIn doneNeighbours (now (graph .entry)) backward) b (visitedOf n (now (marks .entry)) (now (sets .entry)) (now (ws .entry)) changed))
+        Visits (leave (joinIn doneNeighbours (now (graph .entry)) backward) b
+        (visitedOf n (now (marks .entry)) (now (sets .entry)) (now (ws .entry)) changed))
         n r (now (marks .exit)) (now (sets .exit)) (now (ws .exit)) (now (optional .exit))) ⌝ }
 {
     let joined = join(
@@ -176,8 +195,9 @@ fn leave(
     joined
 }
 
-// `recursively_propagate_non_null` of an unmarked block: it is Active while its unmarked neighbours are visited. The work after them is
-// `leave`'s, called at two places, so that its locals are in no frame of the recursion.
+// `recursively_propagate_non_null` of an unmarked block: it is Active while its unmarked neighbours
+// are visited. The work after them is `leave`'s, called at two places, so that its locals are in no
+// frame of the recursion.
 fn visit(
     graph: &[u8; 10497],
     backward: bool,
@@ -189,9 +209,11 @@ fn visit(
     later: bool,
     changed: bool,
 ) -> Progress
-    requires { ⌜ Ready (now graph) (now sets) (now ws) (now optional) × ReducedBefore later (sizeIn (now graph)) (now sets) (now ws) × (b < sizeIn (now graph)) × (length (now marks) ≡ 128) × (getD (now marks) b 0 ≡ 0) ⌝ }
+    requires { ⌜ Ready (now graph) (now sets) (now ws) (now optional) × ReducedBefore later (sizeIn (now graph)) (now sets) (now ws)
+        × (b < sizeIn (now graph)) × (length (now marks) ≡ 128) × (getD (now marks) b 0 ≡ 0) ⌝ }
     ensures { λ r. ⌜ (let n = sizeIn (now (graph .entry)) in
-        Visits (visitIn doneNeighbours (now (graph .entry)) backward b (visitedOf n (now (marks .entry)) (now (sets .entry)) (now (ws .entry)) changed))
+        Visits (visitIn doneNeighbours (now (graph .entry)) backward b
+        (visitedOf n (now (marks .entry)) (now (sets .entry)) (now (ws .entry)) changed))
         n r (now (marks .exit)) (now (sets .exit)) (now (ws .exit)) (now (optional .exit))) ⌝ }
 {
     marks[b] = 1;
@@ -273,8 +295,9 @@ fn walk(
     Progress::Changed(so_far)
 }
 
-// A forward and a backward walk, of which the backward one is never the first. They start from no set changed; whether one had changed
-// before the round is not read, so the contract may say `true`.
+// A forward and a backward walk, of which the backward one is never the first. They start from no
+// set changed; whether one had changed before the round is not read, so the contract may say
+// `true`.
 fn round(
     graph: &[u8; 10497],
     marks: &mut [u8; 128],
@@ -285,7 +308,8 @@ fn round(
 ) -> Progress
     requires { ⌜ Ready (now graph) (now sets) (now ws) (now optional) × ReducedBefore later (sizeIn (now graph)) (now sets) (now ws) ⌝ }
     ensures { λ r. ⌜ (let n = sizeIn (now (graph .entry)) in
-        Joins (round reduceMaybeOptionalChains doneNeighbours (graphIn (now (graph .entry))) (workOf n (now (sets .entry)) (now (ws .entry)) true))
+        Joins (round reduceMaybeOptionalChains doneNeighbours (graphIn (now (graph .entry)))
+        (workOf n (now (sets .entry)) (now (ws .entry)) true))
         n r (now (sets .exit)) (now (ws .exit)) (now (optional .exit))) ⌝ }
 {
     let Progress::Changed(c) = walk(graph, false, marks, sets, ws, optional, later, false) else {
@@ -303,7 +327,8 @@ pub fn propagate_non_null(
 ) -> Propagated
     requires { ⌜ Ready (now graph) (now sets) (now ws) (now optional) ⌝ }
     ensures { λ r. ⌜ (let n = sizeIn (now (graph .entry)) in
-        Propagates (propagateNonNull doneNeighbours (graphIn (now (graph .entry))) (registryOf (now (ws .entry))) (rowsOf (now (sets .entry)) n))
+        Propagates (propagateNonNull doneNeighbours (graphIn (now (graph .entry))) (registryOf (now (ws .entry)))
+        (rowsOf (now (sets .entry)) n))
         n r (now (sets .exit)) (now (ws .exit)) (now (optional .exit))) ⌝ }
 {
     let mut marks = [0u8; 128];
@@ -315,13 +340,13 @@ pub fn propagate_non_null(
         };
         rounds += 1;
         if !changed {
-            return Propagated::Ran(Run {
+            return Propagated::Ran(RoundsRun {
                 rounds,
                 settled: true,
             });
         }
     }
-    Propagated::Ran(Run {
+    Propagated::Ran(RoundsRun {
         rounds,
         settled: false,
     })

@@ -39,7 +39,12 @@ module _ (ws : List ℕ) (r : PassSet) (k : NodeId) where
   wanted = reduceNode (passOf reg r) k
 
   abbrev from : Reached → PassState
-  from a = record { registry = a .registry; set = cond (sameNode (a .node) k) s (insert (a .node) (remove k s)); changed = r .changed || not (sameNode (a .node) k) }
+  from a = record {
+    registry = a .registry;
+    set = cond (sameNode (a .node) k) s (insert (a .node) (remove k s));
+    changed = r .changed || not
+        (sameNode (a .node) k);
+  }
 
   is-from : wanted ≡ from at
   unfolding reduceNode
@@ -50,7 +55,8 @@ module _ (ws : List ℕ) (r : PassSet) (k : NodeId) where
 
   module _ (vs : List ℕ) (q : NodeId) (walked : at ≡ record { registry = registryOf vs; node = q }) where
     pub node-inside : Sound reg → countIn vs ≤ 512 → q .0 < 512
-    node-inside h room = let size = registry-length vs in let l = subst Proper walked (path-proper (reducedMark s) reg (fullPathOf reg k) h) .inside in omega arith
+    node-inside h room = let size = registry-length vs in let l = subst Proper walked
+        (path-proper (reducedMark s) reg (fullPathOf reg k) h) .inside in omega arith
 
     pub node-same : q .0 ≡ k .0 → wanted ≡ record { registry = registryOf vs; set = s; changed = r .changed }
     node-same e =
@@ -92,7 +98,8 @@ module _ (ws os snapshot : List ℕ) (set : NodeBits) (held : Held ws os) (membe
   along-start = record {
     held = held;
     room = refl;
-    inside = rw marked (all-select (λ k. k .0 < countIn ws) (hasOptional (registryOf ws)) (membersOf (set .words)) (subst (λ n. All (λ k. k .0 < n) (membersOf (set .words))) (registry-length ws) (members .inside)));
+    inside = rw marked (all-select (λ k. k .0 < countIn ws) (hasOptional (registryOf ws)) (membersOf (set .words))
+        (subst (λ n. All (λ k. k .0 < n) (membersOf (set .words))) (registry-length ws) (members .inside)));
     left = ap (reduceNodes (record { registry = registryOf ws; set = membersOf (set .words); changed = false })) marked;
   }
 

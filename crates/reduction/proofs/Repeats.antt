@@ -13,7 +13,17 @@ use Rattle.model.specs.Sets.{NodeSet}
 use Rattle.model.specs.Registry.{nodeLimit, PropertyPathRegistry}
 use Rattle.model.specs.RegistryLaws.{Extends, extends-length}
 use Rattle.model.specs.Reduction.{PassState, Reduced, leftBy, pass, optionalMarksOf, reduceMaybeOptionalChains}
-use Rattle.model.specs.ReductionLaws.{Members, members-extends, pass-extends, pass-shrunk, pass-less, reduction-extends, reduction-repeats, reduced-extends, reduced-already}
+use Rattle.model.specs.ReductionLaws.{
+  Members,
+  members-extends,
+  pass-extends,
+  pass-shrunk,
+  pass-less,
+  reduction-extends,
+  reduction-repeats,
+  reduced-extends,
+  reduced-already,
+}
 use Rattle.reduction.specs.declared.PassSet.{PassSet}
 use Rattle.reduction.specs.declared.ReducedSet.{ReducedSet}
 use Rattle.reduction.specs.Reduces.{KnownReduced, passOf, Passes, reducedOf, ReducesBy, Reduces}
@@ -87,7 +97,8 @@ module _ {end : Reduced} {ws os : List ℕ} {r : PassSet} (a : Repeating end ws 
             members = subst (λ (x : PassState). Members (x .registry) (x .set)) (to .1) (pass-shrunk reg s (a .held .sound) (a .members) .members);
             room = e;
             left = decide (q .changed)
-                (λ t. ap (onwards (registryOf vs) q) t ∙ ap (λ (x : PassState). reduceMaybeOptionalChains (x .registry) (x .set)) (sym (to .1)) ∙ sym (on .0 (flag ∙ t)) ∙ whole)
+                (λ t. ap (onwards (registryOf vs) q) t ∙ ap (λ (x : PassState). reduceMaybeOptionalChains (x .registry) (x .set)) (sym (to .1)) ∙ sym
+                (on .0 (flag ∙ t)) ∙ whole)
                 (λ t. ap (onwards (registryOf vs) q) t ∙ ap leftBy (sym (to .1)) ∙ sym (on .1 (flag ∙ t)) ∙ whole);
           }
 
@@ -99,7 +110,8 @@ module _ {end : Reduced} {ws os : List ℕ} {r : PassSet} (a : Repeating end ws 
           (members-extends t longer (held .0), reduced-extends reg t (a .held .sound) (held .0) longer (held .1))
 
       -- the pass left a set that is known to be reduced
-      pub repeating-known : {known : Bool} (t : NodeBits) → KnownReduced known reg (membersOf (t .words)) → known ≡ true → membersOf (t .words) ≡ membersOf (q .set .words)
+      pub repeating-known : {known : Bool} (t : NodeBits) → KnownReduced known reg (membersOf (t .words)) → known ≡ true → membersOf
+          (t .words) ≡ membersOf (q .set .words)
           → Reduces end (record { set = t; full = false }) vs ps
       repeating-known {known} t k e same =
           let after = known-more {known = known} (membersOf (t .words)) k e in

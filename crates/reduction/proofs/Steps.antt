@@ -14,14 +14,50 @@ use Rattle.entries.specs.declared.DependencyPathEntry.{DependencyPathEntry}
 use Rattle.rows.specs.Members.{membersOf}
 use Rattle.registry.specs.declared.Node.{Node}
 use Rattle.registry.specs.declared.Node.the-variants.{Root, Child}
-use Rattle.registry.specs.declared.Entered.{Entered}
-use Rattle.registry.specs.declared.Entered.the-variants.{At, Full}
+use Rattle.registry.specs.declared.NodeEntered.{NodeEntered}
+use Rattle.registry.specs.declared.NodeEntered.the-variants.{At, Full}
 use Rattle.registry.specs.Nodes.{originOf}
-use Rattle.registry.specs.Words.{nodeAt, countIn, registryOf, Held, Arrives}
+use Rattle.registry.specs.Words.{storedNode, countIn, registryOf, Held, Arrives}
 use Rattle.registry.proofs.View.{registry-length, origin-at}
-use Rattle.model.specs.Registry.{nodeLimit, PropertyPathRegistry, PropertyPathNode, Reached, Origin, root, childOf, find, findOrMake, fullPathOf, withOptional, getOrCreatePropertyEntry, isChild, isChildBy, childNode, walkPath}
+use Rattle.model.specs.Registry.{
+  nodeLimit,
+  PropertyPathRegistry,
+  PropertyPathNode,
+  Reached,
+  Origin,
+  root,
+  childOf,
+  find,
+  findOrMake,
+  fullPathOf,
+  withOptional,
+  getOrCreatePropertyEntry,
+  isChild,
+  isChildBy,
+  childNode,
+  walkPath,
+}
 use Rattle.model.specs.RegistryLaws as Placed
-use Rattle.model.specs.RegistryLaws.{WasFound, WasMade, found-or-made, entry-optional, Sound, Proper, Extends, extends-length, find-extends, ensure-extends, path-extends, path-proper, found, stepFrom, again-root, again-child, child-after, child-found}
+use Rattle.model.specs.RegistryLaws.{
+  WasFound,
+  WasMade,
+  found-or-made,
+  entry-optional,
+  Sound,
+  Proper,
+  Extends,
+  extends-length,
+  find-extends,
+  ensure-extends,
+  path-extends,
+  path-proper,
+  found,
+  stepFrom,
+  again-root,
+  again-child,
+  child-after,
+  child-found,
+}
 use Rattle.model.specs.Sets.{NodeSet, sameNode}
 use Rattle.model.specs.Reduction.{reducedMark}
 use Rattle.model.specs.ReductionLaws.{LeadsBack, node-back}
@@ -30,22 +66,27 @@ use Rattle.reduction.specs.Reduces.{ChildAt, leadsBack}
 
 -- An answer by its case.
 
-pub arrived-at : (want : Reached) (r : Entered) (k : NodeId) (ws os : List ℕ) → r ≡ At k → Arrives want r ws os → Held ws os × (want ≡ record { registry = registryOf ws; node = k })
+pub arrived-at : (want : Reached) (r : NodeEntered) (k : NodeId) (ws os : List ℕ) → r ≡ At k → Arrives want r ws os → Held ws os ×
+    (want ≡ record { registry = registryOf ws; node = k })
 arrived-at want r k ws os e a = subst (λ x. Arrives want x ws os) e a
 
-pub arrived-full : (want : Reached) (r : Entered) (ws os : List ℕ) → r ≡ Full → Arrives want r ws os → nodeLimit < length (want .registry)
+pub arrived-full : (want : Reached) (r : NodeEntered) (ws os : List ℕ) → r ≡ Full → Arrives want r ws os → nodeLimit < length (want .registry)
 arrived-full want r ws os e a = subst (λ x. Arrives want x ws os) e a
 
 -- One entry.
 
-module _ (mark : NodeId → DependencyPathEntry → Bool) (reg : PropertyPathRegistry) (p q k : NodeId) (e : DependencyPathEntry) (o : Bool) (own : o ≡ mark q e) where
+module _ (mark : NodeId → DependencyPathEntry → Bool) (reg : PropertyPathRegistry) (p q k : NodeId) (e : DependencyPathEntry) (o : Bool)
+    (own : o ≡ mark q e) where
   -- the parent is where it was and the mark stays: the node is found
-  pub step-same : ChildAt reg p e k → q .0 ≡ p .0 → o ≡ e .optional → stepFrom mark (record { registry = reg; node = q }) e ≡ record { registry = reg; node = k }
+  pub step-same : ChildAt reg p e k → q .0 ≡ p .0 → o ≡ e .optional → stepFrom mark
+      (record { registry = reg; node = q }) e ≡ record { registry = reg; node = k }
   step-same c here kept =
       ap (λ b. getOrCreatePropertyEntry reg q (withOptional e b)) (sym own ∙ kept)
-      ∙ ap (λ (i : ℕ). getOrCreatePropertyEntry reg (record { 0 = i }) e) here ∙ found (isChildBy p e) (childNode p (fullPathOf reg p) e) reg k (c .inside) (c .first)
+      ∙ ap (λ (i : ℕ). getOrCreatePropertyEntry reg (record { 0 = i }) e) here ∙ found (isChildBy p e) (childNode p (fullPathOf reg p) e) reg k
+      (c .inside) (c .first)
 
-  pub step-made : (r : Entered) (ws os : List ℕ) → Arrives (getOrCreatePropertyEntry reg q (withOptional e o)) r ws os → Arrives (stepFrom mark (record { registry = reg; node = q }) e) r ws os
+  pub step-made : (r : NodeEntered) (ws os : List ℕ) → Arrives (getOrCreatePropertyEntry reg q (withOptional e o)) r ws os → Arrives
+      (stepFrom mark (record { registry = reg; node = q }) e) r ws os
   step-made r ws os a = subst (λ b. Arrives (getOrCreatePropertyEntry reg q (withOptional e b)) r ws os) own a
 
 -- One node more.
@@ -54,7 +95,7 @@ module _ (mark : NodeId → DependencyPathEntry → Bool) (reg : PropertyPathReg
 pub record Loaded (ws : List ℕ) (k : NodeId) (n : Node) : Type 0 where
   pub sound : Sound (registryOf ws)
   pub here : k .0 < countIn ws
-  pub loaded : n ≡ nodeAt ws (k .0)
+  pub loaded : n ≡ storedNode ws (k .0)
 
 module _ (mark : NodeId → DependencyPathEntry → Bool) {ws : List ℕ} {k : NodeId} {n : Node} (x : Loaded ws k n) where
   abbrev reg : PropertyPathRegistry
@@ -66,7 +107,7 @@ module _ (mark : NodeId → DependencyPathEntry → Bool) {ws : List ℕ} {k : N
   inside : k .0 < length reg
   inside = let size = registry-length ws in let l = x .here in omega arith
 
-  hangs : (m : Node) → n ≡ m → Rattle.model.specs.RegistryLaws.nodeAt reg (k .0) .origin ≡ originOf m
+  hangs : (m : Node) → n ≡ m → Rattle.model.specs.RegistryLaws.storedNode reg (k .0) .origin ≡ originOf m
   hangs m e = origin-at ws (k .0) (x .here) ∙ ap originOf (sym (x .loaded) ∙ e)
 
   pub walk-root : (i : IdentifierId) (r : Bool) (s : ℕ) → n ≡ Root i r s → again k ≡ record { registry = reg; node = k }
@@ -83,7 +124,8 @@ module _ (mark : NodeId → DependencyPathEntry → Bool) {ws : List ℕ} {k : N
     pub walk-full : nodeLimit < length (again p .registry) → nodeLimit < length (again k .registry)
     walk-full full =
         let o = withOptional e (mark (again p .node) e) in
-        let longer = extends-length (ensure-extends (isChildBy (again p .node) o) (childNode (again p .node) (fullPathOf (again p .registry) (again p .node)) o) (again p .registry)) in
+        let longer = extends-length (ensure-extends (isChildBy (again p .node) o)
+        (childNode (again p .node) (fullPathOf (again p .registry) (again p .node)) o) (again p .registry)) in
         let same = ap (λ (y : Reached). length (y .registry)) on in
         omega arith
 
@@ -101,7 +143,8 @@ module _ (mark : NodeId → DependencyPathEntry → Bool) {ws : List ℕ} {k : N
           let longer = extends-length extends in
           record { inside = omega arith; first = find-extends (isChildBy p e) extends (omega arith) ∙ f }
 
-      pub walk-child : (r : Entered) (us os : List ℕ) → Arrives (stepFrom mark (record { registry = registryOf vs; node = q }) e) r us os → Arrives (again k) r us os
+      pub walk-child : (r : NodeEntered) (us os : List ℕ) → Arrives (stepFrom mark (record { registry = registryOf vs; node = q }) e) r us os → Arrives
+          (again k) r us os
       walk-child r us os a = subst (λ (y : Reached). Arrives y r us os) (ap (λ (y : Reached). stepFrom mark y e) (sym walked) ∙ sym on) a
 
     -- the parent's walk leads back to it, and the entry keeps its mark
@@ -128,7 +171,8 @@ module _ (mark : NodeId → DependencyPathEntry → Bool) {ws : List ℕ} {k : N
         to : findOrMake wanted new (again p .registry) ≡ record { registry = reg; node = k }
         to = sym on ∙ back
 
-        go : WasFound wanted new (again p .registry) ⊎ WasMade wanted new (again p .registry) → (again p ≡ record { registry = reg; node = p }) × (mark p e ≡ e .optional)
+        go : WasFound wanted new (again p .registry) ⊎ WasMade wanted new (again p .registry) → (again p ≡ record { registry = reg; node = p }) ×
+            (mark p e ≡ e .optional)
         go (inr m) =
             let longer = extends-length (path-extends mark reg (fullPathOf reg p)) in
             let more = ap length (m .appended) ∙ length-append (again p .registry) (new ∷ []) in
@@ -137,20 +181,24 @@ module _ (mark : NodeId → DependencyPathEntry → Bool) {ws : List ℕ} {k : N
         go (inl f) =
             let same : again p .registry ≡ reg = sym (f .same) ∙ ap (λ (y : Reached). y .registry) to in
             let number : find wanted (again p .registry) ≡ k .0 = ap (λ (y : Reached). y .node .0) to in
-            let passes : wanted (Placed.nodeAt reg (k .0)) ≡ true =
-            ap (λ (r : PropertyPathRegistry). wanted (Placed.nodeAt r (k .0))) (sym same) ∙ ap (λ (i : ℕ). wanted (Placed.nodeAt (again p .registry) i)) (sym number) ∙ f .passes in
-            let child-test : isChild reached marked (childOf p e) ≡ true = subst (λ (y : Origin). isChild reached marked y ≡ true) (hangs (Child p e) child) passes in
+            let passes : wanted (Placed.storedNode reg (k .0)) ≡ true =
+            ap (λ (r : PropertyPathRegistry). wanted (Placed.storedNode r (k .0))) (sym same) ∙ ap
+            (λ (i : ℕ). wanted (Placed.storedNode (again p .registry) i)) (sym number) ∙ f .passes in
+            let child-test : isChild reached marked (childOf p e) ≡ true = subst (λ (y : Origin). isChild reached marked y ≡ true)
+            (hangs (Child p e) child) passes in
             let parent : p .0 ≡ reached .0 = eqb-true (p .0) (reached .0) (and-first (eqb (p .0) (reached .0)) _ child-test) in
             let kept : e .optional ≡ mark reached e = entry-optional e marked (and-second (eqb (p .0) (reached .0)) _ child-test) in
             (λ i. record { registry = same i; node = record { 0 = sym parent i } }, ap (λ (i : ℕ). mark (record { 0 = i }) e) parent ∙ sym kept)
 
--- A node that is reached from parent to parent: its path leads back to it where that of the first node does, and the other way round.
+-- A node that is reached from parent to parent: its path leads back to it where that of the first
+-- node does, and the other way round.
 pub record Climbing (ws : List ℕ) (s : NodeSet) (k at : NodeId) : Type 0 where
   pub inside : at .0 < countIn ws
   pub on : LeadsBack (registryOf ws) s at → LeadsBack (registryOf ws) s k
   pub down : LeadsBack (registryOf ws) s k → LeadsBack (registryOf ws) s at
 
-module _ {ws : List ℕ} {s : NodeSet} {k at : NodeId} (x : Climbing ws s k at) (sound : Sound (registryOf ws)) {n : Node} (loaded : n ≡ nodeAt ws (at .0)) where
+module _ {ws : List ℕ} {s : NodeSet} {k at : NodeId} (x : Climbing ws s k at) (sound : Sound (registryOf ws)) {n : Node}
+    (loaded : n ≡ storedNode ws (at .0)) where
   here : Loaded ws at n
   here = record { sound = sound; here = x .inside; loaded = loaded }
 

@@ -1,4 +1,5 @@
-// `reduce_maybe_optional_chains`: passes over a set's nodes with an optional entry until one changes nothing.
+// `reduce_maybe_optional_chains`: passes over a set's nodes with an optional entry until one
+// changes nothing.
 ghost use mathlib.Core.Path.{_≡_};
 ghost use Prim.Native.Nat.{_<_};
 ghost use Rattle.entries.specs.declared.NodeId.{NodeId};
@@ -11,14 +12,15 @@ ghost use Rattle.model.specs.ReductionLaws.{Members};
 ghost use Rattle.reduction.specs.Reduces.{ChildAt, leadsBack, KnownReduced, passOf, Passes, Reduces};
 use entries::DependencyPathEntry;
 use entries::NodeId;
-use registry::Entered;
 use registry::Node;
+use registry::NodeEntered;
 use registry::get_or_create_property_entry;
 use registry::load;
 use rows::Next;
 use rows::NodeBits;
 
-// A set as a pass has it so far, whether the pass has changed it, and whether the registry had no room on the way.
+// A set as a pass has it so far, whether the pass has changed it, and whether the registry had no
+// room on the way.
 struct PassSet {
     set: NodeBits,
     changed: bool,
@@ -39,8 +41,8 @@ fn reduced_mark(set: NodeBits, k: NodeId, e: DependencyPathEntry) -> bool
     if e.optional { !set.contains(k) } else { false }
 }
 
-// From q on by the entry e, under its mark there. Node k is the child of p by e: where q is p and the mark stays, there is nothing to look
-// for.
+// From q on by the entry e, under its mark there. Node k is the child of p by e: where q is p and
+// the mark stays, there is nothing to look for.
 fn step(
     ws: &mut [u64; 1665],
     optional: &mut [u64; 8],
@@ -49,9 +51,10 @@ fn step(
     p: NodeId,
     e: DependencyPathEntry,
     q: NodeId,
-) -> Entered
+) -> NodeEntered
     requires { ⌜ Held (now ws) (now optional) × (q .0 < countIn (now ws)) × ChildAt (registryOf (now ws)) p e k ⌝ }
-    ensures { λ r. ⌜ Arrives (stepFrom (reducedMark (membersOf (set .words))) (record { registry = registryOf (now (ws .entry)); node = q }) e) r (now (ws .exit)) (now (optional .exit)) ⌝ }
+    ensures { λ r. ⌜ Arrives (stepFrom (reducedMark (membersOf (set .words)))
+        (record { registry = registryOf (now (ws .entry)); node = q }) e) r (now (ws .exit)) (now (optional .exit)) ⌝ }
 {
     let property = e.property;
     let marked = e.optional;
@@ -59,7 +62,7 @@ fn step(
     let kept = reduced_mark(set, q, e);
     if q.0 == p.0 {
         if kept == marked {
-            return Entered::At(k);
+            return NodeEntered::At(k);
         }
     }
     get_or_create_property_entry(
@@ -80,24 +83,25 @@ pub fn walk_again(
     optional: &mut [u64; 8],
     set: NodeBits,
     k: NodeId,
-) -> Entered
+) -> NodeEntered
     requires { ⌜ Held (now ws) (now optional) × (k .0 < countIn (now ws)) ⌝ }
-    ensures { λ r. ⌜ Arrives (walkPath (reducedMark (membersOf (set .words))) (registryOf (now (ws .entry))) (fullPathOf (registryOf (now (ws .entry))) k)) r (now (ws .exit)) (now (optional .exit)) ⌝ }
+    ensures { λ r. ⌜ Arrives (walkPath (reducedMark (membersOf (set .words))) (registryOf (now (ws .entry)))
+        (fullPathOf (registryOf (now (ws .entry))) k)) r (now (ws .exit)) (now (optional .exit)) ⌝ }
 {
     let n = load(ws, k);
     match n {
-        Node::Root(_, _, _) => Entered::At(k),
+        Node::Root(_, _, _) => NodeEntered::At(k),
         Node::Child(p, e) => {
-            let Entered::At(q) = walk_again(ws, optional, set, p) else {
-                return Entered::Full;
+            let NodeEntered::At(q) = walk_again(ws, optional, set, p) else {
+                return NodeEntered::Full;
             };
             step(ws, optional, set, k, p, e, q)
         }
     }
 }
 
-// Whether the path of node k, walked again under the marks that the set leaves, leads back to k: each optional entry keeps its mark. This
-// goes up the parents and searches nothing.
+// Whether the path of node k, walked again under the marks that the set leaves, leads back to k:
+// each optional entry keeps its mark. This goes up the parents and searches nothing.
 fn leads_back(ws: &[u64; 1665], set: NodeBits, k: NodeId) -> bool
     requires { ⌜ HoldsRegistry (now ws) × (k .0 < countIn (now ws)) ⌝ }
     ensures { λ r. ⌜ r ≡ leadsBack (registryOf (now (ws .entry))) (membersOf (set .words)) k ⌝ }
@@ -118,14 +122,15 @@ fn leads_back(ws: &[u64; 1665], set: NodeBits, k: NodeId) -> bool
     }
 }
 
-// One node of a pass: where its path leads elsewhere now, the node that it leads to takes its place at once.
+// One node of a pass: where its path leads elsewhere now, the node that it leads to takes its place
+// at once.
 fn reduce_node(ws: &mut [u64; 1665], optional: &mut [u64; 8], r: PassSet, k: NodeId) -> PassSet
     requires { ⌜ Held (now ws) (now optional) × (k .0 < countIn (now ws)) ⌝ }
     ensures { λ s. ⌜ Passes (reduceNode (passOf (registryOf (now (ws .entry))) r) k) s (now (ws .exit)) (now (optional .exit)) ⌝ }
 {
     let set = r.set;
     let changed = r.changed;
-    let Entered::At(q) = walk_again(ws, optional, set, k) else {
+    let NodeEntered::At(q) = walk_again(ws, optional, set, k) else {
         return PassSet {
             set,
             changed,
@@ -148,8 +153,8 @@ fn reduce_node(ws: &mut [u64; 1665], optional: &mut [u64; 8], r: PassSet, k: Nod
     }
 }
 
-// The set's nodes with an optional entry, ascending, as they are at the start. One whose path leads back to it is passed over, since
-// walking it again would change nothing and make nothing.
+// The set's nodes with an optional entry, ascending, as they are at the start. One whose path leads
+// back to it is passed over, since walking it again would change nothing and make nothing.
 fn pass(ws: &mut [u64; 1665], optional: &mut [u64; 8], set: NodeBits) -> PassSet
     requires { ⌜ Held (now ws) (now optional) × Members (registryOf (now ws)) (membersOf (set .words)) ⌝ }
     ensures { λ r. ⌜ Passes (pass (registryOf (now (ws .entry))) (membersOf (set .words))) r (now (ws .exit)) (now (optional .exit)) ⌝ }
@@ -179,8 +184,8 @@ fn pass(ws: &mut [u64; 1665], optional: &mut [u64; 8], set: NodeBits) -> PassSet
     r
 }
 
-// Passes until one changes nothing. Where `known` says that the set `before` is reduced, a pass that leaves that set is the last: the next
-// would change nothing and make nothing.
+// Passes until one changes nothing. Where `known` says that the set `before` is reduced, a pass
+// that leaves that set is the last: the next would change nothing and make nothing.
 pub fn reduce_maybe_optional_chains(
     ws: &mut [u64; 1665],
     optional: &mut [u64; 8],
@@ -188,8 +193,10 @@ pub fn reduce_maybe_optional_chains(
     before: NodeBits,
     known: bool,
 ) -> ReducedSet
-    requires { ⌜ Held (now ws) (now optional) × Members (registryOf (now ws)) (membersOf (set .words)) × KnownReduced known (registryOf (now ws)) (membersOf (before .words)) ⌝ }
-    ensures { λ r. ⌜ Reduces (reduceMaybeOptionalChains (registryOf (now (ws .entry))) (membersOf (set .words))) r (now (ws .exit)) (now (optional .exit)) ⌝ }
+    requires { ⌜ Held (now ws) (now optional) × Members (registryOf (now ws)) (membersOf (set .words)) × KnownReduced known
+        (registryOf (now ws)) (membersOf (before .words)) ⌝ }
+    ensures { λ r. ⌜ Reduces (reduceMaybeOptionalChains (registryOf (now (ws .entry))) (membersOf (set .words))) r (now (ws .exit))
+        (now (optional .exit)) ⌝ }
 {
     let mut r = PassSet {
         set,

@@ -58,7 +58,8 @@ module _ (reg : PropertyPathRegistry) (n : Node) (os : NodeSet) (noted : (k : No
   at-old : (j : NodeId) → ¬ (j .0 ≡ length reg) → hasOptional more j ≡ hasOptional reg j
   at-old j other =
       decide (lib.Dec.ltb (j .0) (length reg))
-      (λ l. ap (λ (m : PropertyPathNode). anyOf optional? (m .fullPath .path)) (List·getD-append reg (nodeOver reg n ∷ []) _ (j .0) (Rattle.model.specs.Tests.ltb-true (j .0) (length reg) l)))
+      (λ l. ap (λ (m : PropertyPathNode). anyOf optional? (m .fullPath .path))
+      (List·getD-append reg (nodeOver reg n ∷ []) _ (j .0) (Rattle.model.specs.Tests.ltb-true (j .0) (length reg) l)))
       (λ l.
       let past = Rattle.model.specs.Tests.ltb-false (j .0) (length reg) l in
       let size = length-append reg (nodeOver reg n ∷ []) in
@@ -81,7 +82,8 @@ module _ (reg : PropertyPathRegistry) (n : Node) (os : NodeSet) (noted : (k : No
       (λ o. rw o (noted j ∙ sym other)))
 
 -- of the words
-pub noted-new : (ws vs os ps : List ℕ) (n : Node) (k : NodeId) → Held ws os → k .0 ≡ countIn ws → nodesOf vs ≡ nodesOf ws ++ (n ∷ []) → membersOf ps ≡ notedWith (membersOf os) n k
+pub noted-new : (ws vs os ps : List ℕ) (n : Node) (k : NodeId) → Held ws os → k .0 ≡ countIn ws → nodesOf vs ≡ nodesOf ws ++ (n ∷ [])
+    → membersOf ps ≡ notedWith (membersOf os) n k
     → (j : NodeId) → contains (membersOf ps) j ≡ hasOptional (registryOf vs) j
 noted-new ws vs os ps n k h e nodes members j =
     ap (λ s. contains s j) members ∙ noted-more (registryOf ws) n (membersOf os) (h .noted) k (e ∙ sym (registry-length ws)) j

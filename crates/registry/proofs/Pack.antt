@@ -1,4 +1,5 @@
--- A node that is packed into three words and unpacked again is the node: each field stands in bits of its own.
+-- A node that is packed into three words and unpacked again is the node: each field stands in bits
+-- of its own.
 use Prim.Native.Nat.{ℕ, _+_, _*_, _/_, _%_, _<_}
 use native.Mathlib.Omega.{arith}
 use mathlib.Core.Bool.{Bool, true, false}
@@ -46,9 +47,17 @@ packed-root i reactive span r i< e r< =
     let p< : 65535 < 65536 = omega arith in
     let z< : 0 < 2 = omega arith in
     let same : i .0 + 65535 * 4294967296 + r * 4 * 281474976710656 ≡ i .0 + 65535 * 4294967296 + (0 + 0 * 2 + r * 4) * 281474976710656 = omega arith in
-    rw (same, at-parent (i .0) 65535 0 0 r i< p< z< z< r<, at-identifier (i .0) 65535 0 0 r i< p< z< z< r<, at-reactive (i .0) 65535 0 0 r i< p< z< z< r<, e, flag-back)
+    rw (
+      same,
+      at-parent (i .0) 65535 0 0 r i< p< z< z< r<,
+      at-identifier (i .0) 65535 0 0 r i< p< z< z< r<,
+      at-reactive (i .0) 65535 0 0 r i< p< z< z< r<,
+      e,
+      flag-back,
+    )
 
-pub packed-child : (p : NodeId) (e : DependencyPathEntry) (o k : ℕ) → p .0 < rootMark → o ≡ flag (e .optional) → o < 2 → k ≡ flag (isNumber (e .property)) → k < 2
+pub packed-child : (p : NodeId) (e : DependencyPathEntry) (o k : ℕ) → p .0 < rootMark → o ≡ flag (e .optional) → o < 2 → k ≡ flag (isNumber (e .property))
+    → k < 2
     → unpack (p .0 * 4294967296 + (o + k * 2) * 281474976710656) (valueOf (e .property)) (e .span) ≡ Child p e
 unfolding unpack
 packed-child p e o k p< eo o< ek k< =
@@ -57,12 +66,25 @@ packed-child p e o k p< eo o< ek k< =
     let z< : 0 < 2 = omega arith in
     let same : p .0 * 4294967296 + (o + k * 2) * 281474976710656 ≡ 0 + p .0 * 4294967296 + (o + k * 2 + 0 * 4) * 281474976710656 = omega arith in
     let no-root : eqb (p .0) rootMark ≡ false = eqb-apart (p .0) rootMark (λ same. omega arith) in
-    rw (same, at-parent 0 (p .0) o k 0 i< q< o< k< z<, no-root, at-parent 0 (p .0) o k 0 i< q< o< k< z<, at-optional 0 (p .0) o k 0 i< q< o< k< z<, at-number 0 (p .0) o k 0 i< q< o< k< z<, eo, ek, flag-back, flag-back, property-back)
+    rw (
+      same,
+      at-parent 0 (p .0) o k 0 i< q< o< k< z<,
+      no-root,
+      at-parent 0 (p .0) o k 0 i< q< o< k< z<,
+      at-optional 0 (p .0) o k 0 i< q< o< k< z<,
+      at-number 0 (p .0) o k 0 i< q< o< k< z<,
+      eo,
+      ek,
+      flag-back,
+      flag-back,
+      property-back,
+    )
 
 pub packs-child : {n : Node} {p : NodeId} {e : DependencyPathEntry} → ParentFits n → n ≡ Child p e → p .0 < rootMark
 packs-child h e = subst ParentFits e h
 
--- The link stands above all fields: unpacking passes it over, and division by its unit gives it back.
+-- The link stands above all fields: unpacking passes it over, and division by its unit gives it
+-- back.
 
 module _ (h link : ℕ) where
   past-link-48 : (h + link * 2251799813685248) / 281474976710656 ≡ h / 281474976710656 + link * 8

@@ -11,7 +11,7 @@ use lib.ListN.{length, getD, set, length-set}
 use lib.Seq.{getD-set-same, getD-set-other, lt-length-set}
 use Rattle.registry.specs.declared.Node.{Node}
 use Rattle.registry.specs.Nodes.{sameKey, findNode}
-use Rattle.registry.specs.Words.{linkUnit, unpack, nodeAt, linkAt, endIn, countIn, nodesFrom, nodesOf}
+use Rattle.registry.specs.Words.{linkUnit, unpack, storedNode, linkAt, endIn, countIn, nodesFrom, nodesOf}
 
 nodes-length : (ws : List ℕ) (k n : ℕ) → length (nodesFrom ws k n) ≡ n
 nodes-length ws k zero = refl
@@ -21,22 +21,22 @@ pub nodesOf-length : (ws : List ℕ) → length (nodesOf ws) ≡ countIn ws
 unfolding nodesOf
 nodesOf-length ws = nodes-length ws 0 (countIn ws)
 
-nodes-at : (ws : List ℕ) (k n i : ℕ) (d : Node) → i < n → getD (nodesFrom ws k n) i d ≡ nodeAt ws (k + i)
+nodes-at : (ws : List ℕ) (k n i : ℕ) (d : Node) → i < n → getD (nodesFrom ws k n) i d ≡ storedNode ws (k + i)
 nodes-at ws k zero i d l = absurd (not-suc-le-zero l)
 nodes-at ws k (suc n) zero d l = rw (add-zero k)
 nodes-at ws k (suc n) (suc i) d l = let e : k + suc i ≡ suc k + i = omega arith in rw e (nodes-at ws (suc k) n i d (omega arith))
 
-pub nodesOf-at : (ws : List ℕ) (k : ℕ) → k < countIn ws → getD (nodesOf ws) k (nodeAt ws k) ≡ nodeAt ws k
+pub nodesOf-at : (ws : List ℕ) (k : ℕ) → k < countIn ws → getD (nodesOf ws) k (storedNode ws k) ≡ storedNode ws k
 unfolding nodesOf
-nodesOf-at ws k l = nodes-at ws 0 (countIn ws) k (nodeAt ws k) l ∙ ap (nodeAt ws) (zero-add k)
+nodesOf-at ws k l = nodes-at ws 0 (countIn ws) k (storedNode ws k) l ∙ ap (storedNode ws) (zero-add k)
 
-nodes-same : (ws vs : List ℕ) (k n : ℕ) → ((j : ℕ) → j < k + n → nodeAt ws j ≡ nodeAt vs j) → nodesFrom ws k n ≡ nodesFrom vs k n
+nodes-same : (ws vs : List ℕ) (k n : ℕ) → ((j : ℕ) → j < k + n → storedNode ws j ≡ storedNode vs j) → nodesFrom ws k n ≡ nodesFrom vs k n
 nodes-same ws vs k zero h = refl
 nodes-same ws vs k (suc n) h = simp (h k (omega arith), nodes-same ws vs (suc k) n (λ j l. h j (omega arith)))
 
-nodes-snoc : (ws : List ℕ) (k n : ℕ) → nodesFrom ws k (suc n) ≡ nodesFrom ws k n ++ (nodeAt ws (k + n) ∷ [])
+nodes-snoc : (ws : List ℕ) (k n : ℕ) → nodesFrom ws k (suc n) ≡ nodesFrom ws k n ++ (storedNode ws (k + n) ∷ [])
 nodes-snoc ws k zero = rw (add-zero k)
-nodes-snoc ws k (suc n) = ap (λ (l : List Node). nodeAt ws k ∷ l) (let e : k + suc n ≡ suc k + n = omega arith in rw e (nodes-snoc ws (suc k) n))
+nodes-snoc ws k (suc n) = ap (λ (l : List Node). storedNode ws k ∷ l) (let e : k + suc n ≡ suc k + n = omega arith in rw e (nodes-snoc ws (suc k) n))
 
 -- a node in three words at place k, and k + 1 as the end of bucket b and as the number of nodes
 abbrev pub stored : List ℕ → ℕ → ℕ → ℕ → ℕ → ℕ → List ℕ
@@ -57,7 +57,7 @@ module _ (ws : List ℕ) (k b h v s : ℕ) (room : k < 512) (small : b < 128) (l
       let g : i ≢ 1536 = λ e. omega arith in
       simp getD-set-other
 
-  pub stored-below : (j : ℕ) → j < k → nodeAt (stored ws k b h v s) j ≡ nodeAt ws j
+  pub stored-below : (j : ℕ) → j < k → storedNode (stored ws k b h v s) j ≡ storedNode ws j
   stored-below j l = rw (elsewhere (j * 3) (omega arith), elsewhere (j * 3 + 1) (omega arith), elsewhere (j * 3 + 2) (omega arith))
 
   pub link-below : (j : ℕ) → j < k → linkAt (stored ws k b h v s) j ≡ linkAt ws j
@@ -87,7 +87,7 @@ module _ (ws : List ℕ) (k b h v s : ℕ) (room : k < 512) (small : b < 128) (l
       let l : k * 3 + 2 < length ws = omega arith in
       simp (getD-set-other, getD-set-same, lt-length-set)
 
-  pub stored-at : nodeAt (stored ws k b h v s) k ≡ unpack h v s
+  pub stored-at : storedNode (stored ws k b h v s) k ≡ unpack h v s
   stored-at = rw (first-word, second-word, third-word)
 
   pub stored-link : linkAt (stored ws k b h v s) k ≡ h / linkUnit
@@ -116,7 +116,8 @@ module _ (ws : List ℕ) (k b h v s : ℕ) (room : k < 512) (small : b < 128) (l
   pub stored-long : length (stored ws k b h v s) ≡ 1665
   stored-long = simp length-set long
 
-pub pushed : (ws : List ℕ) (b h v s : ℕ) (n : Node) → countIn ws < 512 → b < 128 → length ws ≡ 1665 → unpack h v s ≡ n → nodesOf (stored ws (countIn ws) b h v s) ≡ nodesOf ws ++ (n ∷ [])
+pub pushed : (ws : List ℕ) (b h v s : ℕ) (n : Node) → countIn ws < 512 → b < 128 → length ws ≡ 1665 → unpack h v s ≡ n
+    → nodesOf (stored ws (countIn ws) b h v s) ≡ nodesOf ws ++ (n ∷ [])
 unfolding nodesOf
 pushed ws b h v s n room small long e =
     ap (nodesFrom (stored ws (countIn ws) b h v s) 0) (stored-count ws (countIn ws) b h v s room small long ∙ add-one (countIn ws))
@@ -124,10 +125,10 @@ pushed ws b h v s n room small long e =
 
 -- Where no node has the key, the search gives how many there are.
 
-none-from : (ws : List ℕ) (n : Node) (k m : ℕ) → ((j : ℕ) → k ≤ j → j < k + m → sameKey (nodeAt ws j) n ≡ false) → findNode (nodesFrom ws k m) n ≡ m
+none-from : (ws : List ℕ) (n : Node) (k m : ℕ) → ((j : ℕ) → k ≤ j → j < k + m → sameKey (storedNode ws j) n ≡ false) → findNode (nodesFrom ws k m) n ≡ m
 none-from ws n k zero h = refl
 none-from ws n k (suc m) h = rw (h k (omega arith) (omega arith)) (ap suc (none-from ws n (suc k) m (λ j a l. h j (omega arith) (omega arith))))
 
-pub none-found : (ws : List ℕ) (n : Node) → ((j : ℕ) → j < countIn ws → sameKey (nodeAt ws j) n ≡ false) → findNode (nodesOf ws) n ≡ countIn ws
+pub none-found : (ws : List ℕ) (n : Node) → ((j : ℕ) → j < countIn ws → sameKey (storedNode ws j) n ≡ false) → findNode (nodesOf ws) n ≡ countIn ws
 unfolding nodesOf
 none-found ws n h = none-from ws n 0 (countIn ws) (λ j a l. h j (omega arith))

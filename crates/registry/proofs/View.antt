@@ -11,13 +11,14 @@ use lib.Dec.{eqb}
 use Rattle.entries.specs.declared.NodeId.{NodeId}
 use Rattle.entries.specs.Path.{sameEntry, ReactiveScopeDependency}
 use Rattle.model.specs.Tests.{never, eqb-true, and-first, and-second}
-use Rattle.model.specs.Registry.{nodeLimit, Origin, root, childOf, PropertyPathNode, PropertyPathRegistry, isRootFor, isChild, isChildBy, find, ensure, Reached, findOrMake}
-use Rattle.model.specs.RegistryLaws.{found-or-made, WasFound, WasMade, Stands, Sound, root-reached, child-reached, entry-property, entry-optional}
+use Rattle.model.specs.Registry.{nodeLimit, Origin, root, childOf, PropertyPathNode, PropertyPathRegistry, isRootFor, isChild, isChildBy, find, ensure, Reached}
+use Rattle.model.specs.Registry.{findOrMake}
+use Rattle.model.specs.RegistryLaws.{found-or-made, WasFound, WasMade, StandsAt, Sound, root-reached, child-reached, entry-property, entry-optional}
 use Rattle.model.specs.RegistryLaws as Placed
 use Rattle.registry.specs.declared.Node.{Node}
 use Rattle.registry.specs.declared.Node.the-variants.{Root, Child}
 use Rattle.registry.specs.Nodes.{sameKey, findNode, originOf, nodeOver, nodesOver, registryFrom, testFor, madeFor, Inside}
-use Rattle.registry.specs.Words.{ParentFits, nodeAt, countIn, nodesOf, registryOf}
+use Rattle.registry.specs.Words.{ParentFits, storedNode, countIn, nodesOf, registryOf}
 use Rattle.registry.proofs.Stored.{nodesOf-length, nodesOf-at}
 
 over-length : (before : PropertyPathRegistry) (ns : List Node) → length (nodesOver before ns) ≡ length ns
@@ -43,12 +44,15 @@ pub find-view : (ws : List ℕ) (n : Node) → find (testFor n) (registryOf ws) 
 unfolding registryOf registryFrom
 find-view ws n = find-over [] (nodesOf ws) n
 
-over-snoc : (before : PropertyPathRegistry) (ns : List Node) (n : Node) → nodesOver before (ns ++ (n ∷ [])) ≡ nodesOver before ns ++ (nodeOver (before ++ nodesOver before ns) n ∷ [])
+over-snoc : (before : PropertyPathRegistry) (ns : List Node) (n : Node)
+    → nodesOver before (ns ++ (n ∷ [])) ≡ nodesOver before ns ++ (nodeOver (before ++ nodesOver before ns) n ∷ [])
 over-snoc before [] n = ap (λ (b : PropertyPathRegistry). nodeOver b n ∷ []) (sym (append-nil before))
 over-snoc before (m ∷ ms) n =
     let here = nodeOver before m in
     ap (λ (r : PropertyPathRegistry). here ∷ r)
-    (over-snoc (before ++ (here ∷ [])) ms n ∙ ap (λ (b : PropertyPathRegistry). nodesOver (before ++ (here ∷ [])) ms ++ (nodeOver b n ∷ [])) (append-assoc before (here ∷ []) (nodesOver (before ++ (here ∷ [])) ms)))
+    (over-snoc (before ++ (here ∷ [])) ms n
+    ∙ ap (λ (b : PropertyPathRegistry). nodesOver (before ++ (here ∷ [])) ms ++ (nodeOver b n ∷ []))
+    (append-assoc before (here ∷ []) (nodesOver (before ++ (here ∷ [])) ms)))
 
 -- one node more in the words is one more in the model's registry
 pub registry-snoc : (ws vs : List ℕ) (n : Node) → nodesOf vs ≡ nodesOf ws ++ (n ∷ []) → registryOf vs ≡ registryOf ws ++ (nodeOver (registryOf ws) n ∷ [])
@@ -57,7 +61,8 @@ registry-snoc ws vs n e = ap (nodesOver []) e ∙ over-snoc [] (nodesOf ws) n
 
 -- A node of the model's registry hangs where the node in the words does.
 
-origin-over : (before : PropertyPathRegistry) (ns : List Node) (k : ℕ) (d : Node) → k < length ns → Placed.nodeAt (nodesOver before ns) k .origin ≡ originOf (getD ns k d)
+origin-over : (before : PropertyPathRegistry) (ns : List Node) (k : ℕ) (d : Node) → k < length ns
+    → Placed.storedNode (nodesOver before ns) k .origin ≡ originOf (getD ns k d)
 origin-over before [] k d l = absurd (not-suc-le-zero l)
 origin-over before (n ∷ ns) zero d l = go n
   where
@@ -66,9 +71,9 @@ origin-over before (n ∷ ns) zero d l = go n
     go (Child p e) = refl
 origin-over before (n ∷ ns) (suc k) d l = origin-over (before ++ (nodeOver before n ∷ [])) ns k d (omega arith)
 
-pub origin-at : (ws : List ℕ) (k : ℕ) → k < countIn ws → Placed.nodeAt (registryOf ws) k .origin ≡ originOf (nodeAt ws k)
+pub origin-at : (ws : List ℕ) (k : ℕ) → k < countIn ws → Placed.storedNode (registryOf ws) k .origin ≡ originOf (storedNode ws k)
 unfolding registryOf registryFrom
-origin-at ws k l = let size = nodesOf-length ws in origin-over [] (nodesOf ws) k (nodeAt ws k) (omega arith) ∙ ap originOf (nodesOf-at ws k l)
+origin-at ws k l = let size = nodesOf-length ws in origin-over [] (nodesOf ws) k (storedNode ws k) (omega arith) ∙ ap originOf (nodesOf-at ws k l)
 
 -- In a sound registry a node is the only one with its key, and so the first.
 
@@ -76,16 +81,18 @@ find-same : (t u : PropertyPathNode → Bool) (reg : PropertyPathRegistry) → (
 find-same t u [] h = refl
 find-same t u (n ∷ ns) h = rw (h n, find-same t u ns h)
 
-test-over : (before : PropertyPathRegistry) (ns : List Node) (k : ℕ) (d n : Node) → k < length ns → testFor n (Placed.nodeAt (nodesOver before ns) k) ≡ sameKey (getD ns k d) n
+test-over : (before : PropertyPathRegistry) (ns : List Node) (k : ℕ) (d n : Node) → k < length ns
+    → testFor n (Placed.storedNode (nodesOver before ns) k) ≡ sameKey (getD ns k d) n
 test-over before [] k d n l = absurd (not-suc-le-zero l)
 test-over before (m ∷ ms) zero d n l = test-key before m n
 test-over before (m ∷ ms) (suc k) d n l = test-over (before ++ (nodeOver before m ∷ [])) ms k d n (omega arith)
 
-test-at : (ws : List ℕ) (k : ℕ) (n : Node) → k < countIn ws → testFor n (Placed.nodeAt (registryOf ws) k) ≡ sameKey (nodeAt ws k) n
+test-at : (ws : List ℕ) (k : ℕ) (n : Node) → k < countIn ws → testFor n (Placed.storedNode (registryOf ws) k) ≡ sameKey (storedNode ws k) n
 unfolding registryOf registryFrom
-test-at ws k n l = let size = nodesOf-length ws in test-over [] (nodesOf ws) k (nodeAt ws k) n (omega arith) ∙ ap (λ m. sameKey m n) (nodesOf-at ws k l)
+test-at ws k n l = let size = nodesOf-length ws in test-over [] (nodesOf ws) k (storedNode ws k) n (omega arith) ∙ ap (λ m. sameKey m n) (nodesOf-at ws k l)
 
-sound-only : (reg : PropertyPathRegistry) (k : ℕ) (n : Node) (o : Origin) (d : ReactiveScopeDependency) → Stands reg k o d → testFor n (record { origin = o; fullPath = d }) ≡ true → find (testFor n) reg ≡ k
+sound-only : (reg : PropertyPathRegistry) (k : ℕ) (n : Node) (o : Origin) (d : ReactiveScopeDependency) → StandsAt reg k o d
+    → testFor n (record { origin = o; fullPath = d }) ≡ true → find (testFor n) reg ≡ k
 sound-only reg k (Root i r s) root d st t =
     let number : d .identifier .0 ≡ i .0 = eqb-true (d .identifier .0) (i .0) t in
     subst (λ x. find (isRootFor (record { 0 = x })) reg ≡ k) number (st .only)
@@ -103,16 +110,17 @@ sound-only reg k (Child p e) (childOf q f) d st t = find-same (isChildBy p e) (i
     alike root = refl
     alike (childOf x g) = rw (number, entry-property f e same, entry-optional f e same)
 
-pub found-at : (ws : List ℕ) (k : ℕ) (n : Node) → Sound (registryOf ws) → k < countIn ws → sameKey (nodeAt ws k) n ≡ true → findNode (nodesOf ws) n ≡ k
+pub found-at : (ws : List ℕ) (k : ℕ) (n : Node) → Sound (registryOf ws) → k < countIn ws → sameKey (storedNode ws k) n ≡ true → findNode (nodesOf ws) n ≡ k
 found-at ws k n h l t =
     let size = registry-length ws in
-    let m = Placed.nodeAt (registryOf ws) k in
+    let m = Placed.storedNode (registryOf ws) k in
     sym (find-view ws n) ∙ sound-only (registryOf ws) k n (m .origin) (m .fullPath) (h k (omega arith)) (test-at ws k n l ∙ t)
 
 -- What the model finds or makes.
 
 module _ (ws : List ℕ) (n : Node) where
-  pub made-found : findNode (nodesOf ws) n < countIn ws → madeFor (registryOf ws) n ≡ record { registry = registryOf ws; node = record { 0 = findNode (nodesOf ws) n } }
+  pub made-found : findNode (nodesOf ws) n < countIn ws
+      → madeFor (registryOf ws) n ≡ record { registry = registryOf ws; node = record { 0 = findNode (nodesOf ws) n } }
   made-found l = go (found-or-made (testFor n) (nodeOver (registryOf ws) n) (registryOf ws))
     where
       go : WasFound (testFor n) (nodeOver (registryOf ws) n) (registryOf ws) ⊎ WasMade (testFor n) (nodeOver (registryOf ws) n) (registryOf ws)
@@ -120,7 +128,8 @@ module _ (ws : List ℕ) (n : Node) where
       go (inl f) = λ i. record { registry = f .same i; node = record { 0 = find-view ws n i } }
       go (inr m) = absurd (let a = m .last in let b = find-view ws n in let c = registry-length ws in omega arith)
 
-  pub made-new : countIn ws ≤ findNode (nodesOf ws) n → madeFor (registryOf ws) n ≡ record { registry = registryOf ws ++ (nodeOver (registryOf ws) n ∷ []); node = record { 0 = countIn ws } }
+  pub made-new : countIn ws ≤ findNode (nodesOf ws) n
+      → madeFor (registryOf ws) n ≡ record { registry = registryOf ws ++ (nodeOver (registryOf ws) n ∷ []); node = record { 0 = countIn ws } }
   made-new l = go (found-or-made (testFor n) (nodeOver (registryOf ws) n) (registryOf ws))
     where
       go : WasFound (testFor n) (nodeOver (registryOf ws) n) (registryOf ws) ⊎ WasMade (testFor n) (nodeOver (registryOf ws) n) (registryOf ws)
@@ -141,14 +150,16 @@ module _ (ws : List ℕ) (n : Node) (k e : ℕ) (found : k ≡ findNode (nodesOf
   pub arrived-found : k < e → madeFor (registryOf ws) n ≡ record { registry = registryOf ws; node = record { 0 = k } }
   arrived-found l = rw found (made-found ws n (omega arith))
 
-  pub arrived-new : (vs : List ℕ) → e ≤ k → nodesOf vs ≡ nodesOf ws ++ (n ∷ []) → madeFor (registryOf ws) n ≡ record { registry = registryOf vs; node = record { 0 = e } }
+  pub arrived-new : (vs : List ℕ) → e ≤ k → nodesOf vs ≡ nodesOf ws ++ (n ∷ [])
+      → madeFor (registryOf ws) n ≡ record { registry = registryOf vs; node = record { 0 = e } }
   arrived-new vs l h = rw (counted, registry-snoc ws vs n h) (made-new ws n (omega arith))
 
   pub arrived-full : e ≤ k → nodeLimit ≤ e → nodeLimit < length (madeFor (registryOf ws) n .registry)
   arrived-full l f = made-full ws n (omega arith) (omega arith)
 
 -- a sound registry stays sound
-pub arrived-sound : (ws vs : List ℕ) (n : Node) (k : NodeId) → Sound (registryOf ws) → Inside n (countIn ws) → madeFor (registryOf ws) n ≡ record { registry = registryOf vs; node = k } → Sound (registryOf vs)
+pub arrived-sound : (ws vs : List ℕ) (n : Node) (k : NodeId) → Sound (registryOf ws) → Inside n (countIn ws)
+    → madeFor (registryOf ws) n ≡ record { registry = registryOf vs; node = k } → Sound (registryOf vs)
 arrived-sound ws vs n k h inside e = subst (λ (x : Reached). Sound (x .registry)) e (go n (subst (Inside n) (sym (registry-length ws)) inside))
   where
     go : (m : Node) → Inside m (length (registryOf ws)) → Sound (madeFor (registryOf ws) m .registry)

@@ -8,7 +8,8 @@ use Rattle.entries.specs.declared.NodeId.{NodeId}
 use Rattle.entries.specs.Path.{sameEntry}
 use Rattle.entries.specs.Property.{valueOf}
 use Rattle.model.specs.Sets.{NodeSet, contains, insert}
-use Rattle.model.specs.Registry.{PropertyPathNode, PropertyPathRegistry, isRootFor, isChildBy, Origin, root, childOf, Reached, findOrMake, rootNode, childNode, fullPathOf}
+use Rattle.model.specs.Registry.{PropertyPathNode, PropertyPathRegistry, isRootFor, isChildBy, Origin, root, childOf, Reached, findOrMake}
+use Rattle.model.specs.Registry.{rootNode, childNode, fullPathOf}
 use Rattle.registry.specs.declared.Node.{Node}
 use Rattle.registry.specs.declared.Node.the-variants.{Root, Child}
 
@@ -19,12 +20,15 @@ sameKey (Root i r s) (Child q f) = false
 sameKey (Child p e) (Root j q t) = false
 sameKey (Child p e) (Child q f) = eqb (p .0) (q .0) && sameEntry e f
 
--- The bucket in which a node is looked for, below 128: nodes with the same key have the same. A child's comes from its parent and its property's value. A number
--- as a property has the 64 bits of a float, of which a small integer uses the high ones, so that high and low bits are added. The factors are chosen
--- so that the buckets still differ where parents and values go up together, as along a chain of new names.
+-- The bucket in which a node is looked for, below 128: nodes with the same key have the same. A
+-- child's comes from its parent and its property's value. A number as a property has the 64 bits of
+-- a float, of which a small integer uses the high ones, so that high and low bits are added. The
+-- factors are chosen so that the buckets still differ where parents and values go up together, as
+-- along a chain of new names.
 abbrev pub bucketOf : Node → ℕ
 bucketOf (Root i r s) = i .0 % 128
-bucketOf (Child p e) = (p .0 % 65536 * 791547 + (valueOf (e .property) % 4294967296 + valueOf (e .property) / 70368744177664) * 597521) / 8192 % 128
+bucketOf (Child p e) =
+    (p .0 % 65536 * 791547 + (valueOf (e .property) % 4294967296 + valueOf (e .property) / 70368744177664) * 597521) / 8192 % 128
 
 -- a root, or the child of a node by an entry
 abbrev pub originOf : Node → Origin

@@ -1,4 +1,5 @@
--- The nodes that a list of words holds: three words a node, how many there are in word 1536, and behind it a word for each of the 128 buckets.
+-- The nodes that a list of words holds: three words a node, how many there are in word 1536, and
+-- behind it a word for each of the 128 buckets.
 use Prim.Native.Nat.{ℕ, zero, suc, _+_, _*_, _/_, _%_, _≤_, _<_}
 use mathlib.Core.Path.{_≡_}
 use mathlib.Core.Logic.{_≢_}
@@ -14,8 +15,8 @@ use Rattle.model.specs.Reduction.{hasOptional}
 use Rattle.entries.specs.Property.{propertyOf, valueOf}
 use Rattle.rows.specs.Members.{membersOf}
 use Rattle.registry.specs.declared.Node.{Node}
-use Rattle.registry.specs.declared.Entered.{Entered}
-use Rattle.registry.specs.declared.Entered.the-variants.{At, Full}
+use Rattle.registry.specs.declared.NodeEntered.{NodeEntered}
+use Rattle.registry.specs.declared.NodeEntered.the-variants.{At, Full}
 use Rattle.registry.specs.declared.Node.the-variants.{Root, Child}
 use Rattle.registry.specs.Nodes.{bucketOf, registryFrom}
 
@@ -34,8 +35,9 @@ abbrev pub spanIn : Node → ℕ
 spanIn (Root i r s) = s
 spanIn (Child p e) = e .span
 
--- The first word of a node: identifier (32 bits, of a root), parent (16 bits), optional and number (a bit each, of a child), reactive (a bit, of a root),
--- and the link above them; what a one in each part is worth.
+-- The first word of a node: identifier (32 bits, of a root), parent (16 bits), optional and number
+-- (a bit each, of a child), reactive (a bit, of a root), and the link above them; what a one in
+-- each part is worth.
 abbrev pub parentUnit : ℕ
 parentUnit = 4294967296
 
@@ -67,8 +69,8 @@ unfoldable pub unpack : ℕ → ℕ → ℕ → Node
 unpack head value span = unpackBy (eqb (head / parentUnit % 65536) rootMark) head value span
 
 -- Node k of the words.
-abbrev pub nodeAt : List ℕ → ℕ → Node
-nodeAt ws k = unpack (getD ws (k * 3) 0) (getD ws (k * 3 + 1) 0) (getD ws (k * 3 + 2) 0)
+abbrev pub storedNode : List ℕ → ℕ → Node
+storedNode ws k = unpack (getD ws (k * 3) 0) (getD ws (k * 3 + 1) 0) (getD ws (k * 3 + 2) 0)
 
 -- How many nodes the words hold.
 abbrev pub countIn : List ℕ → ℕ
@@ -76,7 +78,7 @@ countIn ws = getD ws 1536 0
 
 -- The bucket of node k of the words.
 abbrev pub bucketAt : List ℕ → ℕ → ℕ
-bucketAt ws k = bucketOf (nodeAt ws k)
+bucketAt ws k = bucketOf (storedNode ws k)
 
 -- The link of node k.
 abbrev pub linkAt : List ℕ → ℕ → ℕ
@@ -89,7 +91,7 @@ endIn ws b = getD ws (1537 + b) 0
 -- n nodes from number k on
 abbrev pub nodesFrom : List ℕ → ℕ → ℕ → List Node
 nodesFrom ws k zero = []
-nodesFrom ws k (suc n) = nodeAt ws k ∷ nodesFrom ws (suc k) n
+nodesFrom ws k (suc n) = storedNode ws k ∷ nodesFrom ws (suc k) n
 
 -- All nodes of the words.
 unfoldable pub nodesOf : List ℕ → List Node
@@ -104,13 +106,15 @@ pub record Sized (ws : List ℕ) : Type 0 where
   pub long : length ws ≡ 1665
   pub room : countIn ws ≤ nodeLimit
 
--- Of the nodes below number `limit`, e - 1 is the last one in bucket b, and where e is 0 there is none.
+-- Of the nodes below number `limit`, e - 1 is the last one in bucket b, and where e is 0 there is
+-- none.
 pub record BehindLast (ws : List ℕ) (b limit e : ℕ) : Type 0 where
   pub within : e ≤ limit
   pub last : (k : ℕ) → k + 1 ≡ e → bucketAt ws k ≡ b
   pub later : (j : ℕ) → e ≤ j → j < limit → bucketAt ws j ≢ b
 
--- The end of each bucket is behind its last node, and the link of each node behind the last one before it in its bucket.
+-- The end of each bucket is behind its last node, and the link of each node behind the last one
+-- before it in its bucket.
 pub record BucketsLinked (ws : List ℕ) : Type 0 where
   pub ends : (b : ℕ) → b < 128 → BehindLast ws b (countIn ws) (endIn ws b)
   pub links : (k : ℕ) → k < countIn ws → BehindLast ws (bucketAt ws k) k (linkAt ws k)
@@ -120,7 +124,8 @@ pub record HoldsRegistry (ws : List ℕ) : Type 0 where
   pub sized : Sized ws
   pub sound : Sound (registryOf ws)
 
--- The same, its nodes are linked, and the eight words `os` hold the set of its nodes with an optional entry.
+-- The same, its nodes are linked, and the eight words `os` hold the set of its nodes with an
+-- optional entry.
 pub record Held (ws os : List ℕ) : Type 0 where
   pub sized : Sized ws
   pub linked : BucketsLinked ws
@@ -131,7 +136,8 @@ pub record Held (ws os : List ℕ) : Type 0 where
 abbrev pub HoldsNone : List ℕ → List ℕ → Type 0
 HoldsNone ws os = Held ws os × (registryOf ws ≡ [])
 
--- What is reached: the words hold the registry that was to be reached, and the node is its number; or that registry has no room.
-abbrev pub Arrives : Reached → Entered → List ℕ → List ℕ → Type 0
+-- What is reached: the words hold the registry that was to be reached, and the node is its number;
+-- or that registry has no room.
+abbrev pub Arrives : Reached → NodeEntered → List ℕ → List ℕ → Type 0
 Arrives want (At k) ws os = Held ws os × (want ≡ record { registry = registryOf ws; node = k })
 Arrives want Full ws os = nodeLimit < length (want .registry)

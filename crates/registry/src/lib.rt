@@ -1,7 +1,8 @@
-// The registry of property paths: nodes numbered from 0 as made, in words that the caller lends: three words a node, and the number of
-// nodes behind them. A node is looked for among those of its bucket, of which there are 128. 128 more words say where each bucket's last
-// node is, and a node's first word where the one before it is. Eight words of their own are the set of the nodes with an optional entry, so
-// that a reduction finds them at once.
+// The registry of property paths: nodes numbered from 0 as made, in words that the caller lends:
+// three words a node, and the number of nodes behind them. A node is looked for among those of its
+// bucket, of which there are 128. 128 more words say where each bucket's last node is, and a node's
+// first word where the one before it is. Eight words of their own are the set of the nodes with an
+// optional entry, so that a reduction finds them at once.
 ghost use mathlib.Core.Path.{_≡_};
 ghost use Prim.Native.Nat.{_<_, _≤_};
 ghost use Rattle.model.specs.Registry.{getOrCreateIdentifier, getOrCreatePropertyEntry};
@@ -11,7 +12,19 @@ ghost use mathlib.Core.List.{_++_, _∷_, []};
 ghost use Rattle.registry.specs.declared.Node.the-variants.{Root, Child};
 ghost use Rattle.rows.specs.Members.{membersOf};
 ghost use Rattle.registry.specs.Nodes.{sameKey, bucketOf, findNode, madeFor, Inside, optionalOver, notedWith};
-ghost use Rattle.registry.specs.Words.{valueIn, spanIn, ParentFits, unpack, nodeAt, countIn, nodesOf, registryOf, linkUnit, linkAt, endIn, Sized, BucketsLinked, Held, Arrives};
+ghost use Rattle.registry.specs.Words.{
+  valueIn,
+  spanIn,
+  ParentFits,
+  unpack,
+  storedNode,
+  countIn,
+  nodesOf,
+  registryOf,
+  linkUnit,
+  linkAt,
+};
+ghost use Rattle.registry.specs.Words.{endIn, Sized, BucketsLinked, Held, Arrives};
 use entries::DependencyPathEntry;
 use entries::IdentifierId;
 use entries::NodeId;
@@ -82,8 +95,9 @@ fn bit(b: bool) -> u64
     if b { 1 } else { 0 }
 }
 
-// A node as three words, and back. The first word has the identifier (of a root) below the parent, and three marks above it, of which the
-// second is worth two of the first and the third four. Above them stands the link to the node before it in its bucket.
+// A node as three words, and back. The first word has the identifier (of a root) below the parent,
+// and three marks above it, of which the second is worth two of the first and the third four. Above
+// them stands the link to the node before it in its bucket.
 const PARENT: u64 = 4294967296;
 
 const OPTIONAL: u64 = 281474976710656;
@@ -167,13 +181,14 @@ pub fn count(ws: &[u64; 1665]) -> usize
 
 pub fn load(ws: &[u64; 1665], k: NodeId) -> Node
     requires { ⌜ k .0 < 512 ⌝ }
-    ensures { λ r. ⌜ r ≡ nodeAt (now (ws .entry)) (k .0) ⌝ }
+    ensures { λ r. ⌜ r ≡ storedNode (now (ws .entry)) (k .0) ⌝ }
 {
     let at = k.0 * 3;
     Node::unpack(ws[at], ws[at + 1], ws[at + 2])
 }
 
-// Where the words of the buckets start. An end is the number behind the last node of a bucket, and 0 where there is none.
+// Where the words of the buckets start. An end is the number behind the last node of a bucket, and
+// 0 where there is none.
 const ENDS: usize = 1537;
 
 // The end of bucket b.
@@ -195,7 +210,8 @@ fn link(ws: &[u64; 1665], k: usize) -> usize
 // One node more, which is the last of its bucket.
 fn push(ws: &mut [u64; 1665], n: Node)
     requires { ⌜ Sized (now ws) × BucketsLinked (now ws) × (countIn (now ws) < 512) × ParentFits n ⌝ }
-    ensures { λ _. ⌜ Sized (now (ws .exit)) × BucketsLinked (now (ws .exit)) × (nodesOf (now (ws .exit)) ≡ nodesOf (now (ws .entry)) ++ (n ∷ [])) ⌝ }
+    ensures { λ _. ⌜ Sized (now (ws .exit)) × BucketsLinked (now (ws .exit))
+        × (nodesOf (now (ws .exit)) ≡ nodesOf (now (ws .entry)) ++ (n ∷ [])) ⌝ }
 {
     let k = ws[1536] as usize;
     let at = k * 3;
@@ -208,8 +224,8 @@ fn push(ws: &mut [u64; 1665], n: Node)
     ws[1536] = (k + 1) as u64;
 }
 
-// The number of the node with the key of n, or how many there are. A key occurs once, so that the search may go from the last node of the
-// bucket to the first.
+// The number of the node with the key of n, or how many there are. A key occurs once, so that the
+// search may go from the last node of the bucket to the first.
 fn find(ws: &[u64; 1665], n: Node) -> usize
     requires { ⌜ Sized (now ws) × BucketsLinked (now ws) × Sound (registryOf (now ws)) ⌝ }
     ensures { λ r. ⌜ r ≡ findNode (nodesOf (now (ws .entry))) n ⌝ }
@@ -227,7 +243,7 @@ fn find(ws: &[u64; 1665], n: Node) -> usize
 }
 
 // The node reached, or that the words have no room for it.
-pub enum Entered {
+pub enum NodeEntered {
     At(NodeId),
     Full,
 }
@@ -263,22 +279,22 @@ fn note(optional: &mut [u64; 8], n: Node, k: NodeId)
 }
 
 // The node with the key of n, made where there is none.
-fn find_or_make(ws: &mut [u64; 1665], optional: &mut [u64; 8], n: Node) -> Entered
+fn find_or_make(ws: &mut [u64; 1665], optional: &mut [u64; 8], n: Node) -> NodeEntered
     requires { ⌜ Held (now ws) (now optional) × Inside n (countIn (now ws)) ⌝ }
     ensures { λ r. ⌜ Arrives (madeFor (registryOf (now (ws .entry))) n) r (now (ws .exit)) (now (optional .exit)) ⌝ }
 {
     let k = find(ws, n);
     let end = count(ws);
     if k < end {
-        return Entered::At(NodeId(k));
+        return NodeEntered::At(NodeId(k));
     }
     if end < Node::LIMIT {
         push(ws, n);
         let made = NodeId(end);
         note(optional, n, made);
-        Entered::At(made)
+        NodeEntered::At(made)
     } else {
-        Entered::Full
+        NodeEntered::Full
     }
 }
 
@@ -288,9 +304,10 @@ pub fn get_or_create_identifier(
     identifier: IdentifierId,
     reactive: bool,
     span: u64,
-) -> Entered
+) -> NodeEntered
     requires { ⌜ Held (now ws) (now optional) ⌝ }
-    ensures { λ r. ⌜ Arrives (getOrCreateIdentifier (registryOf (now (ws .entry))) identifier reactive span) r (now (ws .exit)) (now (optional .exit)) ⌝ }
+    ensures { λ r. ⌜ Arrives (getOrCreateIdentifier (registryOf (now (ws .entry))) identifier reactive span) r (now (ws .exit))
+        (now (optional .exit)) ⌝ }
 {
     find_or_make(ws, optional, Node::root(identifier, reactive, span))
 }
@@ -300,9 +317,10 @@ pub fn get_or_create_property_entry(
     optional: &mut [u64; 8],
     parent: NodeId,
     entry: DependencyPathEntry,
-) -> Entered
+) -> NodeEntered
     requires { ⌜ Held (now ws) (now optional) × (parent .0 < countIn (now ws)) ⌝ }
-    ensures { λ r. ⌜ Arrives (getOrCreatePropertyEntry (registryOf (now (ws .entry))) parent entry) r (now (ws .exit)) (now (optional .exit)) ⌝ }
+    ensures { λ r. ⌜ Arrives (getOrCreatePropertyEntry (registryOf (now (ws .entry))) parent entry) r (now (ws .exit))
+        (now (optional .exit)) ⌝ }
 {
     find_or_make(ws, optional, Node::child(parent, entry))
 }

@@ -1,4 +1,5 @@
--- The members from a place on: what is left of them past places that are not set, and at one that is. So a walk by `next` meets each once.
+-- The members from a place on: what is left of them past places that are not set, and at one that
+-- is. So a walk by `next` meets each once.
 use Prim.Native.Nat.{ℕ, zero, suc, _+_, _*_, _-_, _/_, _%_, _^_, _≤_, _<_}
 use native.Mathlib.Omega.{arith}
 use native.Mathlib.Numerals.{add-one}

@@ -1,4 +1,5 @@
--- Selections from one ascending list of nodes: what they contain, and what each operation on sets makes of them.
+-- Selections from one ascending list of nodes: what they contain, and what each operation on sets
+-- makes of them.
 use Prim.Native.Nat.{ℕ, suc, _<_}
 use native.Mathlib.Omega.{arith}
 use mathlib.Core.Bool.{Bool, true, false, _&&_, _||_, not, cond, and-true, and-false, or-false, or-assoc, or-true}
@@ -42,7 +43,8 @@ contains-selected p (x ∷ xs) k =
     later true c = refl
     later false c = refl
 
--- Of a node of the list, a selection contains what its test takes. So beside another test, to ask for it is to ask the test.
+-- Of a node of the list, a selection contains what its test takes. So beside another test, to ask
+-- for it is to ask the test.
 beside : (f : Bool → Bool → Bool) (p q : NodeId → Bool) (s : NodeSet)
     → select (λ x. f (p x) (contains (select q s) x)) s ≡ select (λ x. f (p x) (q x)) s
 beside f p q s =

@@ -1,4 +1,5 @@
--- The bits of a word: of what an operation makes, of a power of two, and below the lowest that is set.
+-- The bits of a word: of what an operation makes, of a power of two, and below the lowest that is
+-- set.
 use Prim.Native.Nat.{ℕ, zero, suc, _+_, _*_, _/_, _%_, _^_, _≤_, _<_, max, min}
 use native.Mathlib.Omega.{arith}
 use native.Mathlib.Nat.{pow-suc, pow-succ', div-one, zero-div, div-eq-of-lt, mul-mod-left, mul-div-mul-right, div-div-eq-div-mul, mod-lt}

@@ -1,5 +1,5 @@
-// Sets of registry nodes as 512 bits, by value, and 128 rows of them in words that the caller lends. The contracts speak of the ascending
-// lists that the words stand for.
+// Sets of registry nodes as 512 bits, by value, and 128 rows of them in words that the caller
+// lends. The contracts speak of the ascending lists that the words stand for.
 use entries::NodeId;
 ghost use mathlib.Core.Path.{_≡_};
 ghost use mathlib.Core.List.{[]};
@@ -117,7 +117,8 @@ impl NodeBits {
         self.same_set(NodeBits::empty())
     }
 
-    // The first member from a place on, which may be 512 or more. A word with no bit left is passed in one test.
+    // The first member from a place on, which may be 512 or more. A word with no bit left is passed
+    // in one test.
     pub fn next(self, from: usize) -> Next
         ensures { λ r. ⌜ r ≡ firstOf (membersFrom (self .words) from) ⌝ }
     {

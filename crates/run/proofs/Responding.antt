@@ -1,4 +1,5 @@
--- What stands at the buffer's start after an operation, and after RF and a number were put there, is what the program writes.
+-- What stands at the buffer's start after an operation, and after RF and a number were put there,
+-- is what the program writes.
 use Prim.Native.Nat.{ℕ, _≤_, _<_}
 use native.Mathlib.Omega.{arith}
 use mathlib.Core.Path.{_≡_, refl, sym, ap, subst, _∙_}
@@ -12,7 +13,8 @@ use Rattle.entries.specs.Refusals.{refusalNumber}
 use Rattle.model.specs.Rounds.{Rounds}
 use Rattle.model.specs.Propagation.{Work, JoiningRule, doneNeighbours}
 use Rattle.model.specs.Job.{HD, Job, readJob}
-use Rattle.model.specs.Answer.{Verdict, writes, turnsBack, onJob, leastBuffer, longestJob, spanWidth, verdict, answerBytes, answerOf, answerProgram, sheetBytes, sheetOf, sheetProgram, bufferAfter, programOutput}
+use Rattle.model.specs.Answer.{Verdict, writes, turnsBack, onJob, leastBuffer, longestJob, spanWidth, verdict, answerBytes, answerOf, answerProgram, sheetBytes}
+use Rattle.model.specs.Answer.{sheetOf, sheetProgram, bufferAfter, programOutput}
 use Rattle.stage.specs.declared.Operation.{Operation}
 use Rattle.stage.specs.declared.Operation.the-variants as operation
 use Rattle.stage.specs.declared.Outcome.{Outcome}
@@ -60,7 +62,8 @@ stands (turnsBack r) before after e = (refl, e)
 meets-stands : {v : Verdict} {o told : Outcome} {before after : List ℕ} → Meets v o before after → o ≡ told → Stands v before after told
 meets-stands {v} {o} {told} {before} {after} m e = subst (Stands v before after) (sym (m .outcome) ∙ e) (stands v before after (m .buffer))
 
-module _ (op : Operation) (s before after : List ℕ) {o : Outcome} (size : length before ≡ leastBuffer) (m : Meets (verdictOf doneNeighbours op s before) o before after) where
+module _ (op : Operation) (s before after : List ℕ) {o : Outcome} (size : length before ≡ leastBuffer)
+    (m : Meets (verdictOf doneNeighbours op s before) o before after) where
   -- The operation's bytes are the output.
   pub written : {n : ℕ} → o ≡ Written n → Responds op s before after n
   written {n} e =
@@ -92,13 +95,16 @@ pub third : (xs : List ℕ) (a b : ℕ) → length xs ≡ leastBuffer → 2 < le
 third xs a b e = let l = length-set (set xs 0 a) 1 b ∙ length-set xs 0 a in omega arith
 
 -- RF and the number are the output.
-pub refused : (op : Operation) (s before after : List ℕ) {o : Outcome} {r : Refusal} {k : ℕ} → length before ≡ leastBuffer → Meets (verdictOf doneNeighbours op s before) o before after → o ≡ Refused r → k ≡ refusalNumber r
+pub refused : (op : Operation) (s before after : List ℕ) {o : Outcome} {r : Refusal} {k : ℕ} → length before ≡ leastBuffer
+    → Meets (verdictOf doneNeighbours op s before) o before after → o ≡ Refused r → k ≡ refusalNumber r
     → Responds op s before (put after k) 3
 refused op s before after {o} {r} {k} size m e n =
     let l = room op s before after size m e in
     let out : 0x52 ∷ 0x46 ∷ k ∷ [] ≡ programOf op s = ap (λ (x : ℕ). 0x52 ∷ 0x46 ∷ x ∷ []) n ∙ refusal-output op s before after size m e in
     record {
-      buffer = put-is after k (omega arith) ∙ ap (λ (bytes : List ℕ). bytes ++ drop 3 after) out ∙ ap (λ (xs : List ℕ). programOf op s ++ drop 3 xs) (meets-stands m e .1);
+      buffer =
+          put-is after k (omega arith) ∙ ap (λ (bytes : List ℕ). bytes ++ drop 3 after) out
+          ∙ ap (λ (xs : List ℕ). programOf op s ++ drop 3 xs) (meets-stands m e .1);
       size = ap length out;
     }
 

@@ -11,16 +11,19 @@ use Rattle.model.specs.Tests.{decide, ltb-true, ltb-false, ltb-less}
 use Rattle.model.specs.Rounds.{Rounds}
 use Rattle.model.specs.Propagation.{Work, JoiningRule, doneNeighbours}
 use Rattle.model.specs.Job.{Job, HD}
-use Rattle.model.specs.Answer.{leastBuffer, longestJob, spanWidth, verdict, answerBytes, answerOf, answerProgram, sheetBytes, sheetOf, sheetProgram, programOutput}
+use Rattle.model.specs.Answer.{leastBuffer, longestJob, spanWidth, verdict, answerBytes, answerOf, answerProgram, sheetBytes, sheetOf}
+use Rattle.model.specs.Answer.{sheetProgram, programOutput}
 use Rattle.stage.specs.declared.Operation.{Operation}
 use Rattle.stage.specs.declared.Operation.the-variants as operation
 
--- "Program `answer` reads a job from standard input and writes the answer, or RF and the number as one byte; `sheet` likewise": by the operation.
+-- "Program `answer` reads a job from standard input and writes the answer, or RF and the number as
+-- one byte; `sheet` likewise": by the operation.
 abbrev pub programOf : Operation → List ℕ → List ℕ
 programOf operation.Answer = answerProgram
 programOf operation.Sheet = sheetProgram
 
--- What the operation's program writes of the job are the buffer's first n bytes, and those beyond stay.
+-- What the operation's program writes of the job are the buffer's first n bytes, and those beyond
+-- stay.
 pub record Responds (op : Operation) (job before after : List ℕ) (n : ℕ) : Type 0 where
   pub buffer : after ≡ programOf op job ++ drop n before
   pub size : n ≡ length (programOf op job)

@@ -1,5 +1,6 @@
--- Each hypothesis of safety is needed: for each, a job in bytes that is answered, a store and a run that satisfy all the others, and on which a returned path
--- throws. And the worthless versions of document 01 that demand 3 shuts out, or leaves to demand 2.
+-- Each hypothesis of safety is needed: for each, a job in bytes that is answered, a store and a run
+-- that satisfy all the others, and on which a returned path throws. And the worthless versions of
+-- document 01 that demand 3 shuts out, or leaves to demand 2.
 use Prim.Native.Nat.{ℕ, zero, suc, _<_}
 use native.Mathlib.Omega.{arith}
 use mathlib.Core.Path.{_≡_, refl, sym, ap, subst, _∙_}
@@ -14,8 +15,8 @@ use Rattle.entries.specs.Path.{ReactiveScopeDependency, prefixOf}
 use Rattle.model.specs.Lists.{select, anyOf, countOf, sumOf}
 use Rattle.model.specs.Tests.{decide, never, eqb-same, eqb-true, eqb-false, or-second}
 use Rattle.model.specs.ListLaws.{All, all-map, all-select}
-use Rattle.model.specs.Reading.{null, Store, read, Throws, NonNullish}
-use Rattle.model.specs.Read.{got, refused}
+use Rattle.model.specs.ReadingPaths.{null, Store, read, Throws, NonNullish}
+use Rattle.model.specs.ReadingBytes.{got, refused}
 use Rattle.model.specs.Propagation.{doneNeighbours}
 use Rattle.model.specs.Job.{Block, Job, HD, readJob}
 use Rattle.model.specs.Stage.{propagated, hoistablePaths, returnedPaths}
@@ -31,8 +32,10 @@ use Rattle.safety.specs.Witness.{no-loops}
 -- Safety of all answered jobs under a hypothesis on store, job and sequence of blocks.
 abbrev pub SafeUnder : ((X : Type 0) → Store X → Job → List Block → Type 0) → Type 1
 SafeUnder H =
-    (job out answer : List ℕ) (j : Job) (end : ℕ) (a : Answered) → All (λ b. b < 256) job → readJob HD spanWidth job ≡ got j end → answerOf job out ≡ writes answer
-    → readAnswer spanWidth answer 0 ≡ got a (length answer) → (X : Type 0) (S : Store X) (s : List Block) → H X S j s → All (λ d. Throws (read S d) → ⊥) (a .paths)
+    (job out answer : List ℕ) (j : Job) (end : ℕ) (a : Answered) → All (λ b. b < 256) job → readJob HD spanWidth job ≡ got j end
+    → answerOf job out ≡ writes answer
+    → readAnswer spanWidth answer 0 ≡ got a (length answer) → (X : Type 0) (S : Store X) (s : List Block) → H X S j s → All
+    (λ d. Throws (read S d) → ⊥) (a .paths)
 
 -- a store in which nothing is there
 abbrev pub nothing : Store (Unit {0})
@@ -49,12 +52,17 @@ pub record Returns5-10 (j : Job) (rounds : ℕ) : Type 0 where
   pub bytes : All (λ b. b < 256) (bytesOf j)
   pub reads : readJob HD spanWidth (bytesOf j) ≡ got j (length (bytesOf j))
   pub answers : answerOf (bytesOf j) buffer ≡ writes (returning rounds)
-  pub holds : readAnswer spanWidth (returning rounds) 0 ≡ got (record { paths = path5-10 ∷ []; rounds = rounds; settled = true }) (length (returning rounds))
+  pub holds : readAnswer spanWidth (returning rounds) 0 ≡ got (record { paths = path5-10 ∷ []; rounds = rounds; settled = true })
+      (length (returning rounds))
 
--- Then a hypothesis that the job meets on some sequence, where nothing is there, does not make answers safe.
-refuted : (H : (X : Type 0) → Store X → Job → List Block → Type 0) (j : Job) (rounds : ℕ) → Returns5-10 j rounds → (s : List Block) → H (Unit {0}) nothing j s → SafeUnder H → ⊥
+-- Then a hypothesis that the job meets on some sequence, where nothing is there, does not make
+-- answers safe.
+refuted : (H : (X : Type 0) → Store X → Job → List Block → Type 0) (j : Job) (rounds : ℕ) → Returns5-10 j rounds → (s : List Block)
+    → H (Unit {0}) nothing j s → SafeUnder H → ⊥
 refuted H j rounds r s h safe =
-    safe (bytesOf j) buffer (returning rounds) j (length (bytesOf j)) (record { paths = path5-10 ∷ []; rounds = rounds; settled = true }) (r .bytes) (r .reads) (r .answers) (r .holds) (Unit {0}) nothing s h .0 tt
+    safe (bytesOf j) buffer (returning rounds) j (length (bytesOf j))
+    (record { paths = path5-10 ∷ []; rounds = rounds; settled = true }) (r .bytes) (r .reads) (r .answers) (r .holds)
+    (Unit {0}) nothing s h .0 tt
 
 -- Loops: P3 of document 01, with scope block 3.
 
@@ -79,7 +87,8 @@ p3-run = record {
 
 pub avoids-2 : All (λ b. b .id ≡ record { 0 = 2 } → ⊥) avoiding
 avoids-2 =
-    all-map (λ (b : Block). eqb (b .id .0) 2 ≡ false) (λ b. b .id ≡ record { 0 = 2 } → ⊥) (λ b e same. eqb-false (b .id .0) 2 e (ap (λ (i : BlockId). i .0) same)) avoiding
+    all-map (λ (b : Block). eqb (b .id .0) 2 ≡ false) (λ b. b .id ≡ record { 0 = 2 } → ⊥)
+    (λ b e same. eqb-false (b .id .0) 2 e (ap (λ (i : BlockId). i .0) same)) avoiding
     (none-any (λ (b : Block). eqb (b .id .0) 2) avoiding refl)
 
 pub p3-assumed : AssumedHold nothing avoiding
@@ -94,7 +103,8 @@ pub p3-nullish : NonNullish (read nothing path5) → ⊥
 p3-nullish h = h
 
 pub p3-has-a-loop : WithoutLoops (p3 .blocks) → ⊥
-p3-has-a-loop free = free (block 1 (0 ∷ 3 ∷ []) []) (block 0 [] [] ∷ []) (block 3 (1 ∷ 2 ∷ []) [] ∷ []) (block 4 (1 ∷ []) [] ∷ []) (p3-run .sequence)
+p3-has-a-loop free = free (block 1 (0 ∷ 3 ∷ []) []) (block 0 [] [] ∷ []) (block 3 (1 ∷ 2 ∷ []) [] ∷ []) (block 4 (1 ∷ []) [] ∷ [])
+    (p3-run .sequence)
 
 p3-returns : Returns5-10 p3 2
 unfolding jobBytes readJob answerOf readAnswer
@@ -115,8 +125,16 @@ known5-returns = record { bytes = all-bytes (bytesOf (jobOf 0 (assuming ∷ []))
 
 pub assumed-needed : SafeUnder (λ X S j s. WithoutLoops (j .blocks) × Run j s) → ⊥
 assumed-needed =
-    refuted (λ X S j s. WithoutLoops (j .blocks) × Run j s) (jobOf 0 (assuming ∷ [])) 1 known5-returns (assuming ∷ [])
-    (no-loops (assuming ∷ []) (tt, tt), record { sequence = record { blocks = (inl refl, tt); some = tt; linked = tt }; starts = refl; ends = not-named (assuming ∷ []) assuming refl; passes = inl refl })
+    refuted (λ X S j s. WithoutLoops (j .blocks) × Run j s) (jobOf 0 (assuming ∷ [])) 1 known5-returns (assuming ∷ []) (
+      no-loops (assuming ∷ []) (tt, tt),
+      record {
+        sequence = record { blocks = (inl refl, tt); some = tt; linked = tt };
+        starts = refl;
+        ends = not-named
+            (assuming ∷ []) assuming refl;
+        passes = inl refl;
+      },
+    )
 
 -- the first block has no predecessor: 1 comes after 0, which assumes 5; the run is 1 alone
 abbrev pub after : Block
@@ -127,12 +145,18 @@ unfolding jobBytes readJob answerOf readAnswer
 after-returns = record { bytes = all-bytes (bytesOf (jobOf 1 (assuming ∷ after ∷ []))) refl; reads = refl; answers = refl; holds = refl }
 
 abbrev pub WithoutStart : (X : Type 0) → Store X → Job → List Block → Type 0
-WithoutStart X S j s = WithoutLoops (j .blocks) × ControlSequence (j .blocks) s × LastHas (NoSuccessor (j .blocks)) s × Some (λ b. b .id ≡ j .scope) s × AssumedHold S s
+WithoutStart X S j s = WithoutLoops (j .blocks) × ControlSequence (j .blocks) s × LastHas (NoSuccessor (j .blocks)) s × Some
+    (λ b. b .id ≡ j .scope) s × AssumedHold S s
 
 pub start-needed : SafeUnder WithoutStart → ⊥
 start-needed =
-    refuted WithoutStart (jobOf 1 (assuming ∷ after ∷ [])) 2 after-returns (after ∷ [])
-    (no-loops (assuming ∷ after ∷ []) (tt, ((omega arith, tt), tt)), record { blocks = (inr (inl refl), tt); some = tt; linked = tt }, not-named (assuming ∷ after ∷ []) after refl, inl refl, (tt, tt))
+    refuted WithoutStart (jobOf 1 (assuming ∷ after ∷ [])) 2 after-returns (after ∷ []) (
+      no-loops (assuming ∷ after ∷ []) (tt, ((omega arith, tt), tt)),
+      record { blocks = (inr (inl refl), tt); some = tt; linked = tt },
+      not-named (assuming ∷ after ∷ []) after refl,
+      inl refl,
+      (tt, tt),
+    )
 
 -- the last block has no successor: 0 comes before 1, which assumes 5; the run is 0 alone
 abbrev pub first : Block
@@ -143,15 +167,27 @@ assumingAfter = block 1 (0 ∷ []) (path5 ∷ [])
 
 before-returns : Returns5-10 (jobOf 0 (first ∷ assumingAfter ∷ [])) 2
 unfolding jobBytes readJob answerOf readAnswer
-before-returns = record { bytes = all-bytes (bytesOf (jobOf 0 (first ∷ assumingAfter ∷ []))) refl; reads = refl; answers = refl; holds = refl }
+before-returns = record {
+  bytes = all-bytes
+      (bytesOf (jobOf 0 (first ∷ assumingAfter ∷ []))) refl;
+  reads = refl;
+  answers = refl;
+  holds = refl;
+}
 
 abbrev pub WithoutEnd : (X : Type 0) → Store X → Job → List Block → Type 0
-WithoutEnd X S j s = WithoutLoops (j .blocks) × ControlSequence (j .blocks) s × FirstHas NoPredecessor s × Some (λ b. b .id ≡ j .scope) s × AssumedHold S s
+WithoutEnd X S j s = WithoutLoops (j .blocks) × ControlSequence (j .blocks) s × FirstHas NoPredecessor s × Some
+    (λ b. b .id ≡ j .scope) s × AssumedHold S s
 
 pub end-needed : SafeUnder WithoutEnd → ⊥
 end-needed =
-    refuted WithoutEnd (jobOf 0 (first ∷ assumingAfter ∷ [])) 2 before-returns (first ∷ [])
-    (no-loops (first ∷ assumingAfter ∷ []) (tt, ((omega arith, tt), tt)), record { blocks = (inl refl, tt); some = tt; linked = tt }, refl, inl refl, (tt, tt))
+    refuted WithoutEnd (jobOf 0 (first ∷ assumingAfter ∷ [])) 2 before-returns (first ∷ []) (
+      no-loops (first ∷ assumingAfter ∷ []) (tt, ((omega arith, tt), tt)),
+      record { blocks = (inl refl, tt); some = tt; linked = tt },
+      refl,
+      inl refl,
+      (tt, tt),
+    )
 
 -- by way of the scope block: 0, the scope block, assumes 5; the run is 1, which is not beside it
 abbrev pub alone : Block
@@ -162,21 +198,34 @@ unfolding jobBytes readJob answerOf readAnswer
 alone-returns = record { bytes = all-bytes (bytesOf (jobOf 0 (assuming ∷ alone ∷ []))) refl; reads = refl; answers = refl; holds = refl }
 
 abbrev pub WithoutScope : (X : Type 0) → Store X → Job → List Block → Type 0
-WithoutScope X S j s = WithoutLoops (j .blocks) × ControlSequence (j .blocks) s × FirstHas NoPredecessor s × LastHas (NoSuccessor (j .blocks)) s × AssumedHold S s
+WithoutScope X S j s = WithoutLoops (j .blocks) × ControlSequence (j .blocks) s × FirstHas NoPredecessor s × LastHas
+    (NoSuccessor (j .blocks)) s × AssumedHold S s
 
 pub scope-needed : SafeUnder WithoutScope → ⊥
 scope-needed =
-    refuted WithoutScope (jobOf 0 (assuming ∷ alone ∷ [])) 1 alone-returns (alone ∷ [])
-    (no-loops (assuming ∷ alone ∷ []) (tt, (tt, tt)), record { blocks = (inr (inl refl), tt); some = tt; linked = tt }, refl, not-named (assuming ∷ alone ∷ []) alone refl, (tt, tt))
+    refuted WithoutScope (jobOf 0 (assuming ∷ alone ∷ [])) 1 alone-returns (alone ∷ []) (
+      no-loops (assuming ∷ alone ∷ []) (tt, (tt, tt)),
+      record { blocks = (inr (inl refl), tt); some = tt; linked = tt },
+      refl,
+      not-named (assuming ∷ alone ∷ []) alone refl,
+      (tt, tt),
+    )
 
 -- Worthless versions (document 01, "What the promises shut out").
 
--- "Returns the candidates uncut": shut out by safety. The job is T3's, with 5 in the place of 1: nothing is hoistable, and the candidate has a plain entry.
+-- "Returns the candidates uncut": shut out by safety. The job is T3's, with 5 in the place of 1:
+-- nothing is hoistable, and the candidate has a plain entry.
 abbrev pub t3 : Job
 t3 = jobOf 0 (first ∷ [])
 
 t3-run : Run t3 (first ∷ [])
-t3-run = record { sequence = record { blocks = (inl refl, tt); some = tt; linked = tt }; starts = refl; ends = not-named (first ∷ []) first refl; passes = inl refl }
+t3-run = record {
+  sequence = record { blocks = (inl refl, tt); some = tt; linked = tt };
+  starts = refl;
+  ends = not-named
+      (first ∷ []) first refl;
+  passes = inl refl;
+}
 
 pub uncut-shut-out : Demand3 WithoutLoops t3 (t3 .candidates) → ⊥
 uncut-shut-out d = d .safety (no-loops (first ∷ []) (tt, tt)) (Unit {0}) nothing (first ∷ []) t3-run (tt, tt) .0 tt
@@ -195,7 +244,8 @@ pub untouched-shut-out : readAnswer spanWidth buffer 0 ≡ refused WrongMark
 unfolding readAnswer
 untouched-shut-out = refl
 
--- "Returns bare identifiers for all": the identifiers of the candidates, each once, meet demand 3 ..
+-- "Returns bare identifiers for all": the identifiers of the candidates, each once, meet demand 3
+-- ..
 abbrev pub bare : ReactiveScopeDependency → ReactiveScopeDependency
 bare c = record { identifier = c .identifier; reactive = c .reactive; path = []; span = c .span }
 
@@ -215,12 +265,14 @@ bare-prefix : (c d : ReactiveScopeDependency) → d .path ≡ [] → prefixOf d 
 bare-prefix c d e = rw e (and-true (sameIdentifier d c))
 
 -- what is left after one identifier is taken out: none of that one, all of any other
-removed-same : (c x : ReactiveScopeDependency) → sameIdentifier c x ≡ true → (ds : List ReactiveScopeDependency) → countOf (λ d. sameIdentifier d x) (select (λ d. not (sameIdentifier d c)) ds) ≡ 0
+removed-same : (c x : ReactiveScopeDependency) → sameIdentifier c x ≡ true → (ds : List ReactiveScopeDependency) → countOf
+    (λ d. sameIdentifier d x) (select (λ d. not (sameIdentifier d c)) ds) ≡ 0
 removed-same c x e [] = refl
 removed-same c x e (d ∷ ds) =
     let rest = removed-same c x e ds in
     decide (sameIdentifier d c) (λ t. rw t rest)
-    (λ t. let other : sameIdentifier d x ≡ false = ap (eqb (d .identifier .0)) (sym (eqb-true (c .identifier .0) (x .identifier .0) e)) ∙ t in rw (t, other) rest)
+    (λ t. let other : sameIdentifier d x ≡ false = ap (eqb (d .identifier .0))
+    (sym (eqb-true (c .identifier .0) (x .identifier .0) e)) ∙ t in rw (t, other) rest)
 
 removed-other : (c x : ReactiveScopeDependency) → sameIdentifier c x ≡ false → (ds : List ReactiveScopeDependency)
     → countOf (λ d. sameIdentifier d x) (select (λ d. not (sameIdentifier d c)) ds) ≡ countOf (λ d. sameIdentifier d x) ds
@@ -228,11 +280,13 @@ removed-other c x e [] = refl
 removed-other c x e (d ∷ ds) =
     let rest = removed-other c x e ds in
     decide (sameIdentifier d c)
-    (λ t. let other : sameIdentifier d x ≡ false = ap (λ n. eqb n (x .identifier .0)) (eqb-true (d .identifier .0) (c .identifier .0) t) ∙ e in rw (t, other) rest)
+    (λ t. let other : sameIdentifier d x ≡ false = ap (λ n. eqb n (x .identifier .0))
+    (eqb-true (d .identifier .0) (c .identifier .0) t) ∙ e in rw (t, other) rest)
     (λ t. decide (sameIdentifier d x) (λ u. rw (t, u, rest)) (λ u. rw (t, u, rest)))
 
 -- each identifier of the candidates stands once
-bare-once : (cs : List ReactiveScopeDependency) (x : ReactiveScopeDependency) → anyOf (λ c. sameIdentifier c x) cs ≡ true → countOf (λ d. sameIdentifier d x) (bareOf cs) ≡ 1
+bare-once : (cs : List ReactiveScopeDependency) (x : ReactiveScopeDependency) → anyOf (λ c. sameIdentifier c x) cs ≡ true → countOf
+    (λ d. sameIdentifier d x) (bareOf cs) ≡ 1
 bare-once [] x h = never h refl
 bare-once (c ∷ cs) x h =
     decide (sameIdentifier c x) (λ t. rw (t, removed-same c x t (bareOf cs)))
@@ -241,31 +295,41 @@ bare-once (c ∷ cs) x h =
 bare-exact : (cs : List ReactiveScopeDependency) → Exact cs (bareOf cs)
 bare-exact cs = record {
   one = all-map (λ x. anyOf (λ c. sameIdentifier c x) cs ≡ true) (λ x. countOf (λ d. prefixOf d x) (bareOf cs) ≡ 1)
-      (λ x h. count-agree (λ d. prefixOf d x) (λ d. sameIdentifier d x) (bareOf cs) (all-map (λ d. d .path ≡ []) (λ d. prefixOf d x ≡ sameIdentifier d x) (λ d e. bare-prefix x d e) (bareOf cs) (bare-paths cs)) ∙ bare-once cs x h)
+      (λ x h. count-agree (λ d. prefixOf d x) (λ d. sameIdentifier d x) (bareOf cs)
+      (all-map (λ d. d .path ≡ []) (λ d. prefixOf d x ≡ sameIdentifier d x) (λ d e. bare-prefix x d e) (bareOf cs) (bare-paths cs))
+      ∙ bare-once cs x h)
       cs (own cs);
   some = bare-some cs;
 }
   where
     own : (xs : List ReactiveScopeDependency) → All (λ x. anyOf (λ c. sameIdentifier c x) xs ≡ true) xs
     own [] = tt
-    own (x ∷ xs) = (rw (eqb-same (x .identifier .0)), all-map (λ y. anyOf (λ c. sameIdentifier c y) xs ≡ true) (λ y. sameIdentifier x y || anyOf (λ c. sameIdentifier c y) xs ≡ true) (λ y h. or-second (sameIdentifier x y) _ h) xs (own xs))
+    own (x ∷ xs) = (
+      rw (eqb-same (x .identifier .0)),
+      all-map (λ y. anyOf (λ c. sameIdentifier c y) xs ≡ true)
+          (λ y. sameIdentifier x y || anyOf (λ c. sameIdentifier c y) xs ≡ true) (λ y h. or-second (sameIdentifier x y) _ h) xs (own xs),
+    )
 
     bare-some : (xs : List ReactiveScopeDependency) → All (λ d. anyOf (prefixOf d) xs ≡ true) (bareOf xs)
     bare-some [] = tt
     bare-some (x ∷ xs) = (
       rw (eqb-same (x .identifier .0)),
       all-select (λ d. anyOf (prefixOf d) (x ∷ xs) ≡ true) (λ d. not (sameIdentifier d x)) (bareOf xs)
-          (all-map (λ d. anyOf (prefixOf d) xs ≡ true) (λ d. anyOf (prefixOf d) (x ∷ xs) ≡ true) (λ d h. or-second (prefixOf d x) _ h) (bareOf xs) (bare-some xs)),
+          (all-map (λ d. anyOf (prefixOf d) xs ≡ true) (λ d. anyOf (prefixOf d) (x ∷ xs) ≡ true)
+          (λ d h. or-second (prefixOf d x) _ h) (bareOf xs) (bare-some xs)),
     )
 
 pub bare-meets-demand-3 : (j : Job) → Demand3 WithoutLoops j (bareOf (j .candidates))
 bare-meets-demand-3 j = record {
-  safety = λ free X S s run assumed. all-map (λ d. d .path ≡ []) (λ d. Throws (read S d) → ⊥) (λ d e t. rw e at t) (bareOf (j .candidates)) (bare-paths (j .candidates));
+  safety = λ free X S s run assumed. all-map (λ d. d .path ≡ []) (λ d. Throws (read S d) → ⊥) (λ d e t. rw e at t)
+      (bareOf (j .candidates)) (bare-paths (j .candidates));
   exactness = bare-exact (j .candidates);
 }
 
--- .. and are shut out by demand 2: the definition `returnedPaths`, to which the answer's bytes are equated (`answerBytes`), gives another list where a base is known
--- to be there (T1 of the model's `Examples` shows it too).
-pub bare-not-returned : returnedPaths (jobOf 0 (assuming ∷ [])) (propagated doneNeighbours (assuming ∷ []) .work) ≡ bareOf (path5-10 ∷ []) → ⊥
+-- .. and are shut out by demand 2: the definition `returnedPaths`, to which the answer's bytes are
+-- equated (`answerBytes`), gives another list where a base is known to be there (T1 of the model's
+-- `Examples` shows it too).
+pub bare-not-returned : returnedPaths (jobOf 0 (assuming ∷ [])) (propagated doneNeighbours (assuming ∷ []) .work) ≡ bareOf
+    (path5-10 ∷ []) → ⊥
 unfolding propagated returnedPaths doneNeighbours
 bare-not-returned e = let entries : _≡_ {A = ℕ} 1 0 = ap (sumOf (λ (d : ReactiveScopeDependency). length (d .path))) e in omega arith

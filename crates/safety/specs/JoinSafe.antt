@@ -1,5 +1,5 @@
--- A join is sound where the block on the run before (or after) this one is among the joined neighbours: then what joins is safe. Nothing is said of
--- loops here.
+-- A join is sound where the block on the run before (or after) this one is among the joined
+-- neighbours: then what joins is safe. Nothing is said of loops here.
 use Prim.Native.Nat.{ℕ, zero, suc}
 use native.Mathlib.Omega.{arith}
 use mathlib.Core.Path.{_≡_, refl, sym, ap, subst}
@@ -7,7 +7,7 @@ use mathlib.Core.Logic.{_⊎_, inl, inr}
 use mathlib.Core.List.{List, [], _∷_, map, foldl}
 use lib.ListN.{getD, set}
 use Rattle.entries.specs.declared.NodeId.{NodeId}
-use Rattle.model.specs.Reading.{Store}
+use Rattle.model.specs.ReadingPaths.{Store}
 use Rattle.model.specs.Sets.{NodeSet, contains, union, intersection}
 use Rattle.model.specs.Reduction.{reduceMaybeOptionalChains}
 use Rattle.model.specs.Propagation.{Work, setOf, intersectionOf, joinWith}
@@ -26,7 +26,8 @@ cons-not-nil e = let z : _≡_ {A = ℕ} 0 1 = cc in omega arith
 -- what holds of each node of one of the sets holds of each node of their intersection
 module _ (P : NodeId → Type 0) where
   pair-right : (s t : NodeSet) → All P t → All P (intersection s t)
-  pair-right s t a = all-chosen P (contains t) s (all-of (λ x. contains t x ≡ mathlib.Core.Bool.true → P x) s (λ x m h. contains-all P t x a h))
+  pair-right s t a = all-chosen P (contains t) s
+      (all-of (λ x. contains t x ≡ mathlib.Core.Bool.true → P x) s (λ x m h. contains-all P t x a h))
 
   fold-all : (s : NodeSet) (ss : List NodeSet) → All P s ⊎ Some (All P) ss → All P (foldl intersection s ss)
   fold-all s [] (inl a) = a
@@ -54,7 +55,8 @@ module _ {X : Type 0} (S : Store X) (On : ℕ → Type 0) where
     pub sound : Sound (w .registry)
     pub safe : (b : ℕ) → On b → NonNullSet S (w .registry) (setOf (w .sets) b)
 
-  pub join-safe : (neighbours : List ℕ) (b : ℕ) (w : Work) → NonNullOn w → (On b → (neighbours ≡ []) ⊎ Some On neighbours) → NonNullOn (joinWith reduceMaybeOptionalChains neighbours b w)
+  pub join-safe : (neighbours : List ℕ) (b : ℕ) (w : Work) → NonNullOn w → (On b → (neighbours ≡ []) ⊎ Some On neighbours)
+      → NonNullOn (joinWith reduceMaybeOptionalChains neighbours b w)
   unfolding joinWith
   join-safe neighbours b w h before =
       let s = joinedSet neighbours b w in
@@ -62,11 +64,15 @@ module _ {X : Type 0} (S : Store X) (On : ℕ → Type 0) where
       record {
         sound = reduction-sound (w .registry) s (h .sound);
         safe = λ c on. stored (NonNullSet S (r .registry)) (w .sets) b c (r .set) []
-            (λ e. reduction-safe S (w .registry) s (h .sound) (union-all (NonNullNode S (w .registry)) (setOf (w .sets) b) (intersectionOf (map (setOf (w .sets)) neighbours)) (h .safe b (subst On e on)) (joined (before (subst On e on)))))
+            (λ e. reduction-safe S (w .registry) s (h .sound)
+            (union-all (NonNullNode S (w .registry)) (setOf (w .sets) b) (intersectionOf (map (setOf (w .sets)) neighbours))
+            (h .safe b (subst On e on)) (joined (before (subst On e on)))))
             (set-extends S (setOf (w .sets) c) (reduction-extends (w .registry) s) (h .safe c on));
       }
     where
       joined : (neighbours ≡ []) ⊎ Some On neighbours → NonNullSet S (w .registry) (intersectionOf (map (setOf (w .sets)) neighbours))
-      joined (inl e) = intersection-all (NonNullNode S (w .registry)) (map (setOf (w .sets)) neighbours) (inl (ap (map (setOf (w .sets))) e))
+      joined (inl e) = intersection-all (NonNullNode S (w .registry)) (map (setOf (w .sets)) neighbours)
+          (inl (ap (map (setOf (w .sets))) e))
       joined (inr s) = intersection-all (NonNullNode S (w .registry)) (map (setOf (w .sets)) neighbours)
-          (inr (some-of-map (NonNullSet S (w .registry)) (setOf (w .sets)) neighbours (some-map On (λ c. NonNullSet S (w .registry) (setOf (w .sets) c)) (λ c on. h .safe c on) neighbours s)))
+          (inr (some-of-map (NonNullSet S (w .registry)) (setOf (w .sets)) neighbours
+          (some-map On (λ c. NonNullSet S (w .registry) (setOf (w .sets) c)) (λ c on. h .safe c on) neighbours s)))

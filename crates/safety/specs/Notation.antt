@@ -23,10 +23,17 @@ abbrev pub path5 : ReactiveScopeDependency
 path5 = record { identifier = record { 0 = 5 }; reactive = true; path = []; span = 0 }
 
 abbrev pub path5-10 : ReactiveScopeDependency
-path5-10 = record { identifier = record { 0 = 5 }; reactive = true; path = record { property = String 10; optional = false; span = 0 } ∷ []; span = 0 }
+path5-10 = record {
+  identifier = record { 0 = 5 };
+  reactive = true;
+  path = record
+      { property = String 10; optional = false; span = 0 } ∷ [];
+  span = 0;
+}
 
 abbrev pub block : ℕ → List ℕ → List ReactiveScopeDependency → Block
-block id predecessors assumed = record { id = record { 0 = id }; predecessors = map (λ i. record { 0 = i }) predecessors; assumed = assumed }
+block id predecessors assumed = record
+    { id = record { 0 = id }; predecessors = map (λ i. record { 0 = i }) predecessors; assumed = assumed }
 
 -- a job with the candidate 5.10
 abbrev pub jobOf : ℕ → List Block → Job
@@ -41,9 +48,11 @@ buffer = replicate leastBuffer 0
 
 -- computed tests: each number is a byte; no block names this one
 pub all-bytes : (s : List ℕ) → anyOf (ltb 255) s ≡ false → All (λ b. b < 256) s
-all-bytes s e = all-map (λ b. ltb 255 b ≡ false) (λ b. b < 256) (λ b f. let most = ltb-false 255 b f in omega arith) s (none-any (ltb 255) s e)
+all-bytes s e = all-map (λ b. ltb 255 b ≡ false) (λ b. b < 256) (λ b f. let most = ltb-false 255 b f in omega arith) s
+    (none-any (ltb 255) s e)
 
 pub not-named : (bs : List Block) (b : Block) → anyOf (λ (c : Block). containsId (c .predecessors) (b .id)) bs ≡ false → NoSuccessor bs b
 not-named bs b e =
-    all-map (λ (c : Block). containsId (c .predecessors) (b .id) ≡ false) (λ c. Precedes b c → ⊥) (λ c f p. never (member-contains (c .predecessors) (b .id) p) f) bs
+    all-map (λ (c : Block). containsId (c .predecessors) (b .id) ≡ false) (λ c. Precedes b c → ⊥)
+    (λ c f p. never (member-contains (c .predecessors) (b .id) p) f) bs
     (none-any (λ (c : Block). containsId (c .predecessors) (b .id)) bs e)

@@ -1,19 +1,34 @@
--- The sets of a run's blocks stay non-nullish through walks and rounds. Loop-freedom enters by `VisitOrder` alone: when a block is joined each of its
--- neighbours is Done, so the run's block beside it is among the joined ones.
+-- The sets of a run's blocks stay non-nullish through walks and rounds. Loop-freedom enters by
+-- `VisitOrder` alone: when a block is joined each of its neighbours is Done, so the run's block
+-- beside it is among the joined ones.
 use Prim.Native.Nat.{ℕ, zero, _<_}
 use mathlib.Core.Path.{_≡_, refl, sym, ap, subst}
 use mathlib.Core.Logic.{_⊎_, inl, inr}
 use mathlib.Core.Bool.{Bool, true, false}
 use mathlib.Core.List.{List, [], _∷_}
 use lib.ListN.{getD}
-use Rattle.model.specs.Reading.{Store}
+use Rattle.model.specs.ReadingPaths.{Store}
 use Rattle.model.specs.Lists.{select}
 use Rattle.model.specs.Sets.{NodeSet}
 use Rattle.model.specs.Registry.{PropertyPathRegistry}
 use Rattle.model.specs.Visit.{TraversalState, Unmarked, isDone}
 use Rattle.model.specs.Rounds.{jobOrder, reverseJobOrder, walk}
 use Rattle.model.specs.Reduction.{reduceMaybeOptionalChains}
-use Rattle.model.specs.Propagation.{Work, JoiningRule, doneNeighbours, joinWith, join, Graph, forward, backward, roundStart, round, hasChanged, propagateWith, propagateNonNull}
+use Rattle.model.specs.Propagation.{
+  Work,
+  JoiningRule,
+  doneNeighbours,
+  joinWith,
+  join,
+  Graph,
+  forward,
+  backward,
+  roundStart,
+  round,
+  hasChanged,
+  propagateWith,
+  propagateNonNull,
+}
 use Rattle.model.specs.ListLaws.{All}
 use Rattle.model.specs.VisitLaws.{Preorder}
 use Rattle.model.specs.RoundsLaws.{rounds-do}
@@ -22,14 +37,17 @@ use Rattle.laws.specs.Places.{order-below}
 use Rattle.laws.specs.VisitOrder.{Reach, IsDone, walk-keeps}
 use Rattle.safety.specs.JoinSafe.{NonNullOn, join-safe}
 
--- What is known of a run in one direction: neighbours are blocks of the graph, and beside a block of the run stands another of it, or no block.
+-- What is known of a run in one direction: neighbours are blocks of the graph, and beside a block
+-- of the run stands another of it, or no block.
 pub record Beside (On : ℕ → Type 0) (n : ℕ) (near : ℕ → List ℕ) : Type 0 where
   pub inGraph : (b : ℕ) → All (λ c. c < n) (near b)
   pub beside : (b : ℕ) → On b → (near b ≡ []) ⊎ Some On (near b)
 
 module _ {X : Type 0} (S : Store X) (On : ℕ → Type 0) where
-  -- a rule that joins all neighbours of the run's block that is joined, or none, keeps the sets non-nullish; the rule of Done neighbours does so where all are Done
-  done-join : (n : ℕ) (near : ℕ → List ℕ) → Beside On n near → (b : ℕ) (marks : List TraversalState) (w : Work) → b < n → All (IsDone marks) (near b) → NonNullOn S On w
+  -- a rule that joins all neighbours of the run's block that is joined, or none, keeps the sets
+  -- non-nullish; the rule of Done neighbours does so where all are Done
+  done-join : (n : ℕ) (near : ℕ → List ℕ) → Beside On n near → (b : ℕ) (marks : List TraversalState) (w : Work) → b < n → All
+      (IsDone marks) (near b) → NonNullOn S On w
       → NonNullOn S On (join reduceMaybeOptionalChains doneNeighbours near b marks w)
   unfolding join doneNeighbours
   done-join n near d b marks w i done h = join-safe S On (doneNeighbours marks (near b)) b w h (λ on. go (d .beside b on))
@@ -39,31 +57,39 @@ module _ {X : Type 0} (S : Store X) (On : ℕ → Type 0) where
       go (inr s) = inr (some-select On (λ c. isDone (getD marks c Unmarked)) (near b) (some-both (IsDone marks) On (near b) done s))
 
   -- a walk over a graph without loops
-  pub walk-safe : (n : ℕ) (near : ℕ → List ℕ) → Beside On n near → ((b : ℕ) → Reach near b b → ⊥) → (order : List ℕ) → All (λ b. b < n) order → (w : Work) → NonNullOn S On w
+  pub walk-safe : (n : ℕ) (near : ℕ → List ℕ) → Beside On n near → ((b : ℕ) → Reach near b b → ⊥) → (order : List ℕ) → All
+      (λ b. b < n) order → (w : Work) → NonNullOn S On w
       → NonNullOn S On (walk n near (join reduceMaybeOptionalChains doneNeighbours near) order w)
-  walk-safe n near d noLoop order i w h = walk-keeps (NonNullOn S On) n near (join reduceMaybeOptionalChains doneNeighbours near) (d .inGraph) (done-join n near d) noLoop order w i h
+  walk-safe n near d noLoop order i w h = walk-keeps (NonNullOn S On) n near (join reduceMaybeOptionalChains doneNeighbours near)
+      (d .inGraph) (done-join n near d) noLoop order w i h
 
   -- rounds under any rule whose walks keep the sets non-nullish
   module _ (rule : JoiningRule) (g : Graph)
-      (forward-safe : (w : Work) → NonNullOn S On w → NonNullOn S On (forward reduceMaybeOptionalChains rule g w)) (backward-safe : (w : Work) → NonNullOn S On w → NonNullOn S On (backward reduceMaybeOptionalChains rule g w)) where
+      (forward-safe : (w : Work) → NonNullOn S On w → NonNullOn S On (forward reduceMaybeOptionalChains rule g w))
+      (backward-safe : (w : Work) → NonNullOn S On w → NonNullOn S On (backward reduceMaybeOptionalChains rule g w)) where
     round-safe : (w : Work) → NonNullOn S On w → NonNullOn S On (round reduceMaybeOptionalChains rule g w)
     unfolding round
     round-safe w h =
         let start = roundStart (w .registry) (w .sets) in
         backward-safe (forward reduceMaybeOptionalChains rule g start) (forward-safe start (record { sound = h .sound; safe = h .safe }))
 
-    pub propagation-safe : (reg : PropertyPathRegistry) (sets : List NodeSet) → NonNullOn S On (roundStart reg sets) → NonNullOn S On (propagateNonNull rule g reg sets .work)
+    pub propagation-safe : (reg : PropertyPathRegistry) (sets : List NodeSet) → NonNullOn S On (roundStart reg sets)
+        → NonNullOn S On (propagateNonNull rule g reg sets .work)
     unfolding propagateNonNull propagateWith
     propagation-safe reg sets h =
-        rounds-do hasChanged (round reduceMaybeOptionalChains rule g) (λ u w. NonNullOn S On u → NonNullOn S On w) (record { none = λ w p. p; after = λ u v w a b p. b (a p) }) round-safe 100 zero (roundStart reg sets) h
+        rounds-do hasChanged (round reduceMaybeOptionalChains rule g) (λ u w. NonNullOn S On u → NonNullOn S On w)
+        (record { none = λ w p. p; after = λ u v w a b p. b (a p) }) round-safe 100 zero (roundStart reg sets) h
 
   -- the two walks of a round, in a graph without loops
   module _ (g : Graph) (back : Beside On (g .size) (g .predecessors)) (onward : Beside On (g .size) (g .successors)) where
-    pub forward-done : ((b : ℕ) → Reach (g .predecessors) b b → ⊥) → (w : Work) → NonNullOn S On w → NonNullOn S On (forward reduceMaybeOptionalChains doneNeighbours g w)
+    pub forward-done : ((b : ℕ) → Reach (g .predecessors) b b → ⊥) → (w : Work) → NonNullOn S On w → NonNullOn S On
+        (forward reduceMaybeOptionalChains doneNeighbours g w)
     unfolding forward
     forward-done noLoop w h = walk-safe (g .size) (g .predecessors) back noLoop (jobOrder (g .size)) (order-below (g .size)) w h
 
-    pub backward-done : ((b : ℕ) → Reach (g .successors) b b → ⊥) → (w : Work) → NonNullOn S On w → NonNullOn S On (backward reduceMaybeOptionalChains doneNeighbours g w)
+    pub backward-done : ((b : ℕ) → Reach (g .successors) b b → ⊥) → (w : Work) → NonNullOn S On w → NonNullOn S On
+        (backward reduceMaybeOptionalChains doneNeighbours g w)
     unfolding backward reverseJobOrder
     backward-done noLoop w h =
-        walk-safe (g .size) (g .successors) onward noLoop (reverseJobOrder (g .size)) (all-reverse (λ b. b < g .size) (jobOrder (g .size)) (order-below (g .size))) w h
+        walk-safe (g .size) (g .successors) onward noLoop (reverseJobOrder (g .size))
+        (all-reverse (λ b. b < g .size) (jobOrder (g .size)) (order-below (g .size))) w h

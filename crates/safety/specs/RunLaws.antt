@@ -1,4 +1,5 @@
--- A run, by places: beside each of its blocks stands another of its blocks, or no block stands there; and without loops no block is reached from itself.
+-- A run, by places: beside each of its blocks stands another of its blocks, or no block stands
+-- there; and without loops no block is reached from itself.
 use Prim.Native.Nat.{ℕ, zero, suc, _<_}
 use mathlib.Core.Path.{_≡_, refl, sym, ap, subst, _∙_}
 use mathlib.Core.Logic.{_⊎_, inl, inr}
@@ -12,18 +13,32 @@ use Rattle.laws.specs.Membership.{Some, Member, all-at, some-map, some-of, memb
 use Rattle.safety.specs.Runs.{Precedes, Linked, ControlSequence, WithoutLoops, NoPredecessor, NoSuccessor, FirstHas, LastHas, RunVia}
 use Rattle.laws.specs.VisitOrder.{Reach, one, more}
 use Rattle.safety.specs.PropagationSafe.{Beside}
-use Rattle.laws.specs.GraphLaws.{ProperBlocks, place-member, predecessors-inside, predecessor-precedes, predecessor-block, precedes-predecessor, successors-inside, precedes-successor, no-successor, reach-inside, reach-back}
+use Rattle.laws.specs.GraphLaws.{
+  ProperBlocks,
+  place-member,
+  predecessors-inside,
+  predecessor-precedes,
+  predecessor-block,
+  precedes-predecessor,
+  successors-inside,
+  precedes-successor,
+  no-successor,
+  reach-inside,
+  reach-back,
+}
 
 -- a block with the block before it, after it
 before : (a : Block) (s : List Block) (b : Block) → Linked (a ∷ s) → Member b s → (c : Block) × Member c (a ∷ s) × Precedes c b
 before a (c ∷ s) b l (inl e) = (a, inl refl, subst (Precedes a) e (l .0))
 before a (c ∷ s) b l (inr m) = let (d, n, p) = before c s b (l .1) m in (d, inr n, p)
 
-pub starts-or-before : (s : List Block) (b : Block) → Linked s → FirstHas NoPredecessor s → Member b s → NoPredecessor b ⊎ ((c : Block) × Member c s × Precedes c b)
+pub starts-or-before : (s : List Block) (b : Block) → Linked s → FirstHas NoPredecessor s → Member b s → NoPredecessor b ⊎
+    ((c : Block) × Member c s × Precedes c b)
 starts-or-before (a ∷ s) b l f (inl e) = inl (subst NoPredecessor e f)
 starts-or-before (a ∷ s) b l f (inr m) = inr (before a s b l m)
 
-pub ends-or-after : (P : Block → Type 0) (s : List Block) (b : Block) → Linked s → LastHas P s → Member b s → P b ⊎ ((c : Block) × Member c s × Precedes b c)
+pub ends-or-after : (P : Block → Type 0) (s : List Block) (b : Block) → Linked s → LastHas P s → Member b s → P b ⊎
+    ((c : Block) × Member c s × Precedes b c)
 ends-or-after P (a ∷ []) b l f (inl e) = inl (subst P e f)
 ends-or-after P (a ∷ (c ∷ s)) b l f (inl e) = inr (c, inr (inl refl), subst (λ x. Precedes x c) e (l .0))
 ends-or-after P (a ∷ (c ∷ s)) b l f (inr m) = up (ends-or-after P (c ∷ s) b (l .1) f m)
@@ -50,11 +65,17 @@ module _ (bs : List Block) (ok : ProperBlocks bs) where
   }
   reach-sequence {b = c} (more {b = b} r m) =
       let s = reach-sequence r in
-      record { between = blockAt bs b ∷ s .between; linked = (predecessor-precedes bs ok c b m, s .linked); blocks = (inside-block c b m, s .blocks) }
+      record {
+        between = blockAt bs b
+            ∷ s .between;
+        linked = (predecessor-precedes bs ok c b m, s .linked);
+        blocks = (inside-block c b m, s .blocks);
+      }
 
   module _ (free : WithoutLoops bs) where
     pub no-loop-back : (b : ℕ) → Reach (predecessorsOf bs) b b → ⊥
-    no-loop-back b r = let s = reach-sequence r in free (blockAt bs b) [] (s .between) [] (record { blocks = s .blocks; some = tt; linked = s .linked })
+    no-loop-back b r = let s = reach-sequence r in free (blockAt bs b) [] (s .between) []
+        (record { blocks = s .blocks; some = tt; linked = s .linked })
 
     pub no-loop-onward : (b : ℕ) → Reach (successorsOf bs) b b → ⊥
     no-loop-onward b r = no-loop-back b (reach-back bs ok (reach-inside bs ok r) r)
@@ -64,16 +85,22 @@ module _ (bs : List Block) (via : BlockId) (ok : ProperBlocks bs) (s : List Bloc
   abbrev pub OnRun : ℕ → Type 0
   OnRun k = Member (blockAt bs k) s
 
-  on-place : (c : Block) → Member c s → (placeOf bs (c .id) < length bs) × OnRun (placeOf bs (c .id)) × (blockAt bs (placeOf bs (c .id)) ≡ c)
+  on-place : (c : Block) → Member c s → (placeOf bs (c .id) < length bs) × OnRun (placeOf bs (c .id)) ×
+      (blockAt bs (placeOf bs (c .id)) ≡ c)
   on-place c m =
       let p = place-member c bs (ok .distinct) (all-at (λ b. Member b bs) s c (run .sequence .blocks) m) in
       (p .0, subst (λ b. Member b s) (sym (p .1)) m, p .1)
 
   pub back : Beside OnRun (graphOf bs .size) (graphOf bs .predecessors)
   unfolding graphOf predecessorsOf
-  back = record { inGraph = predecessors-inside bs ok; beside = λ b on. go b (starts-or-before s (blockAt bs b) (run .sequence .linked) (run .starts) on) }
+  back = record {
+    inGraph = predecessors-inside bs ok;
+    beside = λ b on. go b
+        (starts-or-before s (blockAt bs b) (run .sequence .linked) (run .starts) on);
+  }
     where
-      go : (b : ℕ) → NoPredecessor (blockAt bs b) ⊎ ((c : Block) × Member c s × Precedes c (blockAt bs b)) → (predecessorsOf bs b ≡ []) ⊎ Some OnRun (predecessorsOf bs b)
+      go : (b : ℕ) → NoPredecessor (blockAt bs b) ⊎ ((c : Block) × Member c s × Precedes c (blockAt bs b)) →
+          (predecessorsOf bs b ≡ []) ⊎ Some OnRun (predecessorsOf bs b)
       go b (inl e) = inl (ap (map (placeOf bs)) e)
       go b (inr h) =
           let c = h .0 in
@@ -82,9 +109,14 @@ module _ (bs : List Block) (via : BlockId) (ok : ProperBlocks bs) (s : List Bloc
 
   pub onward : Beside OnRun (graphOf bs .size) (graphOf bs .successors)
   unfolding graphOf
-  onward = record { inGraph = successors-inside bs ok; beside = λ b m. go b (ends-or-after (NoSuccessor bs) s (blockAt bs b) (run .sequence .linked) (run .ends) m) }
+  onward = record {
+    inGraph = successors-inside bs ok;
+    beside = λ b m. go b
+        (ends-or-after (NoSuccessor bs) s (blockAt bs b) (run .sequence .linked) (run .ends) m);
+  }
     where
-      go : (b : ℕ) → NoSuccessor bs (blockAt bs b) ⊎ ((c : Block) × Member c s × Precedes (blockAt bs b) c) → (successorsOf bs b ≡ []) ⊎ Some OnRun (successorsOf bs b)
+      go : (b : ℕ) → NoSuccessor bs (blockAt bs b) ⊎ ((c : Block) × Member c s × Precedes (blockAt bs b) c) →
+          (successorsOf bs b ≡ []) ⊎ Some OnRun (successorsOf bs b)
       go b (inl none) = inl (no-successor bs ok b none)
       go b (inr h) =
           let c = h .0 in

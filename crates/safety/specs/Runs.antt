@@ -1,9 +1,10 @@
--- Document 01, "Reading a path": control sequences, loops, and the runs of control that demand 3 speaks of. Blocks are the job's records.
+-- Document 01, "Reading a path": control sequences, loops, and the runs of control that demand 3
+-- speaks of. Blocks are the job's records.
 use mathlib.Core.Path.{_≡_}
 use mathlib.Core.List.{List, [], _∷_, _++_}
 use Rattle.entries.specs.declared.BlockId.{BlockId}
 use Rattle.model.specs.Job.{Block, Job}
-use Rattle.model.specs.Reading.{Store, read, NonNullish}
+use Rattle.model.specs.ReadingPaths.{Store, read, NonNullish}
 use Rattle.model.specs.ListLaws.{All}
 use Rattle.laws.specs.Membership.{Some, Member}
 
@@ -22,13 +23,15 @@ abbrev pub NonEmpty : List Block → Type 0
 NonEmpty [] = ⊥
 NonEmpty (a ∷ s) = Unit {0}
 
--- "A control sequence is a finite list of blocks, at least one, each a predecessor of the next": of the blocks `bs`.
+-- "A control sequence is a finite list of blocks, at least one, each a predecessor of the next": of
+-- the blocks `bs`.
 pub record ControlSequence (bs s : List Block) : Type 0 where
   pub blocks : All (λ b. Member b bs) s
   pub some : NonEmpty s
   pub linked : Linked s
 
--- "A job is without loops when no control sequence comes back to a block it has left; a block that is its own predecessor is a loop."
+-- "A job is without loops when no control sequence comes back to a block it has left; a block that
+-- is its own predecessor is a loop."
 abbrev pub WithoutLoops : List Block → Type 0
 WithoutLoops bs = (b : Block) (before between after : List Block) → ControlSequence bs (before ++ (b ∷ (between ++ (b ∷ after)))) → ⊥
 
@@ -51,8 +54,8 @@ LastHas P [] = ⊥
 LastHas P (a ∷ []) = P a
 LastHas P (a ∷ (b ∷ s)) = LastHas P (b ∷ s)
 
--- Demand 3: a run of control from a block with no predecessor, by way of a block, to a block with no
--- successor, among the blocks `bs`.
+-- Demand 3: a run of control from a block with no predecessor, by way of a block, to a block with
+-- no successor, among the blocks `bs`.
 pub record RunVia (bs : List Block) (via : BlockId) (s : List Block) : Type 0 where
   pub sequence : ControlSequence bs s
   pub starts : FirstHas NoPredecessor s

@@ -1,11 +1,12 @@
--- On a run whose assumed paths all read to non-nullish values, the paths of the scope block's set do too: under any rule that keeps the run's sets so, and
--- under the rule of Done neighbours in a job without loops.
+-- On a run whose assumed paths all read to non-nullish values, the paths of the scope block's set
+-- do too: under any rule that keeps the run's sets so, and under the rule of Done neighbours in a
+-- job without loops.
 use Prim.Native.Nat.{ℕ, zero, suc}
 use mathlib.Core.Path.{_≡_, refl, sym, ap, subst, _∙_}
 use mathlib.Core.List.{List, [], _∷_, map}
 use lib.ListN.{length, getD}
 use Rattle.entries.specs.Path.{ReactiveScopeDependency}
-use Rattle.model.specs.Reading.{Store}
+use Rattle.model.specs.ReadingPaths.{Store}
 use Rattle.model.specs.Sets.{NodeSet, insert}
 use Rattle.model.specs.Registry.{PropertyPathRegistry, ownMark, getOrCreateProperty, fullPathOf}
 use Rattle.model.specs.Propagation.{Work, JoiningRule, setOf, roundStart, doneNeighbours, propagateNonNull}
@@ -25,29 +26,35 @@ use Rattle.laws.specs.GraphLaws.{ProperBlocks}
 use Rattle.safety.specs.RunLaws.{no-loop-back, no-loop-onward, OnRun, back, onward, on-via}
 
 module _ {X : Type 0} (S : Store X) where
-  paths-safe : (reg : PropertyPathRegistry) (s : NodeSet) (ds : List ReactiveScopeDependency) → Sound reg → NonNullSet S reg s → All (NonNull S) ds
+  paths-safe : (reg : PropertyPathRegistry) (s : NodeSet) (ds : List ReactiveScopeDependency) → Sound reg → NonNullSet S reg s → All
+      (NonNull S) ds
       → NonNullSet S (enterPaths reg s ds .registry) (enterPaths reg s ds .set)
   unfolding getOrCreateProperty
   paths-safe reg s [] h a p = a
   paths-safe reg s (d ∷ ds) h a p =
       let at = getOrCreateProperty reg d in
       paths-safe (at .registry) (insert (at .node) s) ds (path-proper ownMark reg d h .sound)
-      (insert-all (NonNullNode S (at .registry)) (at .node) s (path-safe S ownMark reg d h (p .0)) (set-extends S s (path-extends ownMark reg d) a)) (p .1)
+      (insert-all (NonNullNode S (at .registry)) (at .node) s (path-safe S ownMark reg d h (p .0))
+      (set-extends S s (path-extends ownMark reg d) a)) (p .1)
 
   -- the set of a block whose assumed paths hold
-  blocks-safe : (reg : PropertyPathRegistry) (bs : List Block) (c : ℕ) → Sound reg → All (NonNull S) (blockAt bs c .assumed) → NonNullSet S (enterBlocks reg bs .registry) (setOf (enterBlocks reg bs .sets) c)
+  blocks-safe : (reg : PropertyPathRegistry) (bs : List Block) (c : ℕ) → Sound reg → All (NonNull S) (blockAt bs c .assumed)
+      → NonNullSet S (enterBlocks reg bs .registry) (setOf (enterBlocks reg bs .sets) c)
   unfolding enterBlocks
   blocks-safe reg [] c h p = tt
   blocks-safe reg (b ∷ bs) zero h p =
       let e = enterBlock reg b in
       let first = paths-filled reg [] (b .assumed) h (members-empty reg) in
       set-extends S (e .set) (blocks-begun (e .registry) bs (first .sound) .extends) (paths-safe reg [] (b .assumed) h tt p)
-  blocks-safe reg (b ∷ bs) (suc c) h p = blocks-safe (enterBlock reg b .registry) bs c (paths-filled reg [] (b .assumed) h (members-empty reg) .sound) p
+  blocks-safe reg (b ∷ bs) (suc c) h p = blocks-safe (enterBlock reg b .registry) bs c
+      (paths-filled reg [] (b .assumed) h (members-empty reg) .sound) p
 
   -- under any rule under which propagation keeps the run's sets non-nullish
   module _ (rule : JoiningRule) (j : Job) (ok : ProperBlocks (j .blocks)) (s : List Block) (run : Run j s) (assumed : AssumedHold S s) where
     abbrev pub Keeps : Type 0
-    Keeps = (reg : PropertyPathRegistry) (sets : List NodeSet) → NonNullOn S (OnRun (j .blocks) (j .scope) ok s run) (roundStart reg sets) → NonNullOn S (OnRun (j .blocks) (j .scope) ok s run) (propagateNonNull rule (graphOf (j .blocks)) reg sets .work)
+    Keeps = (reg : PropertyPathRegistry) (sets : List NodeSet) → NonNullOn S (OnRun (j .blocks) (j .scope) ok s run)
+        (roundStart reg sets) → NonNullOn S (OnRun (j .blocks) (j .scope) ok s run)
+        (propagateNonNull rule (graphOf (j .blocks)) reg sets .work)
 
     pub hoistable-by : Keeps → All (NonNull S) (hoistablePaths j (propagated rule (j .blocks) .work))
     unfolding propagated hoistablePaths
@@ -57,17 +64,22 @@ module _ {X : Type 0} (S : Store X) where
         let place = placeOf (j .blocks) (j .scope) in
         let end = keeps (start .registry) (start .sets) (record {
           sound = blocks-begun [] (j .blocks) sound-empty .sound;
-          safe = λ c m. blocks-safe [] (j .blocks) c sound-empty (all-at (λ b. All (NonNull S) (b .assumed)) s (blockAt (j .blocks) c) assumed m);
+          safe = λ c m. blocks-safe [] (j .blocks) c sound-empty
+              (all-at (λ b. All (NonNull S) (b .assumed)) s (blockAt (j .blocks) c) assumed m);
         }) in
         all-of-map (NonNull S) (fullPathOf (w .registry)) (setOf (w .sets) place)
-        (all-map (NonNullNode S (w .registry)) (λ k. NonNull S (fullPathOf (w .registry) k)) (λ k n. n .safe) (setOf (w .sets) place) (end .safe place (on-via (j .blocks) (j .scope) ok s run)))
+        (all-map (NonNullNode S (w .registry)) (λ k. NonNull S (fullPathOf (w .registry) k)) (λ k n. n .safe)
+        (setOf (w .sets) place) (end .safe place (on-via (j .blocks) (j .scope) ok s run)))
 
   -- under the rule of Done neighbours, where there are no loops
-  pub hoistable-safe : (j : Job) → ProperBlocks (j .blocks) → WithoutLoops (j .blocks) → (s : List Block) → Run j s → AssumedHold S s → All (NonNull S) (hoistablePaths j (propagated doneNeighbours (j .blocks) .work))
+  pub hoistable-safe : (j : Job) → ProperBlocks (j .blocks) → WithoutLoops (j .blocks) → (s : List Block) → Run j s
+      → AssumedHold S s → All (NonNull S) (hoistablePaths j (propagated doneNeighbours (j .blocks) .work))
   unfolding graphOf
   hoistable-safe j ok free s run assumed =
       let g = graphOf (j .blocks) in
       hoistable-by doneNeighbours j ok s run assumed
       (propagation-safe S (OnRun (j .blocks) (j .scope) ok s run) doneNeighbours g
-      (forward-done S (OnRun (j .blocks) (j .scope) ok s run) g (back (j .blocks) (j .scope) ok s run) (onward (j .blocks) (j .scope) ok s run) (no-loop-back (j .blocks) ok free))
-      (backward-done S (OnRun (j .blocks) (j .scope) ok s run) g (back (j .blocks) (j .scope) ok s run) (onward (j .blocks) (j .scope) ok s run) (no-loop-onward (j .blocks) ok free)))
+      (forward-done S (OnRun (j .blocks) (j .scope) ok s run) g (back (j .blocks) (j .scope) ok s run)
+      (onward (j .blocks) (j .scope) ok s run) (no-loop-back (j .blocks) ok free))
+      (backward-done S (OnRun (j .blocks) (j .scope) ok s run) g (back (j .blocks) (j .scope) ok s run)
+      (onward (j .blocks) (j .scope) ok s run) (no-loop-onward (j .blocks) ok free)))

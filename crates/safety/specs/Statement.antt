@@ -7,32 +7,33 @@ use lib.ListN.{length}
 use Rattle.entries.specs.Path.{ReactiveScopeDependency, prefixOf}
 use Rattle.model.specs.Lists.{anyOf, countOf}
 use Rattle.model.specs.ListLaws.{All}
-use Rattle.model.specs.Reading.{Store, read, Throws}
-use Rattle.model.specs.Read.{got}
+use Rattle.model.specs.ReadingPaths.{Store, read, Throws}
+use Rattle.model.specs.ReadingBytes.{got}
 use Rattle.model.specs.Job.{Block, Job, HD, readJob}
 use Rattle.model.specs.Answer.{Verdict, writes, spanWidth, answerOf, Answered, readAnswer}
 use Rattle.safety.specs.Runs.{WithoutLoops, Run, AssumedHold}
 
--- Exactness: for each candidate exactly one place in the list of returned paths holds a path with its identifier and a prefix of its property names; and
--- each place of the list holds such a path for some candidate.
+-- Exactness: for each candidate exactly one place in the list of returned paths holds a path with
+-- its identifier and a prefix of its property names; and each place of the list holds such a path
+-- for some candidate.
 pub record Exact (candidates returned : List ReactiveScopeDependency) : Type 0 where
   pub one : All (λ c. countOf (λ d. prefixOf d c) returned ≡ 1) candidates
   pub some : All (λ d. anyOf (prefixOf d) candidates ≡ true) returned
 
--- Safety: along any run of the job, in any unchanging store, if each assumed path of each block on it reads to a value neither null nor undefined, no
--- returned path throws.
+-- Safety: along any run of the job, in any unchanging store, if each assumed path of each block on
+-- it reads to a value neither null nor undefined, no returned path throws.
 abbrev pub Safety : Job → List ReactiveScopeDependency → Type 1
 Safety j returned = (X : Type 0) (S : Store X) (s : List Block) → Run j s → AssumedHold S s → All (λ d. Throws (read S d) → ⊥) returned
 
--- Safety where the job's blocks meet a hypothesis (`WithoutLoops`: "Without loops: ..", which another
--- joining rule may not need), and exactness for every job ("With or without loops").
+-- Safety where the job's blocks meet a hypothesis (`WithoutLoops`: "Without loops: ..", which
+-- another joining rule may not need), and exactness for every job ("With or without loops").
 pub record Demand3 (Hypothesis : List Block → Type 0) (j : Job) (returned : List ReactiveScopeDependency) : Type 1 where
   pub safety : Hypothesis (j .blocks) → Safety j returned
   pub exactness : Exact (j .candidates) returned
 
--- Of the bytes of a job, with a header of this mark and spans of so many bytes, and of its answer: the
--- one is read as a job, the other, by the reader of a job's own paths, as what it returns, and demand 3
--- holds of the two.
+-- Of the bytes of a job, with a header of this mark and spans of so many bytes, and of its answer:
+-- the one is read as a job, the other, by the reader of a job's own paths, as what it returns, and
+-- demand 3 holds of the two.
 pub record AnswerMeetsDemand3 (head spanBytes : ℕ) (Hypothesis : List Block → Type 0) (job answer : List ℕ) : Type 1 where
   pub j : Job
   pub end : ℕ
@@ -41,7 +42,8 @@ pub record AnswerMeetsDemand3 (head spanBytes : ℕ) (Hypothesis : List Block �
   pub readsAnswer : readAnswer spanBytes answer 0 ≡ got answered (length answer)
   pub holds : Demand3 Hypothesis j (answered .paths)
 
--- Of an operation: whatever job it does not refuse, with whatever out buffer, what it writes meets demand 3.
+-- Of an operation: whatever job it does not refuse, with whatever out buffer, what it writes meets
+-- demand 3.
 abbrev pub AnswersMeetDemand3 : ℕ → ℕ → (List Block → Type 0) → (List ℕ → List ℕ → Verdict) → Type 1
 AnswersMeetDemand3 head spanBytes Hypothesis operation =
     (job out answer : List ℕ) → All (λ b. b < 256) job → operation job out ≡ writes answer

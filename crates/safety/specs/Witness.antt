@@ -1,4 +1,5 @@
--- The hypotheses of `demand-3` can be met: a job in bytes, a store and a run that satisfy all of them.
+-- The hypotheses of `demand-3` can be met: a job in bytes, a store and a run that satisfy all of
+-- them.
 use Prim.Native.Nat.{ℕ, _<_}
 use native.Mathlib.Omega.{arith}
 use mathlib.Core.Path.{_≡_, refl, sym, ap, subst, _∙_}
@@ -8,8 +9,8 @@ use mathlib.Core.List.{List, [], _∷_, _++_}
 use lib.ListN.{length}
 use Rattle.entries.specs.Path.{ReactiveScopeDependency}
 use Rattle.model.specs.ListLaws.{All, all-map}
-use Rattle.model.specs.Reading.{null, value, Store, read, Throws}
-use Rattle.model.specs.Read.{got}
+use Rattle.model.specs.ReadingPaths.{null, value, Store, read, Throws}
+use Rattle.model.specs.ReadingBytes.{got}
 use Rattle.model.specs.Job.{Block, Job, HD, readJob}
 use Rattle.model.specs.Answer.{writes, spanWidth, answerOf, Answered, readAnswer}
 use Rattle.laws.specs.Membership.{Member, all-at}
@@ -22,7 +23,8 @@ use Rattle.safety.specs.Notation.{path5, path5-10, block, jobOf, bytesOf
 -- Where each block's predecessors have smaller ids than it has, there is no loop.
 module _ (bs : List Block) (smaller : All (λ b. All (λ i. i .0 < b .id .0) (b .predecessors)) bs) where
   precedes-smaller : (a b : Block) → Member b bs → Precedes a b → a .id .0 < b .id .0
-  precedes-smaller a b m p = all-at (λ i. i .0 < b .id .0) (b .predecessors) (a .id) (all-at (λ c. All (λ i. i .0 < c .id .0) (c .predecessors)) bs b smaller m) p
+  precedes-smaller a b m p = all-at (λ i. i .0 < b .id .0) (b .predecessors) (a .id)
+      (all-at (λ c. All (λ i. i .0 < c .id .0) (c .predecessors)) bs b smaller m) p
 
   later-larger : (a : Block) (s : List Block) → All (λ b. Member b bs) (a ∷ s) → Linked (a ∷ s) → All (λ b. a .id .0 < b .id .0) s
   later-larger a [] m l = tt
@@ -46,7 +48,8 @@ module _ (bs : List Block) (smaller : All (λ b. All (λ i. i .0 < b .id .0) (b 
   pub no-loops : WithoutLoops bs
   no-loops b before between after c =
       again-larger b between after
-      (later-larger b (between ++ (b ∷ after)) (skip-all (λ x. Member x bs) before (b ∷ (between ++ (b ∷ after))) (c .blocks)) (skip before (between ++ (b ∷ after)) b (c .linked)))
+      (later-larger b (between ++ (b ∷ after)) (skip-all (λ x. Member x bs) before (b ∷ (between ++ (b ∷ after))) (c .blocks))
+      (skip before (between ++ (b ∷ after)) b (c .linked)))
 
 -- The job: P1 of document 01, with scope block 3 and the candidate 5.10.
 
@@ -74,7 +77,8 @@ p1-answered = refl
 pub p1-no-loops : WithoutLoops (p1 .blocks)
 p1-no-loops = no-loops (p1 .blocks) (tt, ((omega arith, tt), ((omega arith, tt), ((omega arith, (omega arith, tt)), tt))))
 
--- a store with one value beside null and undefined: every identifier has it, and every property of it is null
+-- a store with one value beside null and undefined: every identifier has it, and every property of
+-- it is null
 abbrev pub store : Store (Unit {0})
 store = record { ofIdentifier = λ i. value tt; ofProperty = λ x p. null }
 
@@ -84,7 +88,14 @@ run = block 0 [] [] ∷ block 1 (0 ∷ []) (path5 ∷ []) ∷ block 3 (1 ∷ 2 �
 
 pub p1-run : Run p1 run
 p1-run = record {
-  sequence = record { blocks = (inl refl, (inr (inl refl), (inr (inr (inr (inl refl))), tt))); some = tt; linked = (inl refl, (inl refl, tt)) };
+  sequence = record {
+    blocks = (inl refl, (inr (inl refl), (inr (inr (inr (inl refl))), tt)));
+    some = tt;
+    linked = (
+      inl refl,
+      (inl refl, tt),
+    );
+  };
   starts = refl;
   ends = not-named (p1 .blocks) (block 3 (1 ∷ 2 ∷ []) []) refl;
   passes = inr (inr (inl refl));
@@ -111,4 +122,5 @@ met-paths =
     ap (λ (a : Answered). a .paths) same
 
 pub p1-no-throw : All (λ d. Throws (read store d) → ⊥) (met .answered .paths)
-p1-no-throw = met .holds .safety (subst (λ (j : Job). WithoutLoops (j .blocks)) (sym met-job) p1-no-loops) (Unit {0}) store run (subst (λ j. Run j run) (sym met-job) p1-run) p1-assumed
+p1-no-throw = met .holds .safety (subst (λ (j : Job). WithoutLoops (j .blocks)) (sym met-job) p1-no-loops) (Unit {0}) store run
+    (subst (λ j. Run j run) (sym met-job) p1-run) p1-assumed

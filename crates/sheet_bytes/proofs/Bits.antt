@@ -35,7 +35,8 @@ bits-are : (n : ℕ) (s : NodeSet) (w k : ℕ) → Agree s w k n → bitsFrom s 
 unfolding bitsFrom
 bits-are zero s w k h = sym (mod-one w)
 bits-are (suc n) s w k h =
-    let low : flag (contains s (record { 0 = k })) ≡ w % 2 = ap (λ (i : ℕ). flag (contains s (record { 0 = i }))) (omega arith) ∙ ap flag (h 0 (omega arith)) ∙ lowest w in
+    let low : flag (contains s (record { 0 = k })) ≡ w % 2 = ap (λ (i : ℕ). flag (contains s (record { 0 = i }))) (omega arith) ∙ ap flag
+    (h 0 (omega arith)) ∙ lowest w in
     let high : bitsFrom s (k + 1) n ≡ w / 2 % 2 ^ n = bits-are n s (w / 2) (k + 1) (agree-on s w k n 1 (λ m l. h m (omega arith))) in
     let split : w % 2 ^ suc n ≡ (w / 2 % 2 ^ n) * 2 + w % 2 = ap (λ (x : ℕ). w % x) (pow-suc 2 n) ∙ mod-mul w (pow-pos n) (omega arith) in
     omega arith
@@ -73,7 +74,8 @@ row-more sets b i l =
     let f : 64 * i + 8 * 8 ≡ 64 * (i + 1) = omega arith in
     ap (rowBytes (rowOf sets b) (64 * i)) e
     ∙ bytes-split 8 (8 * (8 - (i + 1))) (rowOf sets b) (64 * i)
-    ∙ ap (λ (bs : List ℕ). bs ++ rowBytes (rowOf sets b) (64 * i + 8 * 8) (8 * (8 - (i + 1)))) (bytes-are 8 (rowOf sets b) (getD sets (b * 8 + i) 0) (64 * i) (word-agrees sets b i l))
+    ∙ ap (λ (bs : List ℕ). bs ++ rowBytes (rowOf sets b) (64 * i + 8 * 8) (8 * (8 - (i + 1))))
+    (bytes-are 8 (rowOf sets b) (getD sets (b * 8 + i) 0) (64 * i) (word-agrees sets b i l))
     ∙ ap (λ (k : ℕ). numberBytes 8 (getD sets (b * 8 + i) 0) ++ rowBytes (rowOf sets b) k (8 * (8 - (i + 1)))) f
 
 pub row-over : (s : NodeSet) (i : ℕ) → 8 ≤ i → rowBytes s (64 * i) (8 * (8 - i)) ≡ []

@@ -7,12 +7,12 @@ use mathlib.Core.List.{List, [], _∷_, _++_, map}
 use lib.ListN.{length, getD, take, length-append, List·getD-map}
 use lib.Seq.{getD-take}
 use Rattle.entries.specs.declared.BlockId.{BlockId}
-use Rattle.model.specs.Job.{Block, idsOf}
+use Rattle.model.specs.Job.{Block, idsOf, blockId}
 use Rattle.model.specs.Sets.{NodeSet}
 use Rattle.model.specs.Answer.{rowBytes, setBytes}
 use Rattle.rows.specs.Rows.{rowOf, rowsFrom, rowsOf}
 use Rattle.writer.proofs.Bytes.{number-length}
-use Rattle.sheet_bytes.specs.Sheet.{blockId, blockBytes, blocksBytes}
+use Rattle.sheet_bytes.specs.Sheet.{blockBytes, blocksBytes}
 
 row-length : (s : NodeSet) (k n : ℕ) → length (rowBytes s k n) ≡ n
 unfolding rowBytes
@@ -49,9 +49,11 @@ module _ (numbers rows : List ℕ) where
       let here : blockId (getD numbers b 0) ≡ x .id = ap (λ (i : ℕ). blockId (getD numbers i 0)) (omega arith) ∙ h 0 (omega arith) in
       let rest : blocksBytes numbers rows (suc b) n ≡ setBytes bs (rowsFrom rows (suc b) n)
       = blocks-from bs (suc b) n (omega arith) (λ k l. ap (λ (i : ℕ). blockId (getD numbers i 0)) (omega arith) ∙ h (suc k) (omega arith)) in
-      ap (λ (i : BlockId). blockBytes i (rowOf rows b) ++ blocksBytes numbers rows (suc b) n) here ∙ ap (λ (ys : List ℕ). blockBytes (x .id) (rowOf rows b) ++ ys) rest
+      ap (λ (i : BlockId). blockBytes i (rowOf rows b) ++ blocksBytes numbers rows (suc b) n) here ∙ ap
+      (λ (ys : List ℕ). blockBytes (x .id) (rowOf rows b) ++ ys) rest
 
-  pub blocks-are : (bs : List Block) (n : ℕ) → length bs ≡ n → map blockId (take n numbers) ≡ idsOf bs → blocksBytes numbers rows 0 n ≡ setBytes bs (rowsOf rows n)
+  pub blocks-are : (bs : List Block) (n : ℕ) → length bs ≡ n → map blockId (take n numbers) ≡ idsOf bs → blocksBytes numbers rows 0 n ≡ setBytes bs
+      (rowsOf rows n)
   unfolding rowsOf
   blocks-are bs n e ids =
       blocks-from bs 0 n e (λ k l. ap (λ (i : ℕ). blockId (getD numbers i 0)) (zero-add k)

@@ -6,7 +6,7 @@ use mathlib.Core.List.{List, [], _++_, map}
 use lib.ListN.{length, getD, take}
 use Rattle.entries.specs.declared.BlockId.{BlockId}
 use Rattle.entries.specs.Path.{ReactiveScopeDependency}
-use Rattle.model.specs.Job.{Job, idsOf}
+use Rattle.model.specs.Job.{blockId, Job, idsOf}
 use Rattle.model.specs.Rounds.{Rounds}
 use Rattle.model.specs.Propagation.{Work}
 use Rattle.model.specs.Sets.{NodeSet}
@@ -24,10 +24,6 @@ rootOf d = record { identifier = d .identifier; reactive = d .reactive }
 abbrev pub headBytes : ℕ → ℕ → ℕ → Bool → List ℕ
 headBytes nodes blocks rounds settled = u16 SH ++ u16 nodes ++ u16 blocks ++ u8 rounds ++ u8 (flag settled)
 
--- the id of a block from its number
-abbrev pub blockId : ℕ → BlockId
-blockId i = record { 0 = i }
-
 -- "Per block .. SE, id u32, 64 bytes where node k is bit k mod 8 of byte k div 8."
 abbrev pub blockBytes : BlockId → NodeSet → List ℕ
 blockBytes id s = u16 SE ++ u32 (id .0) ++ rowBytes s 0 64
@@ -37,8 +33,9 @@ unfoldable pub blocksBytes : List ℕ → List ℕ → ℕ → ℕ → List ℕ
 blocksBytes numbers rows b zero = []
 blocksBytes numbers rows b (suc n) = blockBytes (blockId (getD numbers b 0)) (rowOf rows b) ++ blocksBytes numbers rows (suc b) n
 
--- The job has n blocks, whose ids have these numbers; the work p has the registry and the sets that the words hold, after so many rounds, settled or not.
-pub record Propagated (ws rows numbers : List ℕ) (n ran : ℕ) (last : Bool) (j : Job) (p : Rounds Work) : Type 0 where
+-- The job has n blocks, whose ids have these numbers; the work p has the registry and the sets that
+-- the words hold, after so many rounds, settled or not.
+pub record HoldsPropagated (ws rows numbers : List ℕ) (n ran : ℕ) (last : Bool) (j : Job) (p : Rounds Work) : Type 0 where
   pub count : length (j .blocks) ≡ n
   pub ids : map blockId (take n numbers) ≡ idsOf (j .blocks)
   pub registry : p .work .registry ≡ registryOf ws
@@ -49,4 +46,5 @@ pub record Propagated (ws rows numbers : List ℕ) (n ran : ℕ) (last : Bool) (
 -- The sheet of that job stands in the buffer from its start on.
 abbrev pub WritesSheet : List ℕ → List ℕ → List ℕ → ℕ → ℕ → Bool → List ℕ → List ℕ → ℕ → Type 0
 WritesSheet ws sets ids blocks rounds settled before after next =
-    (j : Job) (p : Rounds Work) → Propagated ws sets ids blocks rounds settled j p → Writes before after 0 (sheetBytes spanWidth j p) next
+    (j : Job) (p : Rounds Work) → HoldsPropagated ws sets ids blocks rounds settled j p → Writes before after 0
+    (sheetBytes spanWidth j p) next

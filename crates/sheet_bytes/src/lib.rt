@@ -1,5 +1,5 @@
-// The bytes of a sheet: its head, each node of the registry with its root's identifier and reactive mark, and each block's set as a row of
-// bits.
+// The bytes of a sheet: its head, each node of the registry with its root's identifier and reactive
+// mark, and each block's set as a row of bits.
 ghost use Prim.Native.Nat.{_+_, _*_, _≤_, _<_};
 ghost use mathlib.Core.Path.{_≡_};
 ghost use lib.ListN.{length};
@@ -76,10 +76,12 @@ fn put_origin(out: &mut [u8], at: usize, n: Node) -> usize
     }
 }
 
-// A node: its parent, its root's identifier, the entry by which it is a child, its span and its root's reactive mark.
+// A node: its parent, its root's identifier, the entry by which it is a child, its span and its
+// root's reactive mark.
 fn put_node(ws: &[u64; 1665], k: NodeId, out: &mut [u8], at: usize) -> usize
     requires { ⌜ HoldsRegistry (now ws) × (k .0 < countIn (now ws)) × (at + 23 ≤ length (now out)) ⌝ }
-    ensures { λ r. ⌜ Writes (now (out .entry)) (now (out .exit)) at (nodeBytes spanWidth (nodeAt (registryOf (now (ws .entry))) (k .0))) r ⌝ }
+    ensures { λ r. ⌜ Writes (now (out .entry)) (now (out .exit)) at
+        (nodeBytes spanWidth (nodeAt (registryOf (now (ws .entry))) (k .0))) r ⌝ }
 {
     let n = registry::load(ws, k);
     let root = root_of(ws, k);
@@ -95,7 +97,8 @@ fn put_node(ws: &[u64; 1665], k: NodeId, out: &mut [u8], at: usize) -> usize
 // All nodes, in the order of their making.
 fn put_nodes(ws: &[u64; 1665], out: &mut [u8], start: usize) -> usize
     requires { ⌜ HoldsRegistry (now ws) × (start + 23 * 512 ≤ length (now out)) ⌝ }
-    ensures { λ r. ⌜ Writes (now (out .entry)) (now (out .exit)) start (concatMap (nodeBytes spanWidth) (registryOf (now (ws .entry)))) r ⌝ }
+    ensures { λ r. ⌜ Writes (now (out .entry)) (now (out .exit)) start
+        (concatMap (nodeBytes spanWidth) (registryOf (now (ws .entry)))) r ⌝ }
 {
     let end = registry::count(ws);
     let mut at = start;
@@ -176,7 +179,8 @@ pub fn put_sheet(
     out: &mut [u8],
 ) -> usize
     requires { ⌜ HoldsRegistry (now ws) × (blocks ≤ 128) × (leastBuffer ≤ length (now out)) ⌝ }
-    ensures { λ r. ⌜ WritesSheet (now (ws .entry)) (now (sets .entry)) (now (ids .entry)) blocks rounds settled (now (out .entry)) (now (out .exit)) r ⌝ }
+    ensures { λ r. ⌜ WritesSheet (now (ws .entry)) (now (sets .entry)) (now (ids .entry)) blocks rounds settled (now (out .entry))
+        (now (out .exit)) r ⌝ }
 {
     let nodes_at = put_head(out, registry::count(ws), blocks, rounds, settled);
     let blocks_at = put_nodes(ws, out, nodes_at);

@@ -7,8 +7,8 @@ use lib.ListN.{length, getD, take}
 use lib.Seq.{sets, getD-take}
 use Rattle.entries.specs.declared.BlockId.{BlockId}
 use Rattle.entries.specs.declared.Refusal.{Refusal}
-use Rattle.model.specs.Read.{Read, got, refused}
-use Rattle.model.specs.Job.{HD, Block, Job, idsOf, readJob}
+use Rattle.model.specs.ReadingBytes.{Read, got, refused}
+use Rattle.model.specs.Job.{HD, Block, Job, idsOf, readJob, blockId}
 use Rattle.model.specs.Stage.{blockAt}
 use Rattle.model.specs.Answer.{longestJob}
 use Rattle.job.specs.Kept.{BlocksAt, blockPlaces, blockNumbers, headOf, keptOf}
@@ -19,7 +19,6 @@ use Rattle.job.proofs.Accepted.{Accepted, accepted, place-noted}
 use Rattle.job.proofs.Records.{answer-refused}
 use Rattle.job.proofs.Stored.{stored}
 use Rattle.edges.specs.Fills.{IdsAt}
-use Rattle.sheet_bytes.specs.Sheet.{blockId}
 use Rattle.stage.specs.Jobs.{AcceptedJob}
 
 getD-map : {A B : Type 0} (f : A → B) (l : List A) (k : ℕ) (d : A) → getD (map f l) k (f d) ≡ f (getD l k d)
@@ -31,9 +30,11 @@ getD-map f (x ∷ l) (suc k) d = getD-map f l k d
 ids-at : (ids : List ℕ) (n : ℕ) (j : Job) → length (j .blocks) ≡ n → map blockId (take n ids) ≡ idsOf (j .blocks) → IdsAt ids j
 ids-at ids n j count listed k l =
     sym (getD-take n ids k 0 (omega arith))
-    ∙ ap (λ (i : BlockId). i .0) (sym (getD-map blockId (take n ids) k 0) ∙ ap (λ (is : List BlockId). getD is k (blockId 0)) listed ∙ getD-map (λ (b : Block). b .id) (j .blocks) k (record { id = record { 0 = 0 }; predecessors = []; assumed = [] }))
+    ∙ ap (λ (i : BlockId). i .0) (sym (getD-map blockId (take n ids) k 0) ∙ ap (λ (is : List BlockId). getD is k (blockId 0)) listed ∙ getD-map
+    (λ (b : Block). b .id) (j .blocks) k (record { id = record { 0 = 0 }; predecessors = []; assumed = [] }))
 
-pub accepts : (s : List ℕ) {head : JobHead} → Value head ≡ keptOf s (readJob HD 4 s) → length s ≤ longestJob → (l₁ l₂ ids places : List ℕ) → length l₁ ≡ 128 → length l₂ ≡ 128
+pub accepts : (s : List ℕ) {head : JobHead} → Value head ≡ keptOf s (readJob HD 4 s) → length s ≤ longestJob → (l₁ l₂ ids places : List ℕ)
+    → length l₁ ≡ 128 → length l₂ ≡ 128
     → ids ≡ sets l₁ 0 (blockNumbers s) → places ≡ sets l₂ 0 (blockPlaces s) → AcceptedJob s ids places head
 accepts s {head} e short l₁ l₂ ids places wide₁ wide₂ noted-ids noted-places =
     let a = accepted s e in

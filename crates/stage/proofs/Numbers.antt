@@ -1,4 +1,5 @@
--- The numbers of outcomes as signed words: a length below 2 ^ 63 is itself, and the numbers of refusals fit below 0.
+-- The numbers of outcomes as signed words: a length below 2 ^ 63 is itself, and the numbers of
+-- refusals fit below 0.
 use Prim.Native.Nat.{ℕ, _^_, _≤_, _<_}
 use native.Mathlib.Omega.{arith}
 use mathlib.Core.Path.{_≡_, refl, sym, ap, subst, _∙_}
@@ -10,7 +11,17 @@ use mir.Val.{SFits, toZ, ofZ}
 use mir.Facts.{sfits-lit, toZ-ofZ, toZ-pos}
 use borrow.Author.Needs.{sfits-of}
 use Rattle.entries.specs.declared.Refusal.{Refusal}
-use Rattle.entries.specs.declared.Refusal.the-variants.{ShortBuffer, LongJob, MissingByte, WrongMark, OutOfRange, ExtraByte, RepeatedId, UnknownBlock, ManyNodes}
+use Rattle.entries.specs.declared.Refusal.the-variants.{
+  ShortBuffer,
+  LongJob,
+  MissingByte,
+  WrongMark,
+  OutOfRange,
+  ExtraByte,
+  RepeatedId,
+  UnknownBlock,
+  ManyNodes,
+}
 use Rattle.entries.specs.Refusals.{refusalNumber}
 use Rattle.model.specs.Answer.{Verdict, writes, turnsBack, numberReturned, bufferAfter}
 use Rattle.stage.specs.declared.Outcome.{Outcome}
@@ -61,7 +72,8 @@ verdict-number : (v : Verdict) → outcomeNumber (outcomeOf v) ≡ numberReturne
 verdict-number (writes bytes) = refl
 verdict-number (turnsBack r) = refl
 
-pub number-returned : {v : Verdict} {o : Outcome} {before after : List ℕ} {z : ℤ} → Meets v o before after → z ≡ outcomeNumber o → (z ≡ numberReturned v) × (after ≡ bufferAfter v before)
+pub number-returned : {v : Verdict} {o : Outcome} {before after : List ℕ} {z : ℤ} → Meets v o before after → z ≡ outcomeNumber o →
+    (z ≡ numberReturned v) × (after ≡ bufferAfter v before)
 number-returned {v} m e = (e ∙ ap outcomeNumber (m .outcome) ∙ verdict-number v, m .buffer)
 
 -- What was written is no longer than the buffer.

@@ -1,4 +1,5 @@
--- The outcome of an operation by its verdict: refusals 1 and 2 by the lengths, 3 to 8 by the reader, 9 by the registry, and the bytes.
+-- The outcome of an operation by its verdict: refusals 1 and 2 by the lengths, 3 to 8 by the
+-- reader, 9 by the registry, and the bytes.
 use Prim.Native.Nat.{ℕ, _≤_, _<_}
 use native.Mathlib.Omega.{arith}
 use native.Mathlib.Nat.{zero-add}
@@ -11,17 +12,32 @@ use lib.Dec.{ltb}
 use Rattle.entries.specs.declared.Refusal.{Refusal}
 use Rattle.entries.specs.declared.Refusal.the-variants.{ShortBuffer, LongJob, ManyNodes}
 use Rattle.model.specs.Tests.{ltb-less, ltb-not-less}
-use Rattle.model.specs.Read.{Read, got, refused}
+use Rattle.model.specs.ReadingBytes.{Read, got, refused}
 use Rattle.model.specs.Registry.{nodeLimit}
 use Rattle.model.specs.Rounds.{Rounds}
 use Rattle.model.specs.Propagation.{Work, JoiningRule, doneNeighbours}
 use Rattle.model.specs.Job.{HD, Job, readJob}
 use Rattle.model.specs.Stage.{propagated}
-use Rattle.model.specs.Answer.{Verdict, writes, turnsBack, withinNodes, onJob, leastBuffer, longestJob, spanWidth, verdict, answerBytes, answerOf, sheetBytes, sheetOf, bufferAfter}
+use Rattle.model.specs.Answer.{
+  Verdict,
+  writes,
+  turnsBack,
+  withinNodes,
+  onJob,
+  leastBuffer,
+  longestJob,
+  spanWidth,
+  verdict,
+  answerBytes,
+  answerOf,
+  sheetBytes,
+  sheetOf,
+  bufferAfter,
+}
 use Rattle.registry.specs.Words.{registryOf, Held}
 use Rattle.registry.proofs.View.{registry-length}
 use Rattle.writer.specs.Writes.{Writes}
-use Rattle.propagation.specs.declared.Run.{Run}
+use Rattle.propagation.specs.declared.RoundsRun.{RoundsRun}
 use Rattle.propagation.specs.Propagates.{HoldsRounds}
 use Rattle.propagation.proofs.Answers.{propagated-registry}
 use Rattle.stage.specs.declared.Operation.{Operation}
@@ -35,7 +51,8 @@ pub refuses : {v : Verdict} {r : Refusal} {out : List ℕ} → v ≡ turnsBack r
 refuses {out = out} e = record { outcome = sym (ap outcomeOf e); buffer = sym (ap (λ v. bufferAfter v out) e) }
 
 -- bytes that stand in the buffer from its start on are written before the rest of it
-pub stands-written : {v : Verdict} {bytes before after : List ℕ} {next : ℕ} → v ≡ writes bytes → Writes before after 0 bytes next → length bytes ≤ length before → Meets v (Written next) before after
+pub stands-written : {v : Verdict} {bytes before after : List ℕ} {next : ℕ} → v ≡ writes bytes → Writes before after 0 bytes next
+    → length bytes ≤ length before → Meets v (Written next) before after
 stands-written {v} {bytes} {before} {after} {next} e w fits = record {
   outcome = ap Written (w .ends ∙ zero-add (length bytes)) ∙ sym (ap outcomeOf e);
   buffer = w .is ∙ sets-eq bytes before 0 (omega arith) ∙ ap (λ n. bytes ++ drop n before) (zero-add (length bytes)) ∙ sym (ap (λ v. bufferAfter v before) e);
@@ -52,13 +69,16 @@ module _ (rule : JoiningRule) (op : Operation) (s : List ℕ) (j : Job) (end : �
   read-verdict = ap (onJob rule (operationBytes op spanWidth)) reads
 
   pub full-refused : nodeLimit < length (p .work .registry) → jobVerdict rule op s ≡ turnsBack ManyNodes
-  full-refused h = read-verdict ∙ ap (λ b. cond b (turnsBack ManyNodes) (writes (operationBytes op spanWidth j p))) (ltb-less nodeLimit (length (p .work .registry)) h)
+  full-refused h = read-verdict ∙ ap (λ b. cond b (turnsBack ManyNodes) (writes (operationBytes op spanWidth j p)))
+      (ltb-less nodeLimit (length (p .work .registry)) h)
 
-  pub room-written : {n : ℕ} {run : Run} {sets ws os : List ℕ} → HoldsRounds p n run sets ws os → jobVerdict rule op s ≡ writes (operationBytes op spanWidth j p)
+  pub room-written : {n : ℕ} {run : RoundsRun} {sets ws os : List ℕ} → HoldsRounds p n run sets ws os → jobVerdict rule op s ≡ writes
+      (operationBytes op spanWidth j p)
   room-written {ws = ws} x =
       let size = ap length (propagated-registry x) ∙ registry-length ws in
       let room = x .stands .held .sized .room in
-      read-verdict ∙ ap (λ b. cond b (turnsBack ManyNodes) (writes (operationBytes op spanWidth j p))) (ltb-not-less nodeLimit (length (p .work .registry)) (omega arith))
+      read-verdict ∙ ap (λ b. cond b (turnsBack ManyNodes) (writes (operationBytes op spanWidth j p)))
+      (ltb-not-less nodeLimit (length (p .work .registry)) (omega arith))
 
 -- Any bytes and any buffer.
 

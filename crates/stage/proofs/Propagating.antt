@@ -1,4 +1,5 @@
--- The propagation of a job: its assumed paths entered and its graph filled are what the definition starts from.
+-- The propagation of a job: its assumed paths entered and its graph filled are what the definition
+-- starts from.
 use Prim.Native.Nat.{ℕ, _≤_, _<_}
 use native.Mathlib.Omega.{arith}
 use mathlib.Core.Path.{_≡_, refl, sym, ap, subst, _∙_}
@@ -19,19 +20,20 @@ use Rattle.rows.specs.Rows.{rowsOf}
 use Rattle.registry.specs.Words.{registryOf}
 use Rattle.job.specs.Kept.{blocksOf}
 use Rattle.job.proofs.BlocksAt.{blocks-read}
-use Rattle.assumed.specs.declared.Entered.{Entered}
-use Rattle.assumed.specs.declared.Entered.the-variants as entered
+use Rattle.assumed.specs.declared.BlocksEntered.{BlocksEntered}
+use Rattle.assumed.specs.declared.BlocksEntered.the-variants as entered
 use Rattle.assumed.specs.Start.{StartHeld, Starts}
 use Rattle.graph.specs.Bytes.{sizeIn, graphIn}
 use Rattle.laws.specs.GraphsAgree.{Agree, propagation-agrees}
 use Rattle.edges.specs.Fills.{NotedJob, HoldsGraph}
-use Rattle.propagation.specs.Joins.{Stands, Ready}
+use Rattle.propagation.specs.Joins.{RowsStand, Ready}
 use Rattle.propagation.specs.Propagates.{Propagates}
 use Rattle.propagation.specs.declared.Propagated.{Propagated}
 use Rattle.propagation.specs.declared.Propagated.the-variants.{Full}
 
 -- a registry that has passed the limit before propagation stays beyond it
-pub full-start : (rule : JoiningRule) (bs : List Block) → nodeLimit < length (enterBlocks [] bs .registry) → nodeLimit < length (propagated rule bs .work .registry)
+pub full-start : (rule : JoiningRule) (bs : List Block) → nodeLimit < length (enterBlocks [] bs .registry) → nodeLimit < length
+    (propagated rule bs .work .registry)
 unfolding propagated
 full-start rule bs h =
     let start = enterBlocks [] bs in
@@ -45,7 +47,7 @@ module _ {bs : List Block} {n : ℕ} {ws os sets g : List ℕ} (count : length b
   pub ready : Ready g sets ws os
   ready = record {
     fits = y .fits;
-    stands = subst (λ m. Stands m sets ws os) (sym size-same) (record {
+    stands = subst (λ m. RowsStand m sets ws os) (sym size-same) (record {
       lent = x .lent;
       held = x .held;
       members = subst (λ (st : Started). All (Members (st .registry)) (st .sets)) (x .same) (start-proper bs .members);
@@ -54,7 +56,12 @@ module _ {bs : List Block} {n : ℕ} {ws os sets g : List ℕ} (count : length b
 
   agrees : Agree (graphIn g) (graphOf bs)
   unfolding graphIn graphOf
-  agrees = record { size = y .size; predecessors = λ b l. y .predecessors b (let s = y .size in omega arith); successors = λ b l. y .successors b (let s = y .size in omega arith) }
+  agrees = record {
+    size = y .size;
+    predecessors = λ b l. y .predecessors b (let s = y .size in omega arith);
+    successors = λ b l. y .successors b
+        (let s = y .size in omega arith);
+  }
 
   want-same : (rule : JoiningRule) → propagateNonNull rule (graphIn g) (registryOf ws) (rowsOf sets (sizeIn g)) ≡ propagated rule bs
   unfolding propagated
@@ -63,13 +70,15 @@ module _ {bs : List Block} {n : ℕ} {ws os sets g : List ℕ} (count : length b
       ∙ propagation-agrees rule agrees (registryOf ws) (rowsOf sets n)
       ∙ ap (λ (st : Started). propagateNonNull rule (graphOf bs) (st .registry) (st .sets)) (sym (x .same))
 
-  pub propagates : (rule : JoiningRule) (r : Propagated) (sets′ ws′ os′ : List ℕ) → Propagates (propagateNonNull rule (graphIn g) (registryOf ws) (rowsOf sets (sizeIn g))) (sizeIn g) r sets′ ws′ os′
+  pub propagates : (rule : JoiningRule) (r : Propagated) (sets′ ws′ os′ : List ℕ) → Propagates
+      (propagateNonNull rule (graphIn g) (registryOf ws) (rowsOf sets (sizeIn g))) (sizeIn g) r sets′ ws′ os′
       → Propagates (propagated rule bs) n r sets′ ws′ os′
   propagates rule r sets′ ws′ os′ h =
-      subst (λ m. Propagates (propagated rule bs) m r sets′ ws′ os′) size-same (subst (λ (w : Rounds Work). Propagates w (sizeIn g) r sets′ ws′ os′) (want-same rule) h)
+      subst (λ m. Propagates (propagated rule bs) m r sets′ ws′ os′) size-same
+      (subst (λ (w : Rounds Work). Propagates w (sizeIn g) r sets′ ws′ os′) (want-same rule) h)
 
 -- the answer of `enter_blocks` by its case
-module _ (want : Started) (n : ℕ) (r : Entered) (ws os sets : List ℕ) (h : Starts want n r ws os sets) where
+module _ (want : Started) (n : ℕ) (r : BlocksEntered) (ws os sets : List ℕ) (h : Starts want n r ws os sets) where
   pub entered-all : r ≡ entered.All → StartHeld want n ws os sets
   entered-all e = subst (λ q. Starts want n q ws os sets) e h
 
@@ -81,5 +90,6 @@ module _ {s ids places : List ℕ} {n : ℕ} (noted : NotedJob s ids places n) w
   pub blocks-count : length (blocksOf s) ≡ n
   blocks-count = ap length (blocks-read (noted .job) (noted .blocks)) ∙ noted .blocks .count
 
-  pub job-propagated : (rule : JoiningRule) (r : Propagated) (sets ws os : List ℕ) → Propagates (propagated rule (blocksOf s)) n r sets ws os → Propagates (propagated rule (noted .job .blocks)) n r sets ws os
+  pub job-propagated : (rule : JoiningRule) (r : Propagated) (sets ws os : List ℕ) → Propagates (propagated rule (blocksOf s)) n r sets ws os
+      → Propagates (propagated rule (noted .job .blocks)) n r sets ws os
   job-propagated rule r sets ws os = subst (λ (bs : List Block). Propagates (propagated rule bs) n r sets ws os) (blocks-read (noted .job) (noted .blocks))

@@ -1,4 +1,5 @@
--- The bytes of an accepted job: the scope block's row is its set, the candidates are the job's, and the ids noted are its blocks'.
+-- The bytes of an accepted job: the scope block's row is its set, the candidates are the job's, and
+-- the ids noted are its blocks'.
 use Prim.Native.Nat.{ℕ, _*_, _≤_, _<_}
 use native.Mathlib.Omega.{arith}
 use mathlib.Core.Path.{_≡_, refl, sym, ap, subst, _∙_}
@@ -10,7 +11,7 @@ use Rattle.model.specs.Lists.{concatMap, anyOf}
 use Rattle.model.specs.ListLaws.{All, all-getD}
 use Rattle.model.specs.Tests.{decide, never}
 use Rattle.model.specs.Sets.{NodeSet}
-use Rattle.model.specs.Read.{got, readMany}
+use Rattle.model.specs.ReadingBytes.{got, readMany}
 use Rattle.model.specs.Job.{HD, CA, Block, Job, readPath, readJob, containsId, idsOf, hasUnknown}
 use Rattle.model.specs.Registry.{PropertyPathRegistry, fullPathOf}
 use Rattle.model.specs.ReductionLaws.{Members}
@@ -32,7 +33,7 @@ use Rattle.laws.specs.Membership.{Member, neither}
 use Rattle.laws.specs.GraphLaws.{contains-member, place-known}
 use Rattle.edges.specs.Rows.{idsNoted, placeAmong}
 use Rattle.edges.proofs.Jobs.{place-is}
-use Rattle.propagation.specs.declared.Run.{Run}
+use Rattle.propagation.specs.declared.RoundsRun.{RoundsRun}
 use Rattle.propagation.specs.Joins.{workOf}
 use Rattle.propagation.specs.Propagates.{roundsOf}
 use Rattle.answer_bytes.specs.Answers.{answerOver, WritesAnswer}
@@ -57,7 +58,8 @@ scope-known : (j : Job) → hasUnknown j ≡ false → Member (j .scope) (idsOf 
 unfolding hasUnknown
 scope-known j u =
     let ids = idsOf (j .blocks) in
-    contains-member ids (j .scope) (not-false (containsId ids (j .scope)) (neither (anyOf (λ (b : Block). anyOf (λ i. not (containsId ids i)) (b .predecessors)) (j .blocks)) (not (containsId ids (j .scope))) u .1))
+    contains-member ids (j .scope) (not-false (containsId ids (j .scope))
+    (neither (anyOf (λ (b : Block). anyOf (λ i. not (containsId ids i)) (b .predecessors)) (j .blocks)) (not (containsId ids (j .scope))) u .1))
 
 -- A sheet of at most 512 nodes and 128 blocks has its room.
 
@@ -67,7 +69,8 @@ sets-length [] sets = omega arith
 sets-length (b ∷ bs) [] = omega arith
 sets-length (b ∷ bs) (t ∷ ts) = omega (arith, length-append (blockBytes (b .id) t) (setBytes bs ts), block-length (b .id) t, sets-length bs ts)
 
-sheet-fits : (j : Job) (p : Rounds Work) (before : List ℕ) → length (p .work .registry) ≤ 512 → length (j .blocks) ≤ 128 → leastBuffer ≤ length before → length (sheetBytes spanWidth j p) ≤ length before
+sheet-fits : (j : Job) (p : Rounds Work) (before : List ℕ) → length (p .work .registry) ≤ 512 → length (j .blocks) ≤ 128 → leastBuffer ≤ length before
+    → length (sheetBytes spanWidth j p) ≤ length before
 unfolding sheetBytes
 sheet-fits j p before nodes blocks wide =
     let head = headBytes (length (p .work .registry)) (length (j .blocks)) (p .rounds) (p .settled) in
@@ -90,7 +93,8 @@ module _ {s ids places : List ℕ} {head : JobHead} (acc : AcceptedJob s ids pla
   n = head .blocks
 
   member : Member (job .scope) (idsOf (job .blocks))
-  member = subst (λ (k : Job). Member (k .scope) (idsOf (k .blocks))) (same-job job (acc .noted .blocks)) (scope-known (job-accepted job (acc .noted .blocks) .job) (job-accepted job (acc .noted .blocks) .no-unknown))
+  member = subst (λ (k : Job). Member (k .scope) (idsOf (k .blocks))) (same-job job (acc .noted .blocks))
+      (scope-known (job-accepted job (acc .noted .blocks) .job) (job-accepted job (acc .noted .blocks) .no-unknown))
 
   scope-same : head .scope ≡ job .scope
   scope-same = ap (λ (h : JobHead). h .scope) (acc .keeps)
@@ -115,25 +119,31 @@ module _ {s ids places : List ℕ} {head : JobHead} (acc : AcceptedJob s ids pla
     -- the scope block's row is a set of the registry's nodes
     pub scope-members : (set : NodeSet) → set ≡ rowOf sets place → Members (registryOf ws) set
     scope-members set e =
-        subst (Members (registryOf ws)) (row-is ∙ sym e) (all-getD (Members (registryOf ws)) (rowsOf sets n) (placeOf (job .blocks) (job .scope)) [] (stands .members) (members-empty (registryOf ws)))
+        subst (Members (registryOf ws)) (row-is ∙ sym e)
+        (all-getD (Members (registryOf ws)) (rowsOf sets n) (placeOf (job .blocks) (job .scope)) [] (stands .members) (members-empty (registryOf ws)))
 
     -- the answer over the words is the job's
-    pub puts-answer : (set : NodeSet) → set ≡ rowOf sets place → (run : Run) (before after : List ℕ) (next : ℕ)
-        → WritesAnswer s (head .«candidates_at») (head .candidates) (registryOf ws) set (run .rounds) (run .settled) before after next → PutsJob Answer s head sets ws run before after next
+    pub puts-answer : (set : NodeSet) → set ≡ rowOf sets place → (run : RoundsRun) (before after : List ℕ) (next : ℕ)
+        → WritesAnswer s (head .«candidates_at») (head .candidates) (registryOf ws) set (run .rounds) (run .settled) before after next
+        → PutsJob Answer s head sets ws run before after next
     unfolding answerBytes returnedPaths hoistablePaths workOf
     puts-answer set e run before after next w j end reads p same =
         let j-same : j ≡ job = (let b = sym reads ∙ acc .noted .blocks .reads in cc) in
         let a = job-accepted job (acc .noted .blocks) in
         let h = acc .keeps in
         let cs : readMany (head .candidates) (readPath 4 CA) s (head .«candidates_at») ≡ got (job .candidates) (length s) =
-        subst (λ (k : Job). readMany (head .candidates) (readPath 4 CA) s (head .«candidates_at») ≡ got (k .candidates) (length s)) (same-job job (acc .noted .blocks))
-        (subst (λ (h : JobHead). readMany (h .candidates) (readPath 4 CA) s (h .«candidates_at») ≡ got (a .job .candidates) (length s)) (sym h) (a .candidates-read)) in
+        subst (λ (k : Job). readMany (head .candidates) (readPath 4 CA) s (head .«candidates_at») ≡ got (k .candidates) (length s))
+        (same-job job (acc .noted .blocks))
+        (subst (λ (h : JobHead). readMany (h .candidates) (readPath 4 CA) s (h .«candidates_at») ≡ got (a .job .candidates) (length s)) (sym h)
+        (a .candidates-read)) in
         let sets-same : setOf (rowsOf sets n) (placeOf (job .blocks) (job .scope)) ≡ set = row-is ∙ sym e in
         subst (λ (q : Rounds Work). Stand before after (answerBytes spanWidth j q) next) (sym same)
         (subst (λ (k : Job). Stand before after (answerBytes spanWidth k (roundsOf n sets ws run)) next) (sym j-same)
-        (subst (λ (t : NodeSet). Stand before after (answerOver (deriveMinimalDependencies (map (fullPathOf (registryOf ws)) t) (job .candidates)) (run .rounds) (run .settled)) next) (sym sets-same) (w (job .candidates) (length s) cs)))
+        (subst (λ (t : NodeSet). Stand before after
+        (answerOver (deriveMinimalDependencies (map (fullPathOf (registryOf ws)) t) (job .candidates)) (run .rounds) (run .settled)) next)
+        (sym sets-same) (w (job .candidates) (length s) cs)))
 
-  pub puts-sheet : (sets ws : List ℕ) → Standing n sets ws → (run : Run) (before after : List ℕ) (next : ℕ) → leastBuffer ≤ length before
+  pub puts-sheet : (sets ws : List ℕ) → Standing n sets ws → (run : RoundsRun) (before after : List ℕ) (next : ℕ) → leastBuffer ≤ length before
       → WritesSheet ws sets ids n (run .rounds) (run .settled) before after next → PutsJob Sheet s head sets ws run before after next
   unfolding workOf
   puts-sheet sets ws stands run before after next wide w j end reads p same =

@@ -6,8 +6,8 @@ use lib.ListN.{length, take}
 use lib.IntN.{ℤ, pos, negℤ}
 use Rattle.entries.specs.Refusals.{refusalNumber}
 use Rattle.model.specs.ListLaws.{All}
-use Rattle.model.specs.Read.{got}
-use Rattle.model.specs.Job.{HD, Job, idsOf, readJob}
+use Rattle.model.specs.ReadingBytes.{got}
+use Rattle.model.specs.Job.{HD, Job, idsOf, readJob, blockId}
 use Rattle.model.specs.RegistryLaws.{Sound}
 use Rattle.model.specs.ReductionLaws.{Members}
 use Rattle.model.specs.Rounds.{Rounds}
@@ -21,10 +21,9 @@ use Rattle.job.specs.Kept.{blocksOf, headOf}
 use Rattle.job.specs.declared.JobHead.{JobHead}
 use Rattle.edges.specs.Fills.{NotedJob}
 use Rattle.propagation.specs.Propagates.{roundsOf, Propagates}
-use Rattle.propagation.specs.declared.Run.{Run}
+use Rattle.propagation.specs.declared.RoundsRun.{RoundsRun}
 use Rattle.propagation.specs.declared.Propagated.{Propagated}
 use Rattle.answer_bytes.specs.Answers.{CandidatesAt}
-use Rattle.sheet_bytes.specs.Sheet.{blockId}
 use Rattle.stage.specs.declared.Operation.{Operation}
 use Rattle.stage.specs.declared.Operation.the-variants as operation
 use Rattle.stage.specs.declared.Outcome.{Outcome}
@@ -55,7 +54,8 @@ pub record Meets (v : Verdict) (r : Outcome) (before after : List ℕ) : Type 0 
   pub outcome : r ≡ outcomeOf v
   pub buffer : after ≡ bufferAfter v before
 
--- The verdict of an operation under a joining rule, on any bytes and any buffer (`answerOf`, `sheetOf`).
+-- The verdict of an operation under a joining rule, on any bytes and any buffer (`answerOf`,
+-- `sheetOf`).
 unfoldable pub verdictOf : JoiningRule → Operation → List ℕ → List ℕ → Verdict
 unfolding verdict
 verdictOf rule op s out = verdict HD spanWidth rule (operationBytes op) s out
@@ -82,9 +82,9 @@ pub record Standing (n : ℕ) (sets ws : List ℕ) : Type 0 where
 abbrev pub PropagatesJob : JoiningRule → List ℕ → ℕ → Propagated → List ℕ → List ℕ → List ℕ → Type 0
 PropagatesJob rule s n r sets ws os = Propagates (propagated rule (blocksOf s)) n r sets ws os
 
--- The operation's bytes of the job that is read, where its propagation left these words after this run, stand in the buffer from its start on, and have
--- their room there.
-abbrev pub PutsJob : Operation → List ℕ → JobHead → List ℕ → List ℕ → Run → List ℕ → List ℕ → ℕ → Type 0
+-- The operation's bytes of the job that is read, where its propagation left these words after this
+-- run, stand in the buffer from its start on, and have their room there.
+abbrev pub PutsJob : Operation → List ℕ → JobHead → List ℕ → List ℕ → RoundsRun → List ℕ → List ℕ → ℕ → Type 0
 PutsJob op s head sets ws run before after next =
     (j : Job) (end : ℕ) → readJob HD spanWidth s ≡ got j end → (p : Rounds Work) → p ≡ roundsOf (head .blocks) sets ws run
     → Writes before after 0 (operationBytes op spanWidth j p) next × (length (operationBytes op spanWidth j p) ≤ length before)

@@ -1,4 +1,5 @@
-// The two operations on a job's bytes: its answer and its sheet, written into an out buffer, or the refusal.
+// The two operations on a job's bytes: its answer and its sheet, written into an out buffer, or the
+// refusal.
 ghost use mathlib.Core.Path.{_≡_};
 ghost use Prim.Native.Nat.{_≤_, _<_};
 ghost use lib.ListN.{length};
@@ -8,12 +9,22 @@ ghost use Rattle.registry.specs.Words.{HoldsNone};
 ghost use Rattle.stage.specs.declared.Operation.the-variants.{Answer};
 ghost use Rattle.edges.specs.Fills.{NotedJob};
 ghost use Rattle.model.specs.Propagation.{doneNeighbours};
-ghost use Rattle.stage.specs.Jobs.{AcceptedJob, Standing, PropagatesJob, PutsJob, verdictOf, jobVerdict, Meets, FitsNumber, outcomeNumber};
+ghost use Rattle.stage.specs.Jobs.{
+  AcceptedJob,
+  Standing,
+  PropagatesJob,
+  PutsJob,
+  verdictOf,
+  jobVerdict,
+  Meets,
+  FitsNumber,
+  outcomeNumber,
+};
 use entries::Refusal;
 use job::JobHead;
 use job::ReadJob;
 use propagation::Propagated;
-use propagation::Run;
+use propagation::RoundsRun;
 
 // What is written of a job.
 pub enum Operation {
@@ -41,7 +52,7 @@ fn propagate(
     ensures { λ r. ⌜ PropagatesJob doneNeighbours (now (s .entry)) blocks r (now (sets .exit)) (now (ws .exit)) (now (optional .exit)) ⌝ }
 {
     let entered = assumed::enter_blocks(s, places, blocks, ws, optional, sets);
-    let assumed::Entered::All = entered else {
+    let assumed::BlocksEntered::All = entered else {
         return Propagated::Full;
     };
     let mut graph = [0u8; 10497];
@@ -57,11 +68,13 @@ fn put_answer(
     head: JobHead,
     ws: &[u64; 1665],
     sets: &[u64; 1024],
-    run: Run,
+    run: RoundsRun,
     out: &mut [u8],
 ) -> usize
-    requires { ⌜ AcceptedJob (now s) (now ids) (now places) head × Standing (head .blocks) (now sets) (now ws) × (run .rounds < 256) × (leastBuffer ≤ length (now out)) ⌝ }
-    ensures { λ r. ⌜ PutsJob Answer (now (s .entry)) head (now (sets .entry)) (now (ws .entry)) run (now (out .entry)) (now (out .exit)) r ⌝ }
+    requires { ⌜ AcceptedJob (now s) (now ids) (now places) head × Standing (head .blocks) (now sets) (now ws) × (run .rounds < 256)
+        × (leastBuffer ≤ length (now out)) ⌝ }
+    ensures { λ r. ⌜ PutsJob Answer (now (s .entry)) head (now (sets .entry)) (now (ws .entry)) run (now (out .entry))
+        (now (out .exit)) r ⌝ }
 {
     let scope = head.scope;
     let place = edges::place_of(ids, head.blocks, scope);
@@ -87,11 +100,13 @@ fn put(
     head: JobHead,
     ws: &[u64; 1665],
     sets: &[u64; 1024],
-    run: Run,
+    run: RoundsRun,
     out: &mut [u8],
 ) -> usize
-    requires { ⌜ AcceptedJob (now s) (now ids) (now places) head × Standing (head .blocks) (now sets) (now ws) × (run .rounds < 256) × (leastBuffer ≤ length (now out)) ⌝ }
-    ensures { λ r. ⌜ PutsJob operation (now (s .entry)) head (now (sets .entry)) (now (ws .entry)) run (now (out .entry)) (now (out .exit)) r ⌝ }
+    requires { ⌜ AcceptedJob (now s) (now ids) (now places) head × Standing (head .blocks) (now sets) (now ws) × (run .rounds < 256)
+        × (leastBuffer ≤ length (now out)) ⌝ }
+    ensures { λ r. ⌜ PutsJob operation (now (s .entry)) head (now (sets .entry)) (now (ws .entry)) run (now (out .entry))
+        (now (out .exit)) r ⌝ }
 {
     match operation {
         Operation::Answer => put_answer(s, ids, places, head, ws, sets, run, out),
@@ -140,7 +155,8 @@ fn perform_read(
 
 // The operation on any bytes and any buffer.
 pub fn perform(operation: Operation, s: &[u8], out: &mut [u8]) -> Outcome
-    ensures { λ r. ⌜ Meets (verdictOf doneNeighbours operation (now (s .entry)) (now (out .entry))) r (now (out .entry)) (now (out .exit)) ⌝ }
+    ensures { λ r. ⌜ Meets (verdictOf doneNeighbours operation (now (s .entry)) (now (out .entry))) r (now (out .entry))
+        (now (out .exit)) ⌝ }
 {
     if out.len() < 24576 {
         return Outcome::Refused(Refusal::ShortBuffer);
@@ -188,7 +204,8 @@ impl Outcome {
 
 #[no_mangle]
 pub extern "C" fn scope_deps_answer(job: &[u8], out: &mut [u8]) -> i64
-    ensures { λ r. ⌜ (r ≡ numberReturned (answerOf (now (job .entry)) (now (out .entry)))) × (now (out .exit) ≡ bufferAfter (answerOf (now (job .entry)) (now (out .entry))) (now (out .entry))) ⌝ }
+    ensures { λ r. ⌜ (r ≡ numberReturned (answerOf (now (job .entry)) (now (out .entry)))) ×
+        (now (out .exit) ≡ bufferAfter (answerOf (now (job .entry)) (now (out .entry))) (now (out .entry))) ⌝ }
 {
     let outcome = answer(job, out);
     outcome.number()
@@ -196,7 +213,8 @@ pub extern "C" fn scope_deps_answer(job: &[u8], out: &mut [u8]) -> i64
 
 #[no_mangle]
 pub extern "C" fn scope_deps_sheet(job: &[u8], out: &mut [u8]) -> i64
-    ensures { λ r. ⌜ (r ≡ numberReturned (sheetOf (now (job .entry)) (now (out .entry)))) × (now (out .exit) ≡ bufferAfter (sheetOf (now (job .entry)) (now (out .entry))) (now (out .entry))) ⌝ }
+    ensures { λ r. ⌜ (r ≡ numberReturned (sheetOf (now (job .entry)) (now (out .entry)))) ×
+        (now (out .exit) ≡ bufferAfter (sheetOf (now (job .entry)) (now (out .entry))) (now (out .entry))) ⌝ }
 {
     let outcome = sheet(job, out);
     outcome.number()

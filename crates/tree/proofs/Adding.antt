@@ -1,4 +1,5 @@
--- A candidate that is walked, merged and appended is added to the forest; no way down becomes longer than the longest walk.
+-- A candidate that is walked, merged and appended is added to the forest; no way down becomes
+-- longer than the longest walk.
 use Prim.Native.Nat.{ℕ, zero, suc, _+_, _≤_, _<_}
 use native.Mathlib.Omega.{arith}
 use mathlib.Core.Path.{_≡_, refl, sym, ap, _∙_}
@@ -63,7 +64,8 @@ module _ (ws : List ℕ) (long : length ws ≡ 1089) where
   }
 
 -- what `append` asks, by what the walk and the pass over the words gave
-pub leaves : {s before mid : List ℕ} {way : Way} {left : Left} {ss : List DependencyPosition} → countIn before + 17 ≤ 1088 → Walks s way ss → Descends s before mid way left → Leaves mid way left
+pub leaves : {s before mid : List ℕ} {way : Way} {left : Left} {ss : List DependencyPosition} → countIn before + 17 ≤ 1088 → Walks s way ss
+    → Descends s before mid way left → Leaves mid way left
 leaves room w d =
     let few = w .few in
     let count = d .count in
@@ -93,5 +95,6 @@ module _ {s before mid after : List ℕ} {way : Way} {left : Left} {ss : List De
   few-more = let few = w .few in let x = a .count in let y = d .count in omega arith
 
 pub added : {s before mid after : List ℕ} {way : Way} {left : Left} (at levels : ℕ) → Held s before
-    → Walks s way (walkBy (bitsOf 17 levels) (rootPosition (pathAt s at)) (pathAt s at .path)) → Descends s before mid way left → Appends mid after way left → Adds s before after at levels
+    → Walks s way (walkBy (bitsOf 17 levels) (rootPosition (pathAt s at)) (pathAt s at .path)) → Descends s before mid way left
+    → Appends mid after way left → Adds s before after at levels
 added at levels held w d a = record { held = after-held held w d a; few = few-more held w d a; is = forest-after held w d a }

@@ -1,4 +1,5 @@
--- What a caller needs beside the contracts: the path of a record that was read, the walk by the hoistable tree, and the room of the returned paths.
+-- What a caller needs beside the contracts: the path of a record that was read, the walk by the
+-- hoistable tree, and the room of the returned paths.
 use Prim.Native.Nat.{ℕ, suc, _+_, _*_, _/_, _%_, _≤_}
 use native.Mathlib.Omega.{arith}
 use mathlib.Core.Path.{_≡_, refl, sym}
@@ -8,20 +9,31 @@ use mathlib.Core.Option.{Option}
 use lib.ListN.{length, length-append}
 use Rattle.entries.specs.declared.DependencyPathEntry.{DependencyPathEntry}
 use Rattle.entries.specs.Path.{ReactiveScopeDependency}
-use Rattle.model.specs.Lists.{concatMap}
-use Rattle.model.specs.Read.{got, readMany}
+use Rattle.model.specs.Lists.{concatMap, firstFlag}
+use Rattle.model.specs.ReadingBytes.{got, readMany}
 use Rattle.model.specs.Job.{readEntry, readPath}
 use Rattle.model.specs.Answer.{DE, flag, entryBytes, pathBytes}
 use Rattle.model.specs.Tests.{decide}
 use Rattle.model.specs.Forest.{Forest, empty, position, Found, propertyKey, childByKey, firsts}
-use Rattle.model.specs.Tree.{HoistablePosition, hoistableKey, atNonNull, DependencyPosition, isDependency, stepTo, stepAccess, walkEntries, dependencyOf, entryOf}
+use Rattle.model.specs.Tree.{
+  HoistablePosition,
+  hoistableKey,
+  atNonNull,
+  DependencyPosition,
+  isDependency,
+  stepTo,
+  stepAccess,
+  walkEntries,
+  dependencyOf,
+  entryOf,
+}
 use Rattle.job.proofs.Ends.{ended-at, entry-ends}
 use Rattle.job.proofs.Many.{many-all}
 use Rattle.job.proofs.RecordParts.{path-parts}
 use Rattle.writer.specs.Writes.{pathHeadBytes}
 use Rattle.writer.proofs.Bytes.{entry-length, path-head-length}
 use Rattle.tree.specs.Words.{headAt, entryAt}
-use Rattle.tree.specs.Walk.{firstFlag, restFlags, walkBy, bitsOf, entriesFrom, pathAt}
+use Rattle.tree.specs.Walk.{restFlags, walkBy, bitsOf, entriesFrom, pathAt}
 use Rattle.tree.specs.Tree.{forestOf, height, Held, returnedOf}
 use Rattle.tree.proofs.Adding.{children-lower, others-lower}
 use Rattle.tree.proofs.Putting.{map-length}
@@ -49,7 +61,8 @@ FlagsAt h [] fs = Unit {0}
 FlagsAt h (e ∷ es) fs = (firstFlag fs ≡ atNonNull h) × FlagsAt (childByKey hoistableKey h (propertyKey (e .property))) es (restFlags fs)
 
 -- a walk by such flags is the walk by the tree
-pub walk-by-flags : (h : Option (Found HoistablePosition)) (p : DependencyPosition) (es : List DependencyPathEntry) (fs : List Bool) → FlagsAt h es fs → walkBy fs p es ≡ walkEntries h p es
+pub walk-by-flags : (h : Option (Found HoistablePosition)) (p : DependencyPosition) (es : List DependencyPathEntry) (fs : List Bool) → FlagsAt h es fs
+    → walkBy fs p es ≡ walkEntries h p es
 unfolding walkEntries
 walk-by-flags h p [] fs a = refl
 walk-by-flags h p (e ∷ es) fs a =
@@ -60,7 +73,8 @@ pub bits-cons : (n : ℕ) (b : Bool) (x : ℕ) → bitsOf (suc n) (flag b + 2 * 
 bits-cons n true x = let low : (1 + 2 * x) % 2 ≡ 1 = omega arith in let high : (1 + 2 * x) / 2 ≡ x = omega arith in rw (low, high)
 bits-cons n false x = let low : (0 + 2 * x) % 2 ≡ 0 = omega arith in let high : (0 + 2 * x) / 2 ≡ x = omega arith in rw (low, high)
 
--- The room of the returned paths: no way down is longer than 17 positions, so a record has at most 12 + 16 * 14 bytes.
+-- The room of the returned paths: no way down is longer than 17 positions, so a record has at most
+-- 12 + 16 * 14 bytes.
 
 entries-bytes : (es : List DependencyPathEntry) → length (concatMap (entryBytes 4) es) ≡ 14 * length es
 entries-bytes [] = refl
@@ -70,7 +84,13 @@ path-bytes : (d : ReactiveScopeDependency) → length (pathBytes 4 DE d) ≡ 12 
 unfolding pathBytes
 path-bytes d =
     let head = pathHeadBytes DE (d .identifier) (d .reactive) (d .span) (length (d .path)) in
-    omega (arith, length-append head (concatMap (entryBytes 4) (d .path)), path-head-length DE (d .identifier) (d .reactive) (d .span) (length (d .path)), entries-bytes (d .path))
+    omega (
+      arith,
+      length-append head (concatMap (entryBytes 4) (d .path)),
+      path-head-length DE (d .identifier) (d .reactive) (d .span)
+          (length (d .path)),
+      entries-bytes (d .path),
+    )
 
 way-short : (ps : List DependencyPosition) → length ps ≤ 17 → length (pathBytes 4 DE (dependencyOf ps)) ≤ 236
 way-short [] h = omega (arith, path-bytes (dependencyOf []))
@@ -79,7 +99,8 @@ way-short (p ∷ ps) h = omega (arith, path-bytes (dependencyOf (p ∷ ps)), map
 abbrev behind : List DependencyPosition → Forest DependencyPosition → List ReactiveScopeDependency
 behind before f = map (λ w. dependencyOf (before ++ w)) (firsts isDependency f)
 
-behind-short : (f : Forest DependencyPosition) (before : List DependencyPosition) → length before + height f ≤ 17 → length (bytesOf (behind before f)) ≤ 236 * length (behind before f)
+behind-short : (f : Forest DependencyPosition) (before : List DependencyPosition) → length before + height f ≤ 17 → length
+    (bytesOf (behind before f)) ≤ 236 * length (behind before f)
 behind-short empty before h = omega arith
 behind-short (position p c r) before h =
     let more = before ++ (p ∷ []) in
@@ -94,7 +115,14 @@ behind-short (position p c r) before h =
       map-append (λ w. dependencyOf (before ++ w)) (map (λ w. p ∷ w) (firsts isDependency c)) (firsts isDependency r),
       through before p (firsts isDependency c),
       bytes-append (behind more c) (behind before r),
-    ) (omega (arith, behind-short c more (omega arith), after, length-append (bytesOf (behind more c)) (bytesOf (behind before r)), length-append (behind more c) (behind before r))))
+    ) (omega (
+      arith,
+      behind-short c more (omega arith),
+      after,
+      length-append (bytesOf (behind more c)) (bytesOf (behind before r)),
+      length-append
+          (behind more c) (behind before r),
+    )))
 
 pub returned-short : (s ws : List ℕ) → Held s ws → length (bytesOf (returnedOf s ws)) ≤ 236 * length (returnedOf s ws)
 unfolding returnedOf

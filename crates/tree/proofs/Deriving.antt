@@ -1,4 +1,5 @@
--- The first dependencies on each way down, position by position: what is still to be derived from here on is the rest of the whole.
+-- The first dependencies on each way down, position by position: what is still to be derived from
+-- here on is the rest of the whole.
 use Prim.Native.Nat.{ℕ, suc, _+_, _-_, _≤_, _<_}
 use native.Mathlib.Omega.{arith}
 use native.Mathlib.Numerals.{add-one}
@@ -22,7 +23,21 @@ use Rattle.tree.specs.Flat.{grow, flatFirsts}
 use Rattle.tree.specs.Words.{parentIn, placeIn, accessIn, positionOf, nodeOf, nodesFrom}
 use Rattle.tree.specs.Walk.{wayPositions}
 use Rattle.tree.proofs.FlatLaws.{flat-firsts}
-use Rattle.tree.specs.Tree.{countIn, nodesOf, forestOf, height, Sized, Held, returnedOf, nodesAfter, returnedFrom, pathsFrom, Derives, Puttable, Derivable}
+use Rattle.tree.specs.Tree.{
+  countIn,
+  nodesOf,
+  forestOf,
+  height,
+  Sized,
+  Held,
+  returnedOf,
+  nodesAfter,
+  returnedFrom,
+  pathsFrom,
+  Derives,
+  Puttable,
+  Derivable,
+}
 use Rattle.tree.proofs.Packed.{position-access}
 use Rattle.tree.proofs.Walking.{way-pushed}
 use Rattle.tree.proofs.Adding.{children-lower, others-lower}
@@ -89,28 +104,50 @@ module _ (s ws : List ℕ) (parent i : ℕ) (way : Way) (h : i < countIn ws) whe
   low-other n = rw (after-one, eqb-apart (parentIn word) parent n, ← add-one i)
 
   module _ (e : parentIn word ≡ parent) where
-    low-here : height (grow (nodesAfter s ws i) i parent) ≡ cond (leb (suc (height (grow (nodesAfter s ws (i + 1)) (i + 1) (i + 1)))) (height (grow (nodesAfter s ws (i + 1)) (i + 1) parent)))
+    low-here : height (grow (nodesAfter s ws i) i parent) ≡ cond
+        (leb (suc (height (grow (nodesAfter s ws (i + 1)) (i + 1) (i + 1)))) (height (grow (nodesAfter s ws (i + 1)) (i + 1) parent)))
         (height (grow (nodesAfter s ws (i + 1)) (i + 1) parent)) (suc (height (grow (nodesAfter s ws (i + 1)) (i + 1) (i + 1))))
     low-here = rw (after-one, eqb-equal (parentIn word) parent e, ← add-one i)
 
     pub low-children : (n : ℕ) → height (grow (nodesAfter s ws i) i parent) ≤ n → height (grow (nodesAfter s ws (i + 1)) (i + 1) (i + 1)) < n
-    low-children n l = children-lower (height (grow (nodesAfter s ws (i + 1)) (i + 1) (i + 1))) (height (grow (nodesAfter s ws (i + 1)) (i + 1) parent)) n (subst (λ m. m ≤ n) low-here l)
+    low-children n l = children-lower (height (grow (nodesAfter s ws (i + 1)) (i + 1) (i + 1)))
+        (height (grow (nodesAfter s ws (i + 1)) (i + 1) parent)) n (subst (λ m. m ≤ n) low-here l)
 
     pub low-others : (n : ℕ) → height (grow (nodesAfter s ws i) i parent) ≤ n → height (grow (nodesAfter s ws (i + 1)) (i + 1) parent) ≤ n
-    low-others n l = others-lower (height (grow (nodesAfter s ws (i + 1)) (i + 1) (i + 1))) (height (grow (nodesAfter s ws (i + 1)) (i + 1) parent)) n (subst (λ m. m ≤ n) low-here l)
+    low-others n l = others-lower (height (grow (nodesAfter s ws (i + 1)) (i + 1) (i + 1))) (height (grow (nodesAfter s ws (i + 1)) (i + 1) parent)) n
+        (subst (λ m. m ≤ n) low-here l)
 
     module _ (long : way .depth < length (way .words)) where
-      pub paths-dependency : isDependencyAccess (accessIn word) ≡ true → pathsFrom s ws parent i way ≡ (dependencyOf (wayPositions s next) ∷ []) ++ pathsFrom s ws parent (i + 1) way
+      pub paths-dependency : isDependencyAccess (accessIn word) ≡ true
+          → pathsFrom s ws parent i way ≡ (dependencyOf (wayPositions s next) ∷ []) ++ pathsFrom s ws parent (i + 1) way
       unfolding pathsFrom
       paths-dependency d =
-          rw (after-one, eqb-equal (parentIn word) parent e, ap isDependencyAccess (position-access s (parentIn word) (placeIn word) (accessIn word)) ∙ d, way-pushed s way word long, ← add-one i)
+          rw (
+            after-one,
+            eqb-equal (parentIn word) parent e,
+            ap isDependencyAccess (position-access s (parentIn word) (placeIn word) (accessIn word))
+                ∙ d,
+            way-pushed s way word long,
+            ← add-one i,
+          )
 
-      pub paths-children : isDependencyAccess (accessIn word) ≡ false → pathsFrom s ws parent i way ≡ pathsFrom s ws (i + 1) (i + 1) next ++ pathsFrom s ws parent (i + 1) way
+      pub paths-children : isDependencyAccess (accessIn word) ≡ false → pathsFrom s ws parent i way ≡ pathsFrom s ws (i + 1)
+          (i + 1) next ++ pathsFrom s ws parent (i + 1) way
       unfolding pathsFrom
       paths-children d =
-          rw (after-one, eqb-equal (parentIn word) parent e, ap isDependencyAccess (position-access s (parentIn word) (placeIn word) (accessIn word)) ∙ d, way-pushed s way word long, ← add-one i)
-          (map-append (λ w. dependencyOf (wayPositions s way ++ w)) (map (λ w. here ∷ w) (flatFirsts isDependency (nodesAfter s ws (i + 1)) (i + 1) (i + 1))) (flatFirsts isDependency (nodesAfter s ws (i + 1)) (i + 1) parent)
-          ∙ ap (λ l. l ++ returnedFrom (wayPositions s way) (nodesAfter s ws (i + 1)) (i + 1) parent) (through (wayPositions s way) here (flatFirsts isDependency (nodesAfter s ws (i + 1)) (i + 1) (i + 1))))
+          rw (
+            after-one,
+            eqb-equal (parentIn word) parent e,
+            ap isDependencyAccess (position-access s (parentIn word) (placeIn word) (accessIn word))
+                ∙ d,
+            way-pushed s way word long,
+            ← add-one i,
+          )
+          (map-append (λ w. dependencyOf (wayPositions s way ++ w))
+          (map (λ w. here ∷ w) (flatFirsts isDependency (nodesAfter s ws (i + 1)) (i + 1) (i + 1)))
+          (flatFirsts isDependency (nodesAfter s ws (i + 1)) (i + 1) parent)
+          ∙ ap (λ l. l ++ returnedFrom (wayPositions s way) (nodesAfter s ws (i + 1)) (i + 1) parent)
+          (through (wayPositions s way) here (flatFirsts isDependency (nodesAfter s ws (i + 1)) (i + 1) (i + 1))))
 
 -- The loop over the positions.
 
@@ -123,7 +160,8 @@ pub record Deriving (s ws : List ℕ) (parent from : ℕ) (way : Way) (before ou
   pub counts : done .count + length (pathsFrom s ws parent i way) ≡ start .count + length (pathsFrom s ws parent from way)
   pub few : done .count ≤ done .at
 
-pub deriving-start : {s ws : List ℕ} {parent from : ℕ} {way : Way} {out : List ℕ} {start : Written} → Derivable s ws parent from way out start → Deriving s ws parent from way out out start start from
+pub deriving-start : {s ws : List ℕ} {parent from : ℕ} {way : Way} {out : List ℕ} {start : Written} → Derivable s ws parent from way out start
+    → Deriving s ws parent from way out out start start from
 deriving-start {out = out} {start = start} d = record {
   sized = d .sized;
   reached = omega arith;
@@ -134,7 +172,8 @@ deriving-start {out = out} {start = start} d = record {
   few = d .few;
 }
 
-module _ {s ws : List ℕ} {parent from : ℕ} {way : Way} {before out : List ℕ} {start done : Written} {i : ℕ} (d : Deriving s ws parent from way before out start done i) where
+module _ {s ws : List ℕ} {parent from : ℕ} {way : Way} {before out : List ℕ} {start done : Written} {i : ℕ}
+    (d : Deriving s ws parent from way before out start done i) where
   none-left : countIn ws ≤ i → pathsFrom s ws parent i way ≡ []
   unfolding pathsFrom
   none-left h = let z : countIn ws - i ≡ 0 = omega arith in rw z
@@ -171,7 +210,8 @@ module _ {s ws : List ℕ} {parent from : ℕ} {way : Way} {before out : List �
       }
 
   -- what is written now finds its room
-  part-room : (ds : List ReactiveScopeDependency) → pathsFrom s ws parent i way ≡ ds ++ pathsFrom s ws parent (i + 1) way → done .at + length (bytesOf ds) ≤ length out
+  part-room : (ds : List ReactiveScopeDependency) → pathsFrom s ws parent i way ≡ ds ++ pathsFrom s ws parent (i + 1) way → done .at + length
+      (bytesOf ds) ≤ length out
   part-room ds e =
       let rest = pathsFrom s ws parent (i + 1) way in
       let all = coming-room (coming-as (ap bytesOf e ∙ bytes-append ds rest) (d .coming)) (d .room) in
@@ -208,7 +248,8 @@ module _ {s ws : List ℕ} {parent from : ℕ} {way : Way} {before out : List �
           let short = deriving-short in
           record { some = omega arith; short = omega arith; room = omega arith; few = d .few }
 
-      deriving-put : isDependencyAccess (accessIn (getD ws i 0)) ≡ true → (more : List ℕ) (next : Written) → Derives (dependencyOf (wayPositions s deeper) ∷ []) out more done next
+      deriving-put : isDependencyAccess (accessIn (getD ws i 0)) ≡ true → (more : List ℕ) (next : Written) → Derives
+          (dependencyOf (wayPositions s deeper) ∷ []) out more done next
           → Deriving s ws parent from way before more start next (i + 1)
       deriving-put t = deriving-more (dependencyOf (wayPositions s deeper) ∷ []) (paths-dependency s ws parent i way h e within t) others
 
@@ -220,7 +261,8 @@ module _ {s ws : List ℕ} {parent from : ℕ} {way : Way} {before out : List �
         few = d .few;
       }
 
-      deriving-derived : isDependencyAccess (accessIn (getD ws i 0)) ≡ false → (more : List ℕ) (next : Written) → Derives (pathsFrom s ws (i + 1) (i + 1) deeper) out more done next
+      deriving-derived : isDependencyAccess (accessIn (getD ws i 0)) ≡ false → (more : List ℕ) (next : Written) → Derives
+          (pathsFrom s ws (i + 1) (i + 1) deeper) out more done next
           → Deriving s ws parent from way before more start next (i + 1)
       deriving-derived t = deriving-more (pathsFrom s ws (i + 1) (i + 1) deeper) (paths-children s ws parent i way h e within t) others
 
@@ -229,13 +271,15 @@ module _ {s ws : List ℕ} {parent from : ℕ} {way : Way} {before out : List �
         pub asked-put : dependency ≡ true → Puttable s to out done
         asked-put t = rw pushed (deriving-puttable (sym tested ∙ t))
 
-        pub put : dependency ≡ true → (more : List ℕ) (next : Written) → Derives (dependencyOf (wayPositions s to) ∷ []) out more done next → Deriving s ws parent from way before more start next (i + 1)
+        pub put : dependency ≡ true → (more : List ℕ) (next : Written) → Derives (dependencyOf (wayPositions s to) ∷ []) out more done next
+            → Deriving s ws parent from way before more start next (i + 1)
         put t more next x = deriving-put (sym tested ∙ t) more next (rw pushed at x)
 
         pub asked-derived : dependency ≡ false → Derivable s ws (i + 1) (i + 1) to out done
         asked-derived t = rw pushed (deriving-derivable (sym tested ∙ t))
 
-        pub derived : dependency ≡ false → (more : List ℕ) (next : Written) → Derives (pathsFrom s ws (i + 1) (i + 1) to) out more done next → Deriving s ws parent from way before more start next (i + 1)
+        pub derived : dependency ≡ false → (more : List ℕ) (next : Written) → Derives (pathsFrom s ws (i + 1) (i + 1) to) out more done next
+            → Deriving s ws parent from way before more start next (i + 1)
         derived t more next x = deriving-derived (sym tested ∙ t) more next (rw pushed at x)
 
 -- The whole.
@@ -248,12 +292,14 @@ module _ (s ws words : List ℕ) where
   unfolding pathsFrom returnedOf forestOf nodesOf
   paths-all = let e : countIn ws - 0 ≡ countIn ws = omega arith in rw e (ap (map dependencyOf) (flat-firsts isDependency (nodesFrom s ws 0 (countIn ws)) 0 0))
 
-  pub derivable : (out : List ℕ) (at : ℕ) → Held s ws → at + length (bytesOf (returnedOf s ws)) ≤ length out → Derivable s ws 0 0 root out (record { at = at; count = 0 })
+  pub derivable : (out : List ℕ) (at : ℕ) → Held s ws → at + length (bytesOf (returnedOf s ws)) ≤ length out → Derivable s ws 0 0 root out
+      (record { at = at; count = 0 })
   unfolding forestOf nodesOf
   derivable out at held room =
       let e : countIn ws - 0 ≡ countIn ws = omega arith in
       let low = held .low in
       record { sized = held .sized; low = rw e (omega arith); room = rw paths-all room; few = omega arith }
 
-  pub derives-all : {before after : List ℕ} {start done : Written} → Derives (pathsFrom s ws 0 0 root) before after start done → Derives (returnedOf s ws) before after start done
+  pub derives-all : {before after : List ℕ} {start done : Written} → Derives (pathsFrom s ws 0 0 root) before after start done → Derives
+      (returnedOf s ws) before after start done
   derives-all {before} {after} {start} {done} x = subst (λ (ds : List ReactiveScopeDependency). Derives ds before after start done) paths-all x

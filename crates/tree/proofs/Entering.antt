@@ -1,4 +1,5 @@
--- A way down entered into the words: one pass that merges what is there, and one that makes the rest.
+-- A way down entered into the words: one pass that merges what is there, and one that makes the
+-- rest.
 use Prim.Native.Nat.{ℕ, zero, suc, _+_, _-_, _≤_, _<_}
 use native.Mathlib.Omega.{arith}
 use native.Mathlib.Numerals.{add-one}
@@ -50,7 +51,8 @@ entered-nil : (xs : List (Node DependencyPosition)) (i p : ℕ) → entered xs i
 entered-nil [] i p = refl
 entered-nil (x ∷ xs) i p = refl
 
-pub rest-step : (s : List ℕ) (way : Way) (found : ℕ) → found < way .depth → restOf s way found ≡ positionOf s (getD (way .words) found 0) ∷ restOf s way (found + 1)
+pub rest-step : (s : List ℕ) (way : Way) (found : ℕ) → found < way .depth → restOf s way found ≡ positionOf s (getD (way .words) found 0) ∷ restOf s way
+    (found + 1)
 rest-step s way found h = let e : way .depth - found ≡ suc (way .depth - (found + 1)) = omega arith in rw (e, add-one found)
 
 pub rest-over : (s : List ℕ) (way : Way) (found : ℕ) → way .depth ≤ found → restOf s way found ≡ []
@@ -58,7 +60,8 @@ rest-over s way found h = let e : way .depth - found ≡ 0 = omega arith in rw e
 
 -- The pass that merges.
 
--- At position i: those before it are passed, and the rest of the way is to be entered among the others, below `last`.
+-- At position i: those before it are passed, and the rest of the way is to be entered among the
+-- others, below `last`.
 pub record Descending (s before ws : List ℕ) (way : Way) (last found i : ℕ) : Type 0 where
   pub long : length ws ≡ 1089
   pub count : countIn ws ≡ countIn before
@@ -131,7 +134,8 @@ module _ {s before ws : List ℕ} {way : Way} {last found i : ℕ} (d : Descendi
 
     at-position : entered (nodesOf s before) 0 0 (wayPositions s way)
         ≡ nodesFrom s ws 0 i ++ cond (matches (nodeOf s word) last (positionOf s step))
-        (record { parent = parentIn word; here = mergePosition (positionOf s word) (positionOf s step) } ∷ entered behind (suc i) (suc i) (restOf s way (found + 1)))
+        (record { parent = parentIn word; here = mergePosition (positionOf s word) (positionOf s step) } ∷ entered behind (suc i) (suc i)
+        (restOf s way (found + 1)))
         (nodeOf s word ∷ entered behind (suc i) last (positionOf s step ∷ restOf s way (found + 1)))
     at-position = d .is ∙ (let e : countIn before - i ≡ suc (countIn before - (i + 1)) = omega arith in rw (e, rest-step s way found k))
 
@@ -148,10 +152,12 @@ module _ {s before ws : List ℕ} {way : Way} {last found i : ℕ} (d : Descendi
       is = at-position
           ∙ rw (t, ← rest-step s way found k, ← add-one i)
           (sym (append-assoc (nodesFrom s ws 0 i) (nodeOf s word ∷ []) _)
-          ∙ ap (λ (l : List (Node DependencyPosition)). l ++ entered (nodesFrom s ws (i + 1) (countIn before - (i + 1))) (i + 1) last (restOf s way found)) (sym (nodes-snoc s ws i)));
+          ∙ ap (λ (l : List (Node DependencyPosition)). l ++ entered (nodesFrom s ws (i + 1) (countIn before - (i + 1))) (i + 1) last
+          (restOf s way found)) (sym (nodes-snoc s ws i)));
     }
 
-    descending-match : matches (nodeOf s word) last (positionOf s step) ≡ true → Descending s before (set ws i (mergedWord word step)) way (i + 1) (found + 1) (i + 1)
+    descending-match : matches (nodeOf s word) last (positionOf s step) ≡ true → Descending s before (set ws i (mergedWord word step)) way (i + 1)
+        (found + 1) (i + 1)
     descending-match t =
         let room = d .room in
         let long = d .long in
@@ -168,11 +174,13 @@ module _ {s before ws : List ℕ} {way : Way} {last found i : ℕ} (d : Descendi
           is = at-position
               ∙ rw (t, ← merged-node s word step, ← add-one i, ← nodes-above s ws i (mergedWord word step) (i + 1) (countIn before - (i + 1)) (omega arith))
               (sym (append-assoc (nodesFrom s ws 0 i) (nodeOf s (mergedWord word step) ∷ []) _)
-              ∙ ap (λ (l : List (Node DependencyPosition)). l ++ entered (nodesFrom s vs (i + 1) (countIn before - (i + 1))) (i + 1) (i + 1) (restOf s way (found + 1))) (sym (nodes-stored s ws i (mergedWord word step) (omega arith))));
+              ∙ ap (λ (l : List (Node DependencyPosition)). l ++ entered (nodesFrom s vs (i + 1) (countIn before - (i + 1))) (i + 1) (i + 1)
+              (restOf s way (found + 1))) (sym (nodes-stored s ws i (mergedWord word step) (omega arith))));
         }
 
     -- the two cases, as the code tells them
-    module _ (merged : Bool) (vs : List ℕ) (told : merged ≡ matches (nodeOf s word) last (positionOf s step)) (stored : vs ≡ cond merged (set ws i (mergedWord word step)) ws) where
+    module _ (merged : Bool) (vs : List ℕ) (told : merged ≡ matches (nodeOf s word) last (positionOf s step))
+        (stored : vs ≡ cond merged (set ws i (mergedWord word step)) ws) where
       pub descending-merged : merged ≡ true → Descending s before vs way (i + 1) (found + 1) (i + 1)
       descending-merged e = rw (stored, e) (descending-match (sym told ∙ e))
 
@@ -218,7 +226,8 @@ module _ {before ws : List ℕ} {way : Way} {left : Left} {end last at : ℕ} (x
   pub appending-few : at < way .depth → end < 1088
   appending-few h = let a = x .grown in let b = x .fits in omega arith
 
-  pub appending-more : at < way .depth → let step = getD (way .words) at 0 in Appending before (set ws end (pack last (placeIn step) (accessIn step))) way left (end + 1) (end + 1) (at + 1)
+  pub appending-more : at < way .depth → let step = getD (way .words) at 0 in Appending before
+      (set ws end (pack last (placeIn step) (accessIn step))) way left (end + 1) (end + 1) (at + 1)
   appending-more h =
       let step = getD (way .words) at 0 in
       let w = pack last (placeIn step) (accessIn step) in
@@ -245,7 +254,8 @@ module _ {before ws : List ℕ} {way : Way} {left : Left} {end last at : ℕ} (x
             x .is s
             ∙ rw (rest-step s way at h, ← made, ← add-one end)
             (sym (append-assoc (nodesFrom s ws 0 end) (nodeOf s w ∷ []) _)
-            ∙ ap (λ (l : List (Node DependencyPosition)). l ++ fresh (end + 1) (end + 1) (restOf s way (at + 1))) (sym (nodes-stored s ws end w (omega arith))));
+            ∙ ap (λ (l : List (Node DependencyPosition)). l ++ fresh (end + 1) (end + 1) (restOf s way (at + 1)))
+            (sym (nodes-stored s ws end w (omega arith))));
       }
 
   pub appending-over : way .depth ≤ at → Appends before (set ws 1088 end) way left

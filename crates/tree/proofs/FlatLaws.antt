@@ -1,4 +1,5 @@
--- A forest as a list of nodes with parent numbers: entering a way down adds it to the forest, and its first dependencies are the forest's.
+-- A forest as a list of nodes with parent numbers: entering a way down adds it to the forest, and
+-- its first dependencies are the forest's.
 use Prim.Native.Nat.{ℕ, suc, _≤_}
 use native.Mathlib.Omega.{arith}
 use mathlib.Core.Path.{_≡_, refl, sym, _∙_}
@@ -27,8 +28,13 @@ module _ {P : Type 0} (key : P → Key) (merge : P → P → P) where
   frame (x ∷ xs) i p q [] h k n = refl
   frame (x ∷ xs) i p q (s ∷ ss) h k n =
       by-cond (λ ys. grow ys i p ≡ grow (x ∷ xs) i p) (eqb (x .parent) q && sameKey (key (x .here)) (key s))
-      (λ e. rw (eqb-apart (x .parent) p (λ g. n (sym (eqb-true (x .parent) q (and-first _ _ e)) ∙ g))) (frame xs (suc i) p (suc i) ss (omega arith) (omega arith) (λ g. omega arith)))
-      (λ e. rw (frame xs (suc i) (suc i) q (s ∷ ss) (omega arith) (omega arith) (λ g. omega arith), frame xs (suc i) p q (s ∷ ss) (omega arith) (omega arith) n))
+      (λ e. rw (eqb-apart (x .parent) p (λ g. n (sym (eqb-true (x .parent) q (and-first _ _ e)) ∙ g)))
+      (frame xs (suc i) p (suc i) ss (omega arith) (omega arith) (λ g. omega arith)))
+      (λ e. rw (
+        frame xs (suc i) (suc i) q (s ∷ ss) (omega arith) (omega arith) (λ g. omega arith),
+        frame xs (suc i) p q (s ∷ ss) (omega arith)
+            (omega arith) n,
+      ))
 
   add-nil : (f : Forest P) → add key merge f [] ≡ f
   add-nil empty = refl

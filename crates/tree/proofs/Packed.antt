@@ -58,7 +58,12 @@ module _ (p q : ℕ) (a : PropertyAccessType) (p< : p < 65536) (q< : q < 65536) 
   packed-access : accessIn (pack p q a) ≡ a
   unfolding pack
   packed-access =
-      rw (at-optional p q _ _ p< q< (flag-small (isOptionalAccess a)) (flag-small (isDependencyAccess a)), at-dependency p q _ _ p< q< (flag-small (isOptionalAccess a)) (flag-small (isDependencyAccess a)), flag-back (isOptionalAccess a), flag-back (isDependencyAccess a))
+      rw (
+        at-optional p q _ _ p< q< (flag-small (isOptionalAccess a)) (flag-small (isDependencyAccess a)),
+        at-dependency p q _ _ p< q< (flag-small (isOptionalAccess a)) (flag-small (isDependencyAccess a)),
+        flag-back (isOptionalAccess a),
+        flag-back (isDependencyAccess a),
+      )
       (access-back a)
 
   pub packed-position : (s : List ℕ) → positionOf s (pack p q a) ≡ positionAs s p q a

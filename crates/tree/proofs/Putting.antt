@@ -27,12 +27,22 @@ use Rattle.tree.proofs.Adding.{positions-length}
 -- The parts of a position, by what its parent says.
 module _ (s : List ℕ) (w : ℕ) (optional : Bool) (marked : optional ≡ isOptionalAccess (accessIn w)) where
   pub root-parts : (head : PathHead) → parentIn w ≡ 0 → head ≡ headAt s (placeIn w)
-      → record { identifier = head .identifier; reactive = head .reactive; entry = record { property = String 0; optional = optional; span = head .span } } ≡ partsOf (positionOf s w)
+      → record {
+        identifier = head .identifier;
+        reactive = head .reactive;
+        entry = record
+            { property = String 0; optional = optional; span = head .span };
+      } ≡ partsOf (positionOf s w)
   unfolding positionAs
   root-parts head p e = rw (p, e, marked)
 
   pub child-parts : (entry : DependencyPathEntry) → ¬ (parentIn w ≡ 0) → entry ≡ entryAt s (placeIn w)
-      → record { identifier = record { 0 = 0 }; reactive = false; entry = record { property = entry .property; optional = optional; span = entry .span } } ≡ partsOf (positionOf s w)
+      → record {
+        identifier = record { 0 = 0 };
+        reactive = false;
+        entry = record
+            { property = entry .property; optional = optional; span = entry .span };
+      } ≡ partsOf (positionOf s w)
   unfolding positionAs
   child-parts entry p e = rw (eqb-apart (parentIn w) 0 p, e, marked)
 
@@ -41,7 +51,8 @@ abbrev pub entriesBytes : List ℕ → Way → ℕ → List ℕ
 entriesBytes s way i = concatMap (entryBytes 4) (map entryOf (restOf s way i))
 
 module _ (s : List ℕ) (way : Way) (i : ℕ) where
-  pub entries-next : i < way .depth → (q : Position) → q ≡ partsOf (positionOf s (getD (way .words) i 0)) → entriesBytes s way i ≡ entryBytes 4 (q .entry) ++ entriesBytes s way (i + 1)
+  pub entries-next : i < way .depth → (q : Position) → q ≡ partsOf (positionOf s (getD (way .words) i 0)) → entriesBytes s way i ≡ entryBytes 4
+      (q .entry) ++ entriesBytes s way (i + 1)
   entries-next h q e = ap (λ ps. concatMap (entryBytes 4) (map entryOf ps)) (rest-step s way i h) ∙ rw e
 
   pub entries-over : way .depth ≤ i → entriesBytes s way i ≡ []
@@ -74,7 +85,8 @@ module _ (s : List ℕ) (way : Way) (root last : Position) (h : 0 < way .depth)
       let n = way .depth - 1 in
       rw (from-root, last-span s (way .words) 0 n, zero-add n, map-length entryOf (restOf s way 1), positions-length s (way .words) 1 n, first, end)
 
-  pub way-written : {out mid after : List ℕ} {at entriesAt next : ℕ} → Writes out mid at head-bytes entriesAt → Writes mid after entriesAt (entriesBytes s way 1) next
+  pub way-written : {out mid after : List ℕ} {at entriesAt next : ℕ} → Writes out mid at head-bytes entriesAt → Writes mid after entriesAt
+      (entriesBytes s way 1) next
       → Writes out after at (pathBytes 4 DE (dependencyOf (wayPositions s way))) next
   way-written head entries = writes-as (sym way-bytes) (writes-then head entries)
 

@@ -1,4 +1,5 @@
--- The walk of a candidate, position by position: what is still to be walked behind the positions noted is the whole.
+-- The walk of a candidate, position by position: what is still to be walked behind the positions
+-- noted is the whole.
 use Prim.Native.Nat.{ℕ, zero, suc, _+_, _*_, _-_, _/_, _%_, _≤_, _<_}
 use native.Mathlib.Omega.{arith}
 use native.Mathlib.Numerals.{add-one}
@@ -13,7 +14,7 @@ use Rattle.entries.specs.declared.DependencyPathEntry.{DependencyPathEntry}
 use Rattle.entries.specs.declared.PropertyAccessType.{PropertyAccessType}
 use Rattle.entries.specs.declared.PropertyAccessType.the-variants.{UnconditionalAccess, OptionalDependency}
 use Rattle.entries.specs.Access.{mergeAccess}
-use Rattle.model.specs.Read.{Read, got, refused}
+use Rattle.model.specs.ReadingBytes.{Read, got, refused}
 use Rattle.model.specs.Tests.{decide, eqb-true, eqb-false, eqb-apart}
 use Rattle.model.specs.Tree.{DependencyPosition, ended, stepTo, stepAccess, rootPosition}
 use Rattle.job.specs.Head.{readPathHead}
@@ -51,7 +52,8 @@ head-few s at = few-or (readPathHead s at) (entries-most s at)
 
 pub positions-snoc : (s ws : List ℕ) (k n : ℕ) → positionsFrom s ws k (suc n) ≡ positionsFrom s ws k n ++ (positionOf s (getD ws (k + n) 0) ∷ [])
 positions-snoc s ws k zero = rw (add-zero k)
-positions-snoc s ws k (suc n) = ap (λ (l : List DependencyPosition). positionOf s (getD ws k 0) ∷ l) (let e : k + suc n ≡ suc k + n = omega arith in rw e (positions-snoc s ws (suc k) n))
+positions-snoc s ws k (suc n) = ap (λ (l : List DependencyPosition). positionOf s (getD ws k 0) ∷ l)
+    (let e : k + suc n ≡ suc k + n = omega arith in rw e (positions-snoc s ws (suc k) n))
 
 pub positions-set : (s ws : List ℕ) (m v k n : ℕ) → k + n ≤ m → positionsFrom s (set ws m v) k n ≡ positionsFrom s ws k n
 positions-set s ws m v k zero h = refl
@@ -71,11 +73,13 @@ module _ (s : List ℕ) (way : Way) (place : ℕ) (a : PropertyAccessType) (long
       way-pushed s way (pack (way .depth) place a) (omega arith)
       ∙ ap (λ (q : DependencyPosition). wayPositions s way ++ (q ∷ [])) (packed-position (way .depth) place a (omega arith) near s)
 
-  stepped-parents : ((j : ℕ) → j < way .depth → parentIn (getD (way .words) j 0) ≡ j) → (j : ℕ) → j < way .depth + 1 → parentIn (getD (steppedTo way place a .words) j 0) ≡ j
+  stepped-parents : ((j : ℕ) → j < way .depth → parentIn (getD (way .words) j 0) ≡ j) → (j : ℕ) → j < way .depth + 1 → parentIn
+      (getD (steppedTo way place a .words) j 0) ≡ j
   stepped-parents h j l =
       let w = pack (way .depth) place a in
       decide (eqb j (way .depth))
-      (λ e. let same = eqb-true j (way .depth) e in rw (same, getD-set-same (way .words) (way .depth) w 0 (omega arith)) (packed-parent (way .depth) place a (omega arith) near))
+      (λ e. let same = eqb-true j (way .depth) e in rw (same, getD-set-same (way .words) (way .depth) w 0 (omega arith))
+      (packed-parent (way .depth) place a (omega arith) near))
       (λ e. let other = eqb-false j (way .depth) e in rw (getD-set-other (way .words) (way .depth) j w 0 other) (h j (omega (arith, other))))
 
 -- The walk has come to the position at a place, with `left` entries from `next` on.
@@ -88,7 +92,8 @@ pub record Walking (s : List ℕ) (whole : List DependencyPosition) (way : Way) 
   pub is : wayPositions s way ++ walkBits flags (positionAs s (way .depth) place a) (entriesFrom s next left) ≡ whole
 
 pub walking-start : (s : List ℕ) (at levels : ℕ) (words : List ℕ) (head : PathHead) → length words ≡ 17 → at ≤ 32768 → head ≡ headAt s at
-    → Walking s (walkBy (bitsOf 17 levels) (rootPosition (pathAt s at)) (pathAt s at .path)) (record { words = words; depth = 0 }) at UnconditionalAccess (at + 10) (head .entries) levels
+    → Walking s (walkBy (bitsOf 17 levels) (rootPosition (pathAt s at)) (pathAt s at .path))
+    (record { words = words; depth = 0 }) at UnconditionalAccess (at + 10) (head .entries) levels
 unfolding pathAt positionAs
 walking-start s at levels words head long h e =
     let few = head-few s at in
@@ -102,9 +107,11 @@ walking-start s at levels words head long h e =
       is = sym (walk-bits 17 levels (rootPosition (pathAt s at)) (entriesFrom s (at + 10) (headAt s at .entries)) (omega arith));
     })
 
-module _ {s : List ℕ} {whole : List DependencyPosition} {way : Way} {place : ℕ} {a : PropertyAccessType} {next left flags : ℕ} (w : Walking s whole way place a next left flags) where
+module _ {s : List ℕ} {whole : List DependencyPosition} {way : Way} {place : ℕ} {a : PropertyAccessType} {next left flags : ℕ}
+    (w : Walking s whole way place a next left flags) where
   -- the walk ends at this position
-  walking-ends : walkBits flags (positionAs s (way .depth) place a) (entriesFrom s next left) ≡ ended (positionAs s (way .depth) place a) ∷ [] → Walks s (steppedTo way place (mergeAccess a OptionalDependency)) whole
+  walking-ends : walkBits flags (positionAs s (way .depth) place a) (entriesFrom s next left) ≡ ended (positionAs s (way .depth) place a) ∷ [] → Walks s
+      (steppedTo way place (mergeAccess a OptionalDependency)) whole
   walking-ends e =
       let l = w .long in
       let f = w .few in
@@ -125,7 +132,8 @@ module _ {s : List ℕ} {whole : List DependencyPosition} {way : Way} {place : �
     pub walking-cut : eqb (flags % 2) 1 || e .optional ≡ false → Walks s (steppedTo way place (mergeAccess a OptionalDependency)) whole
     walking-cut t = walking-ends (rw (one-more, t))
 
-    pub walking-more : eqb (flags % 2) 1 || e .optional ≡ true → Walking s whole (steppedTo way place a) next (stepAccess (eqb (flags % 2) 1)) (next + 14) (left - 1) (flags / 2)
+    pub walking-more : eqb (flags % 2) 1 || e .optional ≡ true → Walking s whole (steppedTo way place a) next (stepAccess (eqb (flags % 2) 1))
+        (next + 14) (left - 1) (flags / 2)
     unfolding positionAs
     walking-more t =
         let l = w .long in

@@ -1,5 +1,6 @@
--- A forest as a list of nodes with parent numbers, in the order in which they were made. Node k's number is k + 1, and 0 is the parent of the first
--- positions. A node stands after its parent, so that one pass over the list enters a way down.
+-- A forest as a list of nodes with parent numbers, in the order in which they were made. Node k's
+-- number is k + 1, and 0 is the parent of the first positions. A node stands after its parent, so
+-- that one pass over the list enters a way down.
 use Prim.Native.Nat.{ℕ, suc}
 use mathlib.Core.Bool.{Bool, _&&_, cond}
 use mathlib.Core.List.{List, [], _∷_, _++_, map}
@@ -32,7 +33,8 @@ module _ {P : Type 0} where
         (flatFirsts xs (suc i) p)
 
   module _ (key : P → Key) (merge : P → P → P) where
-    -- a way down from number p is entered: the node of that parent and key is merged with the position, another is made last
+    -- a way down from number p is entered: the node of that parent and key is merged with the
+    -- position, another is made last
     abbrev pub enter : List (Node P) → ℕ → ℕ → List P → List (Node P)
     enter [] i p ss = fresh i p ss
     enter (x ∷ xs) i p [] = x ∷ xs

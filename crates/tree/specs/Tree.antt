@@ -9,7 +9,16 @@ use Rattle.entries.specs.Path.{ReactiveScopeDependency}
 use Rattle.model.specs.Lists.{concatMap}
 use Rattle.model.specs.Answer.{DE, pathBytes, spanWidth}
 use Rattle.model.specs.Forest.{Forest, empty, position, sameKey, add, firsts}
-use Rattle.model.specs.Tree.{DependencyPosition, dependencyKey, mergePosition, isDependency, rootPosition, keyIdentifier, entryOf, dependencyOf}
+use Rattle.model.specs.Tree.{
+  DependencyPosition,
+  dependencyKey,
+  mergePosition,
+  isDependency,
+  rootPosition,
+  keyIdentifier,
+  entryOf,
+  dependencyOf,
+}
 use Rattle.tree.specs.declared.Left.{Left}
 use Rattle.tree.specs.declared.Position.{Position}
 use Rattle.tree.specs.declared.Way.{Way}
@@ -58,7 +67,8 @@ matches x p q = eqb (x .parent) p && sameKey (x .here .key) (q .key)
 abbrev pub restOf : List ℕ → Way → ℕ → List DependencyPosition
 restOf s way found = positionsFrom s (way .words) found (way .depth - found)
 
--- Where a way leaves the positions that are there: what is found lies before what is not, and a root is found first.
+-- Where a way leaves the positions that are there: what is found lies before what is not, and a
+-- root is found first.
 pub record Leaves (ws : List ℕ) (way : Way) (left : Left) : Type 0 where
   pub sized : Sized ws
   pub fits : countIn ws + way .depth ≤ 1088
@@ -68,14 +78,16 @@ pub record Leaves (ws : List ℕ) (way : Way) (left : Left) : Type 0 where
   pub first : eqb (left .last) 0 ≡ eqb (left .found) 0
   pub parents : (j : ℕ) → j < way .depth → parentIn (getD (way .words) j 0) ≡ j
 
--- What a pass over the words has left: the positions found are merged, and the rest of the way is to be made below the last of them.
+-- What a pass over the words has left: the positions found are merged, and the rest of the way is
+-- to be made below the last of them.
 pub record Descends (s before after : List ℕ) (way : Way) (left : Left) : Type 0 where
   pub sized : Sized after
   pub count : countIn after ≡ countIn before
   pub found : left .found ≤ way .depth
   pub last : left .last ≤ countIn before
   pub first : eqb (left .last) 0 ≡ eqb (left .found) 0
-  pub is : entered (nodesOf s before) 0 0 (wayPositions s way) ≡ nodesOf s after ++ fresh (countIn before) (left .last) (restOf s way (left .found))
+  pub is : entered (nodesOf s before) 0 0 (wayPositions s way) ≡ nodesOf s after ++ fresh (countIn before) (left .last)
+      (restOf s way (left .found))
 
 -- The rest of the way stands behind the positions that were there.
 pub record Appends (before after : List ℕ) (way : Way) (left : Left) : Type 0 where
@@ -87,13 +99,15 @@ pub record Appends (before after : List ℕ) (way : Way) (left : Left) : Type 0 
 pub record Adds (s before after : List ℕ) (at levels : ℕ) : Type 0 where
   pub held : Held s after
   pub few : countIn after ≤ countIn before + 17
-  pub is : forestOf s after ≡ add dependencyKey mergePosition (forestOf s before) (walkBy (bitsOf 17 levels) (rootPosition (pathAt s at)) (pathAt s at .path))
+  pub is : forestOf s after ≡ add dependencyKey mergePosition (forestOf s before)
+      (walkBy (bitsOf 17 levels) (rootPosition (pathAt s at)) (pathAt s at .path))
 
 -- what a path takes of a position
 abbrev pub partsOf : DependencyPosition → Position
 partsOf p = record { identifier = keyIdentifier (p .key); reactive = p .reactive; entry = entryOf p }
 
--- "Returned are the first dependencies on each way down, roots and children in order of first insertion": of the forest that the words hold.
+-- "Returned are the first dependencies on each way down, roots and children in order of first
+-- insertion": of the forest that the words hold.
 unfoldable pub returnedOf : List ℕ → List ℕ → List ReactiveScopeDependency
 returnedOf s ws = map dependencyOf (firsts isDependency (forestOf s ws))
 
@@ -101,7 +115,8 @@ returnedOf s ws = map dependencyOf (firsts isDependency (forestOf s ws))
 abbrev pub nodesAfter : List ℕ → List ℕ → ℕ → List (Node DependencyPosition)
 nodesAfter s ws i = nodesFrom s ws i (countIn ws - i)
 
--- the paths of the ways down from number p to the first dependencies, each behind the positions already passed
+-- the paths of the ways down from number p to the first dependencies, each behind the positions
+-- already passed
 abbrev pub returnedFrom : List DependencyPosition → List (Node DependencyPosition) → ℕ → ℕ → List ReactiveScopeDependency
 returnedFrom before xs i p = map (λ w. dependencyOf (before ++ w)) (flatFirsts isDependency xs i p)
 
@@ -121,7 +136,8 @@ pub record Puttable (s : List ℕ) (way : Way) (out : List ℕ) (done : Written)
   pub room : done .at + length (pathBytes spanWidth DE (dependencyOf (wayPositions s way))) ≤ length out
   pub few : done .count ≤ done .at
 
--- What deriving asks: no way down is too long for the words of a way, and the records have their room.
+-- What deriving asks: no way down is too long for the words of a way, and the records have their
+-- room.
 pub record Derivable (s ws : List ℕ) (parent i : ℕ) (way : Way) (out : List ℕ) (start : Written) : Type 0 where
   pub sized : Sized ws
   pub low : way .depth + height (grow (nodesAfter s ws i) i parent) ≤ 17

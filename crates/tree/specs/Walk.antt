@@ -8,15 +8,11 @@ use lib.Dec.{eqb}
 use Rattle.entries.specs.declared.DependencyPathEntry.{DependencyPathEntry}
 use Rattle.entries.specs.declared.PropertyAccessType.{PropertyAccessType}
 use Rattle.entries.specs.Path.{ReactiveScopeDependency}
+use Rattle.model.specs.Lists.{firstFlag}
 use Rattle.model.specs.Tree.{DependencyPosition, ended, stepTo, stepAccess}
 use Rattle.model.specs.Answer.{spanWidth}
 use Rattle.tree.specs.declared.Way.{Way}
 use Rattle.tree.specs.Words.{headAt, entryAt, parentIn, pack, positionsFrom}
-
--- The flag of the next level: beyond the list it is false.
-abbrev pub firstFlag : List Bool → Bool
-firstFlag [] = false
-firstFlag (f ∷ fs) = f
 
 -- the flags of the levels behind it
 abbrev pub restFlags : List Bool → List Bool
@@ -26,7 +22,8 @@ restFlags (f ∷ fs) = fs
 -- `walkEntries` with a flag for each level in the place of the hoistable tree
 abbrev pub walkBy : List Bool → DependencyPosition → List DependencyPathEntry → List DependencyPosition
 walkBy fs p [] = ended p ∷ []
-walkBy fs p (e ∷ es) = cond (firstFlag fs || e .optional) (p ∷ walkBy (restFlags fs) (stepTo e (stepAccess (firstFlag fs))) es) (ended p ∷ [])
+walkBy fs p (e ∷ es) = cond (firstFlag fs || e .optional) (p ∷ walkBy (restFlags fs) (stepTo e (stepAccess (firstFlag fs))) es)
+    (ended p ∷ [])
 
 -- the n lowest bits of a number, the lowest first
 abbrev pub bitsOf : ℕ → ℕ → List Bool
@@ -37,7 +34,8 @@ bitsOf (suc n) x = eqb (x % 2) 1 ∷ bitsOf n (x / 2)
 abbrev pub entrySize : ℕ
 entrySize = 10 + spanWidth
 
--- how many bytes stand between a path's mark and its entries: identifier, reactive, span and the count
+-- how many bytes stand between a path's mark and its entries: identifier, reactive, span and the
+-- count
 abbrev pub headSize : ℕ
 headSize = 6 + spanWidth
 

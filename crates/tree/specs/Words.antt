@@ -1,5 +1,6 @@
--- The positions that the words of a tree hold. A word has the parent's number (16 bits, 0 for a root), the place in the job's bytes where the key and the
--- span stand (16 bits), and the access kind (2 bits).
+-- The positions that the words of a tree hold. A word has the parent's number (16 bits, 0 for a
+-- root), the place in the job's bytes where the key and the span stand (16 bits), and the access
+-- kind (2 bits).
 use Prim.Native.Nat.{ℕ, zero, suc, _+_, _*_, _/_, _%_}
 use mathlib.Core.Bool.{false, cond}
 use mathlib.Core.List.{List, [], _∷_}
@@ -9,7 +10,7 @@ use Rattle.entries.specs.declared.PropertyLiteral.the-variants.{String}
 use Rattle.entries.specs.declared.DependencyPathEntry.{DependencyPathEntry}
 use Rattle.entries.specs.declared.PropertyAccessType.{PropertyAccessType}
 use Rattle.entries.specs.Access.{isOptionalAccess, isDependencyAccess, accessOf, mergeAccess}
-use Rattle.model.specs.Read.{Read, got, refused}
+use Rattle.model.specs.ReadingBytes.{Read, got, refused}
 use Rattle.model.specs.Job.{readEntry}
 use Rattle.model.specs.Answer.{flag, spanWidth}
 use Rattle.model.specs.Forest.{identifierKey}
@@ -54,7 +55,13 @@ pack parent place a = parent + place * 65536 + flag (isOptionalAccess a) * 42949
 
 -- a root's position: identifier, span and reactive from the head at the place
 abbrev pub rootAt : List ℕ → ℕ → PropertyAccessType → DependencyPosition
-rootAt s at a = record { key = identifierKey (headAt s at .identifier); access = a; span = headAt s at .span; reactive = headAt s at .reactive }
+rootAt s at a = record {
+  key = identifierKey
+      (headAt s at .identifier);
+  access = a;
+  span = headAt s at .span;
+  reactive = headAt s at .reactive;
+}
 
 -- the position below this parent, whose key and span stand at this place
 unfoldable pub positionAs : List ℕ → ℕ → ℕ → PropertyAccessType → DependencyPosition

@@ -1,6 +1,6 @@
-// The dependency tree: positions in words that the caller lends, in the order of making, each with its parent's number; and the returned
-// paths, derived from it. Position k's number is k + 1, and 0 stands above the roots. Keys and spans stay in the job's bytes: a position
-// keeps their place.
+// The dependency tree: positions in words that the caller lends, in the order of making, each with
+// its parent's number; and the returned paths, derived from it. Position k's number is k + 1, and 0
+// stands above the roots. Keys and spans stay in the job's bytes: a position keeps their place.
 ghost use mathlib.Core.Path.{_≡_};
 ghost use Prim.Native.Nat.{ℕ, _+_, _≤_, _<_};
 ghost use mathlib.Core.Bool.{cond, _||_};
@@ -13,7 +13,24 @@ ghost use Rattle.model.specs.Tree.{stepAccess, rootPosition, entryOf, dependenc
 ghost use Rattle.writer.specs.Writes.{Writes};
 ghost use Rattle.tree.specs.Words.{headAt, entryAt, parentIn, placeIn, accessIn, pack, positionOf, mergedWord, nodeOf};
 ghost use Rattle.tree.specs.Walk.{walkBy, bitsOf, pathAt, wayPositions, steppedTo, Walks};
-ghost use Rattle.tree.specs.Tree.{matches, countIn, forestOf, restOf, partsOf, Sized, Held, Leaves, Descends, Appends, Adds, returnedOf, pathsFrom, Derives, Puttable, Derivable};
+ghost use Rattle.tree.specs.Tree.{
+  matches,
+  countIn,
+  forestOf,
+  restOf,
+  partsOf,
+  Sized,
+  Held,
+  Leaves,
+  Descends,
+  Appends,
+  Adds,
+  returnedOf,
+  pathsFrom,
+  Derives,
+  Puttable,
+  Derivable,
+};
 use entries::DependencyPathEntry;
 use entries::IdentifierId;
 use entries::PropertyAccessType;
@@ -33,7 +50,8 @@ struct Way {
     depth: usize,
 }
 
-// Where a way leaves the positions that are there: the number of the last one found, and how many were found.
+// Where a way leaves the positions that are there: the number of the last one found, and how many
+// were found.
 struct Left {
     last: usize,
     found: usize,
@@ -96,7 +114,8 @@ fn pack(parent: usize, place: usize, access: PropertyAccessType) -> u64
     parent as u64 + place as u64 * 65536 + optional * 4294967296 + dependency * 8589934592
 }
 
-// Whether two words' positions have the same key: both roots for one identifier, or both children by one property.
+// Whether two words' positions have the same key: both roots for one identifier, or both children
+// by one property.
 fn same_key(s: &[u8], a: u64, b: u64) -> bool
     ensures { λ r. ⌜ r ≡ sameKey (positionOf (now (s .entry)) a .key) (positionOf (now (s .entry)) b .key) ⌝ }
 {
@@ -120,7 +139,8 @@ fn same_key(s: &[u8], a: u64, b: u64) -> bool
     p.same(q)
 }
 
-// Merges the step into position i where that has this parent and the step's key, and says whether it has.
+// Merges the step into position i where that has this parent and the step's key, and says whether
+// it has.
 fn merge_at(tree: &mut [u64; 1089], s: &[u8], i: usize, parent: usize, step: u64) -> bool
     requires { ⌜ i < 1088 ⌝ }
     ensures { λ r. ⌜ (r ≡ matches (nodeOf (now (s .entry)) (getD (now (tree .entry)) i 0)) parent (positionOf (now (s .entry)) step))
@@ -181,10 +201,12 @@ fn step_to(way: Way, place: usize, access: PropertyAccessType) -> Way
     way.push(pack(way.depth, place, access))
 }
 
-// The positions that the candidate at a place walks, where bit j of `levels` says that the hoistable tree is NonNull at level j.
+// The positions that the candidate at a place walks, where bit j of `levels` says that the
+// hoistable tree is NonNull at level j.
 fn walk_candidate(s: &[u8], at: usize, levels: u32) -> Way
     requires { ⌜ at ≤ 32768 ⌝ }
-    ensures { λ r. ⌜ Walks (now (s .entry)) r (walkBy (bitsOf 17 levels) (rootPosition (pathAt (now (s .entry)) at)) (pathAt (now (s .entry)) at .path)) ⌝ }
+    ensures { λ r. ⌜ Walks (now (s .entry)) r
+        (walkBy (bitsOf 17 levels) (rootPosition (pathAt (now (s .entry)) at)) (pathAt (now (s .entry)) at .path)) ⌝ }
 {
     let head = head_at(s, at);
     let mut way = Way {
@@ -226,12 +248,14 @@ fn walk_candidate(s: &[u8], at: usize, levels: u32) -> Way
 // A tree of no positions.
 pub fn clear(tree: &mut [u64; 1089])
     requires { ⌜ length (now tree) ≡ 1089 ⌝ }
-    ensures { λ _. ⌜ ((s : List ℕ) → Held s (now (tree .exit)) × (forestOf s (now (tree .exit)) ≡ empty)) × (countIn (now (tree .exit)) ≡ 0) ⌝ }
+    ensures { λ _. ⌜ ((s : List ℕ) → Held s (now (tree .exit)) × (forestOf s (now (tree .exit)) ≡ empty)) ×
+        (countIn (now (tree .exit)) ≡ 0) ⌝ }
 {
     tree[1088] = 0;
 }
 
-// Merges a way down with the positions that are there, in one pass: a position stands after its parent.
+// Merges a way down with the positions that are there, in one pass: a position stands after its
+// parent.
 fn descend(tree: &mut [u64; 1089], s: &[u8], way: Way) -> Left
     requires { ⌜ Sized (now tree) × (way .depth ≤ 17) ⌝ }
     ensures { λ r. ⌜ Descends (now (s .entry)) (now (tree .entry)) (now (tree .exit)) way r ⌝ }
@@ -295,7 +319,8 @@ pub struct Written {
     pub count: usize,
 }
 
-// What a path takes of a position: as its root, identifier and reactive; as one of its entries, the entry.
+// What a path takes of a position: as its root, identifier and reactive; as one of its entries, the
+// entry.
 struct Position {
     identifier: IdentifierId,
     reactive: bool,
@@ -336,8 +361,10 @@ fn position_of(s: &[u8], w: u64) -> Position
 
 // The entries of a way down: its positions behind the root.
 fn put_entries(out: &mut [u8], start: usize, s: &[u8], way: Way) -> usize
-    requires { ⌜ (way .depth ≤ 17) × (start + length (concatMap (entryBytes spanWidth) (map entryOf (restOf (now s) way 1))) ≤ length (now out)) ⌝ }
-    ensures { λ r. ⌜ Writes (now (out .entry)) (now (out .exit)) start (concatMap (entryBytes spanWidth) (map entryOf (restOf (now (s .entry)) way 1))) r ⌝ }
+    requires { ⌜ (way .depth ≤ 17) ×
+        (start + length (concatMap (entryBytes spanWidth) (map entryOf (restOf (now s) way 1))) ≤ length (now out)) ⌝ }
+    ensures { λ r. ⌜ Writes (now (out .entry)) (now (out .exit)) start
+        (concatMap (entryBytes spanWidth) (map entryOf (restOf (now (s .entry)) way 1))) r ⌝ }
 {
     let depth = way.depth;
     let mut at = start;
@@ -352,8 +379,10 @@ fn put_entries(out: &mut [u8], start: usize, s: &[u8], way: Way) -> usize
 
 // The record of the path that a way down stands for.
 fn put_path(out: &mut [u8], at: usize, s: &[u8], way: Way) -> usize
-    requires { ⌜ (0 < way .depth) × (way .depth ≤ 17) × (at + length (pathBytes spanWidth DE (dependencyOf (wayPositions (now s) way))) ≤ length (now out)) ⌝ }
-    ensures { λ r. ⌜ Writes (now (out .entry)) (now (out .exit)) at (pathBytes spanWidth DE (dependencyOf (wayPositions (now (s .entry)) way))) r ⌝ }
+    requires { ⌜ (0 < way .depth) × (way .depth ≤ 17) ×
+        (at + length (pathBytes spanWidth DE (dependencyOf (wayPositions (now s) way))) ≤ length (now out)) ⌝ }
+    ensures { λ r. ⌜ Writes (now (out .entry)) (now (out .exit)) at
+        (pathBytes spanWidth DE (dependencyOf (wayPositions (now (s .entry)) way))) r ⌝ }
 {
     let depth = way.depth;
     let root = position_of(s, way.words[0]);
@@ -384,7 +413,8 @@ fn put_next(out: &mut [u8], done: Written, s: &[u8], way: Way) -> Written
     }
 }
 
-// The records of the first dependencies on each way down below a parent, from position `from` on. The way down to the parent is `way`.
+// The records of the first dependencies on each way down below a parent, from position `from` on.
+// The way down to the parent is `way`.
 fn collect_minimal_deps_in_subtree(
     tree: &[u64; 1089],
     s: &[u8],
@@ -395,7 +425,8 @@ fn collect_minimal_deps_in_subtree(
     start: Written,
 ) -> Written
     requires { ⌜ Derivable (now s) (now tree) parent from way (now out) start ⌝ }
-    ensures { λ r. ⌜ Derives (pathsFrom (now (s .entry)) (now (tree .entry)) parent from way) (now (out .entry)) (now (out .exit)) start r ⌝ }
+    ensures { λ r. ⌜ Derives (pathsFrom (now (s .entry)) (now (tree .entry)) parent from way) (now (out .entry))
+        (now (out .exit)) start r ⌝ }
 {
     let end = tree[1088] as usize;
     let mut done = start;
@@ -423,8 +454,10 @@ pub fn derive_minimal_dependencies(
     out: &mut [u8],
     at: usize,
 ) -> Written
-    requires { ⌜ Held (now s) (now tree) × (at + length (concatMap (pathBytes spanWidth DE) (returnedOf (now s) (now tree))) ≤ length (now out)) ⌝ }
-    ensures { λ r. ⌜ Derives (returnedOf (now (s .entry)) (now (tree .entry))) (now (out .entry)) (now (out .exit)) (record { at = at; count = 0 }) r ⌝ }
+    requires { ⌜ Held (now s) (now tree) ×
+        (at + length (concatMap (pathBytes spanWidth DE) (returnedOf (now s) (now tree))) ≤ length (now out)) ⌝ }
+    ensures { λ r. ⌜ Derives (returnedOf (now (s .entry)) (now (tree .entry))) (now (out .entry)) (now (out .exit))
+        (record { at = at; count = 0 }) r ⌝ }
 {
     let way = Way {
         words: [0; 17],

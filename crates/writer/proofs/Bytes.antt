@@ -20,7 +20,8 @@ number-length zero x = refl
 number-length (suc bytes) x = ap suc (number-length bytes (x / 256))
 
 -- the bytes from index i on are the lowest one and those from the next index on
-pub byte-stored : (l : List ℕ) (i end x : ℕ) → i < end → sets l i (numberBytes (end - i) x) ≡ sets (set l i (x % 256)) (i + 1) (numberBytes (end - (i + 1)) (x / 256))
+pub byte-stored : (l : List ℕ) (i end x : ℕ) → i < end
+    → sets l i (numberBytes (end - i) x) ≡ sets (set l i (x % 256)) (i + 1) (numberBytes (end - (i + 1)) (x / 256))
 unfolding numberBytes
 byte-stored l i end x h = let e : end - i ≡ suc (end - (i + 1)) = omega arith in rw (e, add-one i)
 
@@ -55,13 +56,19 @@ pub writes-as : {a b : List ℕ} {at m : ℕ} {xs ys : List ℕ} → xs ≡ ys �
 writes-as {a} {b} {at} {m} e x = subst (λ (l : List ℕ). Writes a b at l m) e x
 
 -- the three numbers of an entry, as the code has them
-pub step-bytes : (e : DependencyPathEntry) (o n v : ℕ) → o ≡ flag (e .optional) → n ≡ flag (isNumber (e .property)) → v ≡ valueOf (e .property) → numberBytes 1 o ++ numberBytes 1 n ++ numberBytes 8 v ≡ stepBytes e
+pub step-bytes : (e : DependencyPathEntry) (o n v : ℕ) → o ≡ flag (e .optional) → n ≡ flag (isNumber (e .property)) → v ≡ valueOf (e .property)
+    → numberBytes 1 o ++ numberBytes 1 n ++ numberBytes 8 v ≡ stepBytes e
 step-bytes e o n v eo en ev = rw (eo, en, ev)
 
 pub step-length : (e : DependencyPathEntry) → length (stepBytes e) ≡ 10
 step-length e =
     length-append (numberBytes 1 (flag (e .optional)) ++ numberBytes 1 (flag (isNumber (e .property)))) (numberBytes 8 (valueOf (e .property)))
-    ∙ rw (length-append (numberBytes 1 (flag (e .optional))) (numberBytes 1 (flag (isNumber (e .property)))), number-length 1 (flag (e .optional)), number-length 1 (flag (isNumber (e .property))), number-length 8 (valueOf (e .property)))
+    ∙ rw (
+      length-append (numberBytes 1 (flag (e .optional))) (numberBytes 1 (flag (isNumber (e .property)))),
+      number-length 1 (flag (e .optional)),
+      number-length 1 (flag (isNumber (e .property))),
+      number-length 8 (valueOf (e .property)),
+    )
 
 pub entry-length : (e : DependencyPathEntry) → length (entryBytes 4 e) ≡ 14
 entry-length e = length-append (stepBytes e) (numberBytes 4 (e .span)) ∙ rw (step-length e, number-length 4 (e .span))
@@ -86,7 +93,8 @@ path-head-length mark i reactive span entries =
       number-length 1 entries,
     )
 
--- Writers in a loop: what is still to come, written from here on, gives what the whole gives from the start.
+-- Writers in a loop: what is still to come, written from here on, gives what the whole gives from
+-- the start.
 pub record Coming (before out : List ℕ) (start at : ℕ) (whole rest : List ℕ) : Type 0 where
   pub is : sets out at rest ≡ sets before start whole
   pub ends : at + length rest ≡ start + length whole
@@ -95,7 +103,8 @@ pub record Coming (before out : List ℕ) (start at : ℕ) (whole rest : List �
 pub coming-start : (l : List ℕ) (at : ℕ) (whole : List ℕ) → Coming l l at at whole whole
 coming-start l at whole = record { is = refl; ends = refl; long = refl }
 
-pub coming-more : {before out more : List ℕ} {start at next : ℕ} {whole xs rest : List ℕ} → Coming before out start at whole (xs ++ rest) → Writes out more at xs next → Coming before more start next whole rest
+pub coming-more : {before out more : List ℕ} {start at next : ℕ} {whole xs rest : List ℕ} → Coming before out start at whole (xs ++ rest)
+    → Writes out more at xs next → Coming before more start next whole rest
 coming-more {before} {out} {more} {start} {at} {next} {whole} {xs} {rest} c w =
     let e = w .ends in
     let f = c .ends in
@@ -110,8 +119,10 @@ pub coming-over : {before out : List ℕ} {start at : ℕ} {whole : List ℕ} �
 coming-over {before} {out} {start} {at} {whole} c = record { is = c .is; ends = let e = c .ends in omega arith }
 
 -- what is to come finds its room where the whole does
-pub coming-room : {before out : List ℕ} {start at : ℕ} {whole rest : List ℕ} → Coming before out start at whole rest → start + length whole ≤ length before → at + length rest ≤ length out
+pub coming-room : {before out : List ℕ} {start at : ℕ} {whole rest : List ℕ} → Coming before out start at whole rest → start + length whole ≤ length before
+    → at + length rest ≤ length out
 coming-room c h = let e = c .ends in let l = c .long in omega arith
 
-pub coming-as : {before out : List ℕ} {start at : ℕ} {whole xs ys : List ℕ} → xs ≡ ys → Coming before out start at whole xs → Coming before out start at whole ys
+pub coming-as : {before out : List ℕ} {start at : ℕ} {whole xs ys : List ℕ} → xs ≡ ys → Coming before out start at whole xs
+    → Coming before out start at whole ys
 coming-as {before} {out} {start} {at} {whole} e c = subst (λ (l : List ℕ). Coming before out start at whole l) e c

@@ -1,4 +1,5 @@
-// Writes numbers and entries into a buffer, lowest byte first. Each writer gives the place after what it wrote.
+// Writes numbers and entries into a buffer, lowest byte first. Each writer gives the place after
+// what it wrote.
 ghost use Prim.Native.Nat.{_+_, _≤_, _<_};
 ghost use lib.ListN.{length};
 ghost use mathlib.Core.Path.{_≡_};

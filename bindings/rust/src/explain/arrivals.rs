@@ -1,7 +1,7 @@
 //! When a path came to a block, by the trace.
 
 use crate::ids::NodeId;
-use crate::replay::Replay;
+use crate::replay::{Replay, Visit};
 use std::collections::HashMap;
 
 /// A moment of the trace. `None` is the start, when each block has what it assumes. In a visit, the
@@ -16,18 +16,10 @@ pub(super) struct Arrivals(HashMap<(usize, NodeId), Vec<Moment>>);
 
 impl Arrivals {
     pub(super) fn new(replay: &Replay, blocks: usize) -> Self {
-        let mut noting =
-            Noting { there: vec![vec![false; replay.nodes().len()]; blocks], found: HashMap::new() };
-        for block in 0..blocks {
-            replay.assumed(block).iter().for_each(|&node| noting.comes(block, node, None));
-        }
-        for (number, visit) in replay.visits().iter().enumerate() {
-            visit.came_in.iter().for_each(|&node| noting.comes(visit.block, node, Some((number, 0))));
-            for (place, replaced) in visit.replaced.iter().enumerate() {
-                noting.goes(visit.block, replaced.from);
-                noting.comes(visit.block, replaced.to, Some((number, place + 1)));
-            }
-        }
+        let there = vec![vec![false; replay.nodes().len()]; blocks];
+        let mut noting = Noting { there, found: HashMap::new() };
+        (0..blocks).for_each(|block| noting.start(block, replay.assumed(block)));
+        replay.visits().iter().enumerate().for_each(|(number, visit)| noting.visit(number, visit));
         Self(noting.found)
     }
 
@@ -46,6 +38,18 @@ struct Noting {
 }
 
 impl Noting {
+    fn start(&mut self, block: usize, assumed: &[NodeId]) {
+        assumed.iter().for_each(|&node| self.comes(block, node, None));
+    }
+
+    fn visit(&mut self, number: usize, visit: &Visit) {
+        visit.came_in.iter().for_each(|&node| self.comes(visit.block, node, Some((number, 0))));
+        for (place, replaced) in visit.replaced.iter().enumerate() {
+            self.goes(visit.block, replaced.from);
+            self.comes(visit.block, replaced.to, Some((number, place + 1)));
+        }
+    }
+
     /// A node that is there already does not come.
     fn comes(&mut self, block: usize, node: NodeId, moment: Moment) {
         if !std::mem::replace(&mut self.there[block][usize::from(node.0)], true) {

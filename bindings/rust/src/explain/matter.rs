@@ -1,6 +1,6 @@
 //! Which blocks an explanation speaks of.
 
-use super::{Base, Elsewhere, End, Explanation, How, Reason, Stop, Unknown, Why};
+use super::{Base, Elsewhere, End, Explanation, How, Reason, Step, Stop, Unknown, Why};
 use crate::ids::BlockId;
 use std::collections::BTreeSet;
 
@@ -8,13 +8,7 @@ use std::collections::BTreeSet;
 /// names.
 #[must_use]
 pub fn blocks_that_matter(explanation: &Explanation) -> BTreeSet<BlockId> {
-    let mut blocks = BTreeSet::new();
-    for step in &explanation.steps {
-        blocks.insert(step.block);
-        if let How::TookOver { left_out, .. } = &step.how {
-            blocks.extend(left_out);
-        }
-    }
+    let mut blocks: BTreeSet<BlockId> = explanation.steps.iter().flat_map(of_step).collect();
     for reason in &explanation.reasons {
         if speaks_of_a_base(reason) {
             blocks.insert(explanation.scope);
@@ -22,6 +16,14 @@ pub fn blocks_that_matter(explanation: &Explanation) -> BTreeSet<BlockId> {
         unknowns(reason).for_each(|why| of_unknown(why, &mut blocks));
     }
     blocks
+}
+
+fn of_step(step: &Step) -> impl Iterator<Item = BlockId> + '_ {
+    let left_out = match &step.how {
+        How::TookOver { left_out, .. } => &left_out[..],
+        _ => &[],
+    };
+    left_out.iter().copied().chain([step.block])
 }
 
 fn speaks_of_a_base(reason: &Reason) -> bool {

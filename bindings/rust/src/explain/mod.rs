@@ -21,7 +21,8 @@
 //!  returned 1.10
 //!     .10  stays plain: 1 is known to be there in block 2; it comes from block 0, which assumes it
 //!     .11  is cut: 1.10 is not known to be there in block 2
-//!          block 1 assumes 1.10, but control can also come to block 2 from block 0, which does not have it
+//!          block 1 assumes 1.10, but control can also come to block 2 from block 0, \
+//!          which does not have it
 //! ");
 //! # Ok::<(), Box<dyn std::error::Error>>(())
 //! ```

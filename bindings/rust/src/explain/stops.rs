@@ -80,18 +80,24 @@ pub(super) fn stops(blocks: &Blocks, steps: &mut Steps, base: &Path, has: &[bool
     let around = distances(blocks, has, &both);
     let along = both.map(|side| distances(blocks, has, &[side]));
     let mut found = Vec::new();
-    for (block, near) in around.iter().enumerate().filter_map(|(block, near)| Some((block, (*near)?))) {
-        for (side, along) in both.into_iter().zip(&along) {
-            let way = match (along[block], side) {
-                (None, _) => (Way::Aside, near),
-                (Some(near), Side::Predecessors) => (Way::Before, near),
-                (Some(near), Side::Successors) => (Way::After, near),
-            };
+    for (block, side) in (0..blocks.len()).flat_map(|block| both.map(|side| (block, side))) {
+        let along = &along[usize::from(side == Side::Successors)];
+        if let Some(way) = way(side, along[block], around[block]) {
             found.extend(stop(blocks, steps, base, has, (block, side, way.0)).map(|stop| (way, stop)));
         }
     }
     found.sort_by_key(|(way, _)| *way);
     found.into_iter().map(|(_, stop)| stop).collect()
+}
+
+/// How a block is connected with the scope block, and how far it is, where it has neighbours with
+/// the base on this side: by blocks on the same side of the scope block, or by any.
+fn way(side: Side, along: Option<usize>, around: Option<usize>) -> Option<(Way, usize)> {
+    match (along, side) {
+        (Some(near), Side::Predecessors) => Some((Way::Before, near)),
+        (Some(near), Side::Successors) => Some((Way::After, near)),
+        (None, _) => around.map(|near| (Way::Aside, near)),
+    }
 }
 
 /// How far each block without the base is from the scope block, by way of neighbours without it on

@@ -38,7 +38,7 @@ fn pass(set: &mut Nodes, registry: &mut Registry) -> Result<Vec<Replaced>, TooMa
 /// Walks a node's path again from its root. An optional entry becomes plain where its base is in
 /// the set.
 fn walk_again(from: NodeId, set: &Nodes, registry: &mut Registry) -> Result<Replaced, TooManyNodes> {
-    let (mut to, entries) = registry.from_root(from);
+    let (mut to, entries) = registry.root_and_entries(from);
     let mut bases = Vec::new();
     for entry in entries {
         let base = to;

@@ -73,7 +73,7 @@ impl Registry {
     }
 
     /// The root of a node, and the entries from there on to the node.
-    pub(super) fn from_root(&self, node: NodeId) -> (NodeId, Vec<Entry>) {
+    pub(super) fn root_and_entries(&self, node: NodeId) -> (NodeId, Vec<Entry>) {
         let (mut root, mut entries) = (node, Vec::new());
         while let Some((parent, entry)) = self.nodes[usize::from(root.0)].parent {
             entries.push(entry);
@@ -85,7 +85,7 @@ impl Registry {
 
     /// A node's path.
     pub(super) fn path(&self, node: NodeId) -> Path {
-        let (root, entries) = self.from_root(node);
+        let (root, entries) = self.root_and_entries(node);
         let root = &self.nodes[usize::from(root.0)];
         let variable = Path::new(root.identifier).with_reactive(root.reactive).with_span(root.span);
         variable.with_entries(entries)

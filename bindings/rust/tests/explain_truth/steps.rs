@@ -55,7 +55,7 @@ fn check_step(world: &World, line: &str, told: &[Told], all: &[Told]) -> (Told, 
     let same = |visit: &&Visit| {
         world.id_list(&visit.joined) == from && world.id_list(&visit.passed_over) == left_out
     };
-    assert!(visits.iter().any(|visit| same(visit)), "{line}");
+    assert!(visits.iter().any(same), "{line}");
     assert_eq!(world.neighbours(at, side).len(), from.len() + left_out.len(), "{line}");
     assert!(left_out.iter().all(|&near| world.on_a_loop(at, near)), "{line}");
     ((at, form), kind)

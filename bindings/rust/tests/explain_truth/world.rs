@@ -85,9 +85,9 @@ impl<'j> World<'j> {
         let count = self.job.blocks().len();
         let mut had: Vec<BTreeSet<NodeId>> = vec![BTreeSet::new(); count];
         let mut sources: HashMap<(usize, NodeId), Sources> = HashMap::new();
-        for block in 0..count {
+        for (block, had) in had.iter_mut().enumerate() {
             for &node in self.replay.assumed(block) {
-                had[block].insert(node);
+                had.insert(node);
                 let source = (self.job.blocks()[block].id(), show(self.path(node)));
                 sources.insert((block, node), Sources::from([source]));
             }

@@ -1,4 +1,5 @@
--- The loop's invariant, `Adding`: what adds the walks of the candidates that are left to the tree so far adds them all. The measure is their number.
+-- The loop's invariant, `Adding`: what adds the walks of the candidates that are left to the tree
+-- so far adds them all. The measure is their number.
 use Prim.Native.Nat.{ℕ, _+_, _*_, _≤_}
 use native.Mathlib.Omega.{arith}
 use mathlib.Core.Path.{_≡_}
@@ -26,7 +27,8 @@ loop-holds c =
     adding _ _ _ _ _ _ (a .pre .3 .few) (none .0) (none .1) (e .1)
 
 add-fields-at : tie.Need-add-fields-at Inv-loop μ-loop
-add-fields-at c = let a = c .before .before .before .before .before in let within = place-within (c .before .loop .inv) (a .pre .3) (c .loop-test .taken) in search needs
+add-fields-at c = let a = c .before .before .before .before .before in let within = place-within (c .before .loop .inv) (a .pre .3)
+    (c .loop-test .taken) in search needs
 
 returns : tie.Need-returns Inv-loop μ-loop
 returns c =
@@ -41,8 +43,10 @@ nonnull-levels-requires c κs =
     let call = f .before .before in
     let t = call .before in
     let a = t .before .before .before .before .before in
-    let read = seen gotPathHead (call .path-head-at .ensures) (f .head-field .given .1) in
-    (record { sized = a .pre .1 .sized; sound = a .pre .1 .sound; candidate = candidate (t .before .loop .inv) (a .pre .3) (t .loop-test .taken) read }, a .pre .2)
+    let read = seen gotPathHead (call .path-head-at .ensures) (f .head-field .given .1) in (
+      record { sized = a .pre .1 .sized; sound = a .pre .1 .sound; candidate = candidate (t .before .loop .inv) (a .pre .3) (t .loop-test .taken) read },
+      a .pre .2,
+    )
 
 add-candidate-requires : tie.Need-add-candidate-requires Inv-loop μ-loop
 add-candidate-requires c κs =
@@ -61,7 +65,8 @@ mul-at c =
     let call = f .before .before in
     let t = call .before in
     let a = t .before .before .before .before .before in
-    let within = next-within (t .before .loop .inv) (a .pre .3) (t .loop-test .taken) (seen gotPathHead (call .path-head-at .ensures) (f .head-field .given .1)) in
+    let within = next-within (t .before .loop .inv) (a .pre .3) (t .loop-test .taken)
+    (seen gotPathHead (call .path-head-at .ensures) (f .head-field .given .1)) in
     let place = within .0 in
     let count = within .1 in
     search needs
@@ -72,7 +77,8 @@ add-at c =
     let call = f .before .before in
     let t = call .before in
     let a = t .before .before .before .before .before in
-    let within = next-within (t .before .loop .inv) (a .pre .3) (t .loop-test .taken) (seen gotPathHead (call .path-head-at .ensures) (f .head-field .given .1)) in
+    let within = next-within (t .before .loop .inv) (a .pre .3) (t .loop-test .taken)
+    (seen gotPathHead (call .path-head-at .ensures) (f .head-field .given .1)) in
     let place = within .0 in
     let count = within .1 in
     search needs
@@ -85,7 +91,8 @@ loop-again c =
     let call = f .before .before in
     let t = call .before in
     let a = t .before .before .before .before .before in
-    adding-more (t .before .loop .inv) (a .pre .3) (t .loop-test .taken) (seen gotPathHead (call .path-head-at .ensures) (f .head-field .given .1)) _ _ (l .nonnull-levels .ensures) (d .add-candidate .ensures)
+    adding-more (t .before .loop .inv) (a .pre .3) (t .loop-test .taken) (seen gotPathHead (call .path-head-at .ensures) (f .head-field .given .1)) _ _
+    (l .nonnull-levels .ensures) (d .add-candidate .ensures)
 
 returns-2 : tie.Need-returns-2 Inv-loop μ-loop
 returns-2 c = let a = c .before .before .before .before .before in adding-end (c .before .loop .inv) (a .pre .3) (c .loop-test .left)

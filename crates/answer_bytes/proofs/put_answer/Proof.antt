@@ -29,7 +29,8 @@ returns c =
     let d = h .before .before .before .before in
     let t = d .before .before .before in
     let a = t .before .before .before .before in
-    answer-written (t .add-candidates .ensures) (a .pre .2) (a .pre .3) (a .args .rounds) (a .args .settled) (d .derive-minimal-dependencies .ensures) (h .put-head .ensures)
+    answer-written (t .add-candidates .ensures) (a .pre .2) (a .pre .3) (a .args .rounds) (a .args .settled) (d .derive-minimal-dependencies .ensures)
+    (h .put-head .ensures)
 
 pub put-answer-spec : {M : Type 1} → statement M
 put-answer-spec =

@@ -1,4 +1,5 @@
--- The head says how many predecessors are passed over and how many paths follow; a block that was read has all of them.
+-- The head says how many predecessors are passed over and how many paths follow; a block that was
+-- read has all of them.
 use Prim.Native.Nat.{ℕ}
 use mathlib.Core.Path.{_≡_, sym, subst, _∙_}
 use mathlib.Core.List.{List, []}
@@ -19,7 +20,8 @@ use Rattle.assumed.proofs.enter_block.Statement.{statement}
 use Rattle.assumed.proofs.enter_block.Tie as tie
 
 -- equal paths are entered alike
-fills-as : (reg : PropertyPathRegistry) {ds es : List ReactiveScopeDependency} (r : EnteredSet) (ws os : List ℕ) → ds ≡ es → Fills (enterPaths reg [] ds) r ws os → Fills (enterPaths reg [] es) r ws os
+fills-as : (reg : PropertyPathRegistry) {ds es : List ReactiveScopeDependency} (r : EnteredSet) (ws os : List ℕ) → ds ≡ es
+    → Fills (enterPaths reg [] ds) r ws os → Fills (enterPaths reg [] es) r ws os
 fills-as reg r ws os e = subst (λ (ds : List ReactiveScopeDependency). Fills (enterPaths reg [] ds) r ws os) e
 
 returns : tie.Need-returns
@@ -34,7 +36,8 @@ returns-2 c =
     let k = i .before .before in
     let h = k .before .before in
     let b = h .before .before .before .pre .1 in
-    absurd (ids-there _ _ (b .value) (b .next) (b .read) (seen gotBlockHead (h .block-head-at .ensures) (k .head-field .given .1)) (seen gotPlace (i .past-ids .ensures) (c .enum-told2 .given .1)))
+    absurd (ids-there _ _ (b .value) (b .next) (b .read) (seen gotBlockHead (h .block-head-at .ensures) (k .head-field .given .1))
+    (seen gotPlace (i .past-ids .ensures) (c .enum-told2 .given .1)))
 
 enter-paths-requires : tie.Need-enter-paths-requires
 enter-paths-requires c κs =
@@ -48,7 +51,9 @@ enter-paths-requires c κs =
       record {
         value = b .value .assumed;
         next = b .next;
-        read = paths-there _ _ (b .value) (b .next) (b .read) (seen gotBlockHead (h .block-head-at .ensures) (k .head-field .given .1)) (seen gotPlace (i .past-ids .ensures) (m .ids .given .1));
+        read =
+            paths-there _ _ (b .value) (b .next) (b .read) (seen gotBlockHead (h .block-head-at .ensures) (k .head-field .given .1))
+            (seen gotPlace (i .past-ids .ensures) (m .ids .given .1));
       },
     )
 
@@ -60,7 +65,9 @@ returns-3 c =
     let h = k .before .before in
     let s = h .before .before .before in
     let b = s .pre .1 in
-    let there = paths-there _ _ (b .value) (b .next) (b .read) (seen gotBlockHead (h .block-head-at .ensures) (k .head-field .given .1)) (seen gotPlace (i .past-ids .ensures) (m .ids .given .1)) in
+    let there =
+    paths-there _ _ (b .value) (b .next) (b .read) (seen gotBlockHead (h .block-head-at .ensures) (k .head-field .given .1))
+    (seen gotPlace (i .past-ids .ensures) (m .ids .given .1)) in
     fills-as (registryOf (now (s .args .ws))) (c .enter-paths .result) _ _ (paths-are _ _ _ there ∙ sym (assumed-are _ _ (b .read))) (c .enter-paths .ensures)
 
 pub enter-block-spec : {M : Type 1} → statement M

@@ -1,4 +1,5 @@
--- The loop's invariant, `Starting`: the sets stored so far, with what the blocks that are left start with after them, are the whole. The measure is their number.
+-- The loop's invariant, `Starting`: the sets stored so far, with what the blocks that are left
+-- start with after them, are the whole. The measure is their number.
 use Prim.Native.Nat.{_-_}
 use native.Mathlib.Omega.{arith}
 use borrow.Author.Needs.{needs}
@@ -21,7 +22,8 @@ abbrev start : tie.In-loop Inv-loop μ-loop → tie.Start Inv-loop μ-loop
 start l = l .before .before .before
 
 enter-block-requires : tie.Need-enter-block-requires Inv-loop μ-loop
-enter-block-requires c κs = let l = c .before .before .before in (l .before .loop .inv .held, block-read (start l .pre .0) (l .before .loop .b) (l .loop-test .taken))
+enter-block-requires c κs =
+    let l = c .before .before .before in (l .before .loop .inv .held, block-read (start l .pre .0) (l .before .loop .b) (l .loop-test .taken))
 
 returns : tie.Need-returns Inv-loop μ-loop
 returns c =
@@ -41,7 +43,8 @@ loop-again c =
     let i = c .before .before in
     let call = i .before in
     let l = call .before .before .before .before in
-    starting-more (start l .pre .0) (l .before .loop .inv) (l .loop-test .taken) (call .enter-block .result) _ _ (call .enter-block .ensures) (i .if1 .left) _ (c .set-row .ensures)
+    starting-more (start l .pre .0) (l .before .loop .inv) (l .loop-test .taken) (call .enter-block .result) _ _ (call .enter-block .ensures) (i .if1 .left) _
+    (c .set-row .ensures)
 
 returns-2 : tie.Need-returns-2 Inv-loop μ-loop
 returns-2 c = starting-end (c .before .before .before .pre .0) (c .before .loop .inv) (c .loop-test .left)

@@ -1,5 +1,5 @@
--- The loop's invariant, `Filling`: the paths that are left were read, and what enters them after those
--- before enters them all. The measure is their number.
+-- The loop's invariant, `Filling`: the paths that are left were read, and what enters them after
+-- those before enters them all. The measure is their number.
 use mathlib.Core.Path.{refl}
 use mathlib.Core.List.{[]}
 use borrow.Author.Needs.{needs}

@@ -1,5 +1,5 @@
--- `lowest_bit` meets its contract: the byte, moved down to the place, holds its bits from there on. Where it is 0 none of them is set, and else its
--- trailing zeros lead to the lowest.
+-- `lowest_bit` meets its contract: the byte, moved down to the place, holds its bits from there on.
+-- Where it is 0 none of them is set, and else its trailing zeros lead to the lowest.
 use mir.Syntax.{w8}
 use mir.Val.{Fits}
 use Prim.Native.Nat.{_/_, _^_, _≤_}

@@ -1,4 +1,5 @@
--- `next_neighbour` meets its contract: the neighbours are the successors or the predecessors, by the direction.
+-- `next_neighbour` meets its contract: the neighbours are the successors or the predecessors, by
+-- the direction.
 use mathlib.Core.Path.{sym, subst}
 use borrow.Author.Needs.{needs}
 use Rattle.graph.specs.Bytes.{Finds}

@@ -1,4 +1,5 @@
--- `next_predecessor` meets its contract: below the block's degree the byte of that number is the next, and from the degree on there is none.
+-- `next_predecessor` meets its contract: below the block's degree the byte of that number is the
+-- next, and from the degree on there is none.
 use Prim.Native.Nat.{_+_, _*_, _<_}
 use native.Mathlib.Omega.{arith}
 use borrow.Author.Needs.{needs}

@@ -1,7 +1,8 @@
--- `next_successor` meets its contract. The loop's invariant: what is still to come from `r` on is what is still to come from `from` on. It holds at the
--- start, since no bit is set below the blocks' ranks. The lowest bit from there in the byte of `r` is that of the next successor; where the byte has none
--- left, the next byte is as good a place to start.
--- The measure is what is left of 128.
+-- `next_successor` meets its contract. The loop's invariant: what is still to come from `r` on is
+-- what is still to come from `from` on. It holds at the start, since no bit is set below the
+-- blocks' ranks. The lowest bit from there in the byte of `r` is that of the next successor; where
+-- the byte has none left, the next byte is as good a place to start. The measure is what is left of
+-- 128.
 use Prim.Native.Nat.{_-_, _≤_}
 use native.Mathlib.Omega.{arith}
 use mathlib.Core.Path.{_≡_, refl, _∙_}
@@ -32,7 +33,8 @@ returns c =
     let t = c .before .before in
     let l = t .before .before .before .before .before in
     let s = l .before .before .before in
-    successor-next (s .pre .0) (s .pre .1) (l .loop .r) (t .before .lowest-bit .result) (t .before .before .before .before .loop-test .taken) (t .before .lowest-bit .ensures)
+    successor-next (s .pre .0) (s .pre .1) (l .loop .r) (t .before .lowest-bit .result) (t .before .before .before .before .loop-test .taken)
+    (t .before .lowest-bit .ensures)
     (s .args .from) _ (l .loop .inv .0) (l .loop .inv .1) (t .if2 .taken) (c .as-number .ensures)
 
 loop-again : tie.Need-loop-again Inv-loop μ-loop

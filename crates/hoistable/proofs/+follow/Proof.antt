@@ -1,5 +1,5 @@
--- The proof of the cycle of calls {follow}. The measure is the node's number: a parent stands before its child.
--- A root's path has no entries, and a child's is its parent's and one entry more.
+-- The proof of the cycle of calls {follow}. The measure is the node's number: a parent stands
+-- before its child. A root's path has no entries, and a child's is its parent's and one entry more.
 use Prim.Native.Nat.{ℕ, _<_}
 use native.Mathlib.Omega.{arith}
 use native.Mathlib.Nat.{le-trans, lt-trans}
@@ -45,7 +45,8 @@ follow-requires t c κs =
     let n = c .before in
     let l = n .before .before in
     let s = l .before .before in
-    let after = child-path (now (s .args .ws)) (s .pre .1 .0 .sound) (s .args .k) (s .pre .1 .1) (l .load .result) (l .load .ensures) (n .n2 .given .1) .after in
+    let after = child-path (now (s .args .ws)) (s .pre .1 .0 .sound) (s .args .k) (s .pre .1 .1) (l .load .result) (l .load .ensures)
+    (n .n2 .given .1) .after in
     (subst (λ (j : ℕ). n .n2 .given .0 .0 .0 < j) (s .pre .0) after, (s .pre .1 .0, lt-trans after (s .pre .1 .1)))
 
 further-requires : (t : ℕ) → lts.Need-further-requires (claims t) (at t) follow.Post
@@ -57,7 +58,8 @@ returns t c =
     let l = n .before .before in
     let s = l .before .before in
     let path = root-path (now (s .args .ws)) (s .pre .1 .0 .sound) (s .args .k) (s .pre .1 .1) (l .load .result) (l .load .ensures) (n .n .given .1) in
-    c .at-root .ensures (now (s .args .s)) (s .args .identifier) (entriesAt (s .args .count) (now (s .args .s)) (s .args .start)) _ (ap (λ (d : ReactiveScopeDependency). d .path) path)
+    c .at-root .ensures (now (s .args .s)) (s .args .identifier) (entriesAt (s .args .count) (now (s .args .s)) (s .args .start)) _
+    (ap (λ (d : ReactiveScopeDependency). d .path) path)
     (sym (ap (λ (d : ReactiveScopeDependency). eqb (d .identifier .0) (s .args .identifier .0)) path)) (s .pre .1 .0 .candidate .reads)
 
 returns-2 : (t : ℕ) → lts.Need-returns-2 (claims t) (at t) follow.Post
@@ -70,7 +72,8 @@ returns-2 t c =
     let candidate = s .pre .1 .0 .candidate in
     let long = many-length (readEntry 4) (now (s .args .s)) (s .args .count) (s .args .start) (candidate .reads .read) in
     let few = candidate .few in
-    c .further .ensures (s .args .identifier) (entriesAt (s .args .count) (now (s .args .s)) (s .args .start)) _ _ (omega arith) (stands .child) (f .follow .ensures)
+    c .further .ensures (s .args .identifier) (entriesAt (s .args .count) (now (s .args .s)) (s .args .start)) _ _ (omega arith) (stands .child)
+    (f .follow .ensures)
 
 pub +follow-spec : {M : Type 1} → statement M
 +follow-spec = close μ-follow λ t. lts.spec (claims t)

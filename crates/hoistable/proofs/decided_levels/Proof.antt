@@ -1,4 +1,5 @@
--- The loop's invariant, `Deciding`: what the paths that are left decide beside what is known, all decide. The measure is what is left of 512.
+-- The loop's invariant, `Deciding`: what the paths that are left decide beside what is known, all
+-- decide. The measure is what is left of 512.
 use Prim.Native.Nat.{_-_}
 use native.Mathlib.Omega.{arith}
 use mathlib.Core.Path.{sym, _∙_}
@@ -20,7 +21,8 @@ use Rattle.hoistable.proofs.decided_levels.Tie as tie
 
 abbrev Inv-loop : tie.InvT-loop
 Inv-loop ws set s identifier start count ahead₀ rest₀ from₀ ahead rest from =
-    Deciding identifier (entriesAt count s start) ws (set .words) (decided identifier (entriesAt count s start) [] [] (map (fullPathOf (registryOf ws)) (membersOf (set .words)))) ahead rest from
+    Deciding identifier (entriesAt count s start) ws (set .words)
+    (decided identifier (entriesAt count s start) [] [] (map (fullPathOf (registryOf ws)) (membersOf (set .words)))) ahead rest from
 
 abbrev μ-loop : tie.MeasureT-loop
 μ-loop ws set s identifier start count ahead₀ rest₀ from₀ ahead rest from = 512 - from
@@ -28,7 +30,8 @@ abbrev μ-loop : tie.MeasureT-loop
 loop-holds : tie.Need-loop-holds Inv-loop μ-loop
 loop-holds c =
     let s = c .before .before .before in
-    deciding-start (s .args .identifier) (entriesAt (s .args .count) (now (s .args .s)) (s .args .start)) (now (s .args .ws)) (s .args .set .words) (s .pre .1) (c .before .none .ensures) (c .none2 .ensures)
+    deciding-start (s .args .identifier) (entriesAt (s .args .count) (now (s .args .s)) (s .args .start)) (now (s .args .ws)) (s .args .set .words)
+    (s .pre .1) (c .before .none .ensures) (c .none2 .ensures)
 
 over-requires : tie.Need-over-requires Inv-loop μ-loop
 over-requires c κs = let l = c .before .before .before .before in (holds-small (l .loop .inv .ahead), holds-small (l .loop .inv .rest))
@@ -38,7 +41,8 @@ returns c =
     let e = c .before in
     let n = e .before .before in
     let l = n .before .before in
-    deciding-end (l .loop .inv) (next-nothing (l .before .before .before .before .args .set .words) (l .loop .from) (sym (n .next .ensures) ∙ e .enum-told .given .1)) (c .over .ensures)
+    deciding-end (l .loop .inv) (next-nothing (l .before .before .before .before .args .set .words) (l .loop .from)
+    (sym (n .next .ensures) ∙ e .enum-told .given .1)) (c .over .ensures)
 
 follow-requires : tie.Need-follow-requires Inv-loop μ-loop
 follow-requires c κs =
@@ -81,8 +85,10 @@ loop-again c =
     let l = n .before .before in
     let next = sym (n .next .ensures) ∙ k .k .given .1 in
     ⊎-elim
-    (λ w. rw (w .2, w .3) (deciding-ahead (l .loop .inv) _ next (f .follow .result .levels) (f .follow .ensures .levels) (w .1 .result) (w .0 .taken) (w .1 .ensures)))
-    (λ w. rw (w .2, w .3) (deciding-rest (l .loop .inv) _ next (f .follow .result .levels) (f .follow .ensures .levels) (w .1 .result) (w .0 .left) (w .1 .ensures)))
+    (λ w. rw (w .2, w .3) (deciding-ahead (l .loop .inv) _ next (f .follow .result .levels) (f .follow .ensures .levels) (w .1 .result) (w .0 .taken)
+    (w .1 .ensures)))
+    (λ w. rw (w .2, w .3) (deciding-rest (l .loop .inv) _ next (f .follow .result .levels) (f .follow .ensures .levels) (w .1 .result) (w .0 .left)
+    (w .1 .ensures)))
     (c .before .if1 .came)
 
 over-requires-4 : tie.Need-over-requires-4 Inv-loop μ-loop

@@ -1,5 +1,5 @@
--- Where the names have parted, the path decides what it did. Else its last level is followed by the entry, and there is a level more where the
--- candidate's next name is the entry's.
+-- Where the names have parted, the path decides what it did. Else its last level is followed by the
+-- entry, and there is a level more where the candidate's next name is the entry's.
 use Prim.Native.Nat.{_*_}
 use native.Mathlib.Omega.{arith}
 use native.Mathlib.Nat.{mul-comm}
@@ -30,8 +30,10 @@ returns-2 c i es d d′ few child a =
     let f = call .before in
     let whole = turned-test _ false (f .before .if1 .left) in
     let s = f .before .before .before .before .before in
-    let found = subst (NextIs (s .args .e .property) (drop (length (d .path)) es) (now (s .args .s))) (n .next .given .1) (call .next-name .ensures (drop (length (d .path)) es) (a .left whole)) in
-    further-on few child a whole _ true (found .0) (mul-comm (f .followed-by .result .end) 2 ∙ ap (λ m. 2 * m) (f .followed-by .ensures .0)) (f .followed-by .ensures .1) refl (λ _. found .1)
+    let found = subst (NextIs (s .args .e .property) (drop (length (d .path)) es) (now (s .args .s))) (n .next .given .1)
+    (call .next-name .ensures (drop (length (d .path)) es) (a .left whole)) in
+    further-on few child a whole _ true (found .0) (mul-comm (f .followed-by .result .end) 2 ∙ ap (λ m. 2 * m) (f .followed-by .ensures .0))
+    (f .followed-by .ensures .1) refl (λ _. found .1)
 
 returns-3 : tie.Need-returns-3
 returns-3 c i es d d′ few child a =
@@ -39,7 +41,8 @@ returns-3 c i es d d′ few child a =
     let f = call .before in
     let whole = turned-test _ false (f .before .if1 .left) in
     let s = f .before .before .before .before .before in
-    let found = subst (NextIs (s .args .e .property) (drop (length (d .path)) es) (now (s .args .s))) (c .enum-told .given .1) (call .next-name .ensures (drop (length (d .path)) es) (a .left whole)) in
+    let found = subst (NextIs (s .args .e .property) (drop (length (d .path)) es) (now (s .args .s))) (c .enum-told .given .1)
+    (call .next-name .ensures (drop (length (d .path)) es) (a .left whole)) in
     further-on few child a whole _ false found (f .followed-by .ensures .0) (f .followed-by .ensures .1) refl (λ t. absurd (false≢true t))
 
 pub further-spec : {M : Type 1} → statement M

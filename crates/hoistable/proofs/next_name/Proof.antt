@@ -13,7 +13,8 @@ returns c es r = next-none (c .before .before .args .e .property) r (c .if1 .tak
 returns-2 : tie.Need-returns-2
 returns-2 c es r =
     let call = c .before .before in
-    next-refused (call .before .before .before .args .e .property) r (call .before .if1 .left) (seen gotEntry (call .entry-at .ensures) (c .enum-told .given .1))
+    next-refused (call .before .before .before .args .e .property) r (call .before .if1 .left)
+    (seen gotEntry (call .entry-at .ensures) (c .enum-told .given .1))
 
 returns-3 : tie.Need-returns-3
 returns-3 c es r =
@@ -33,4 +34,5 @@ returns-4 c es r =
     next-here q r (call .before .if1 .left) read ∙ sym (c .before .same .ensures) ∙ c .if2 .left
 
 pub next-name-spec : {M : Type 1} → statement M
-next-name-spec = tie.close (tie.spec returns (λ c κs. search needs) (λ c. search needs) (λ c. search needs) returns-2 (λ c κs. search needs) (λ c. search needs) returns-3 returns-4)
+next-name-spec = tie.close (tie.spec returns (λ c κs. search needs) (λ c. search needs) (λ c. search needs) returns-2 (λ c κs. search needs)
+    (λ c. search needs) returns-3 returns-4)

@@ -15,7 +15,8 @@ returns : tie.Need-returns
 returns c =
     let d = c .before in
     let s = d .before .before in
-    decided-number (registryOf (now (s .args .ws))) (membersOf (s .args .set .words)) (s .args .identifier) (entriesAt (s .args .count) (now (s .args .s)) (s .args .start))
+    decided-number (registryOf (now (s .args .ws))) (membersOf (s .args .set .words)) (s .args .identifier)
+    (entriesAt (s .args .count) (now (s .args .s)) (s .args .start))
     (d .decided-levels .ensures) (c .nonnull .ensures)
 
 pub nonnull-levels-spec : {M : Type 1} → statement M

@@ -6,7 +6,7 @@ use mathlib.Core.List.{List}
 use Prim.Native.Nat.{ℕ}
 use Rattle.entries.specs.declared.BlockId.{BlockId}
 use Rattle.entries.specs.Path.{ReactiveScopeDependency}
-use Rattle.model.specs.Read.{Read, andThen, mapped, both}
+use Rattle.model.specs.ReadingBytes.{Read, andThen, mapped, both}
 use Rattle.model.specs.Job.{Block}
 use Rattle.fields.specs.Answer.{gotPlace}
 use Rattle.fields.proofs.Reading.{seen}

@@ -6,7 +6,7 @@ use native.Mathlib.Nat.{sub-zero}
 use mathlib.Core.Path.{_≡_, refl, sym, ap, _∙_}
 use lib.Seq.{sets}
 use Rattle.entries.specs.declared.BlockId.{BlockId}
-use Rattle.model.specs.Read.{readMany}
+use Rattle.model.specs.ReadingBytes.{readMany}
 use Rattle.model.specs.Job.{Block, readBlock}
 use Rattle.fields.proofs.Reading.{seen}
 use Rattle.job.specs.Passing.{passed, notes}

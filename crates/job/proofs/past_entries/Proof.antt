@@ -2,7 +2,7 @@
 -- does.
 use borrow.Author.Needs.{needs}
 use mathlib.Core.Path.{_≡_, refl, sym, ap, _∙_}
-use Rattle.model.specs.Read.{readMany}
+use Rattle.model.specs.ReadingBytes.{readMany}
 use Rattle.model.specs.Job.{readEntry}
 use Rattle.fields.proofs.Reading.{seen}
 use Rattle.job.specs.Passing.{passed}

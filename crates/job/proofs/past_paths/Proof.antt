@@ -2,7 +2,7 @@
 -- whole does.
 use borrow.Author.Needs.{needs}
 use mathlib.Core.Path.{_≡_, refl, sym, _∙_}
-use Rattle.model.specs.Read.{readMany}
+use Rattle.model.specs.ReadingBytes.{readMany}
 use Rattle.model.specs.Job.{readPath}
 use Rattle.fields.specs.Answer.{gotPlace}
 use Rattle.fields.proofs.Reading.{seen}

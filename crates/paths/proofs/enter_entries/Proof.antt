@@ -1,7 +1,7 @@
--- The loop's invariant, `Entering`: what enters the entries that are left from the node reached so far
--- enters them all. The measure is their number.
+-- The loop's invariant, `Entering`: what enters the entries that are left from the node reached so
+-- far enters them all. The measure is their number.
 use borrow.Author.Needs.{needs}
-use Rattle.model.specs.Read.{readMany}
+use Rattle.model.specs.ReadingBytes.{readMany}
 use Rattle.model.specs.Job.{readEntry}
 use Rattle.registry.specs.Words.{registryOf}
 use Rattle.fields.proofs.Reading.{seen}

@@ -1,5 +1,5 @@
--- A path is its mark, its head and its entries: the head's root is found or made, and the entries lead
--- on from there.
+-- A path is its mark, its head and its entries: the head's root is found or made, and the entries
+-- lead on from there.
 use denote.Ref.{now}
 use borrow.Author.Needs.{needs}
 use Rattle.registry.specs.Words.{registryOf}
@@ -53,7 +53,8 @@ enter-entries-requires c κs =
     let head = f .field .given .0 .0 in
     let g = i .get-or-create-identifier in
     let reg = registryOf (now (a .args .ws)) in
-    let made = root-made-at reg (head .identifier) (head .reactive) (head .span) (g .result) (g .last .0) (g .last .1 .0) (g .ensures) _ (r .root .given .1) in (
+    let made =
+    root-made-at reg (head .identifier) (head .reactive) (head .span) (g .result) (g .last .0) (g .last .1 .0) (g .ensures) _ (r .root .given .1) in (
       made .held,
       made .inside,
       entries-there (now (a .args .s)) (a .args .at) (a .pre .1) (seen gotPlace (m .mark-at .ensures) (k .marked .given .1))

@@ -1,6 +1,7 @@
--- The proof of the cycle of calls {visit}. The measure is the number of unmarked blocks: a visit marks its block before it calls itself.
--- The loop's invariant, `Neighbouring`, says which neighbours are still to be visited, so that a full registry in the middle says something of the end.
--- A neighbour that is marked is passed over, as its visit would leave everything as it is.
+-- The proof of the cycle of calls {visit}. The measure is the number of unmarked blocks: a visit
+-- marks its block before it calls itself. The loop's invariant, `Neighbouring`, says which
+-- neighbours are still to be visited, so that a full registry in the middle says something of the
+-- end. A neighbour that is marked is passed over, as its visit would leave everything as it is.
 use Prim.Native.Nat.{ℕ, _-_, _<_}
 use native.Mathlib.Omega.{arith}
 use mathlib.Core.Path.{_≡_, subst}
@@ -13,7 +14,20 @@ use Rattle.model.specs.Propagation.{doneNeighbours}
 use Rattle.graph.specs.Bytes.{sizeIn, Next}
 use Rattle.graph.proofs.Neighbours.{found-at, found-nothing, none-past}
 use Rattle.propagation.specs.Joins.{marksOf, visitedOf, Ready, ReducedBefore}
-use Rattle.propagation.proofs.Visiting.{Enters, Neighbouring, Looping, block-inside, neighbours-start, still-ready, call-falls, end-left, neighbour-inside, neighbours-marked, end-full, neighbours-more}
+use Rattle.propagation.proofs.Visiting.{
+  Enters,
+  Neighbouring,
+  Looping,
+  block-inside,
+  neighbours-start,
+  still-ready,
+  call-falls,
+  end-left,
+  neighbour-inside,
+  neighbours-marked,
+  end-full,
+  neighbours-more,
+}
 use Rattle.propagation.proofs.visit.Reads as visit
 use Rattle.propagation.proofs.visit.Kinds as visit-kinds
 use Rattle.propagation.proofs.+visit.Lts-visit as lts
@@ -102,7 +116,8 @@ returns : (t : ℕ) → lts.Need-returns (claims t) (at t) visit.Post Inv-loop �
 returns t c =
     let e = to-leave t (c .before) in
     let n = e .before .before in
-    end-left (looping t (n .before .before)) (found-nothing _ _ _ _ (n .next-neighbour .result) (n .next-neighbour .ensures) (e .enum-told .given .1)) (c .leave .result) _ _ _ _ (c .leave .ensures)
+    end-left (looping t (n .before .before)) (found-nothing _ _ _ _ (n .next-neighbour .result) (n .next-neighbour .ensures) (e .enum-told .given .1))
+    (c .leave .result) _ _ _ _ (c .leave .ensures)
 
 element-copy-out-if1 : (t : ℕ) → lts.Need-element-copy-out-if1 (claims t) (at t) visit.Post Inv-loop μ-loop
 element-copy-out-if1 t c = let k = c .before in neighbour-inside (looping t (loop-at t k)) (next t k)
@@ -145,7 +160,8 @@ returns-3 t c =
     let e = c .before .before .before .before .before in
     let l = e .before in
     let s = entry t l in
-    end-left (looping t l) (none-past (s .pre .1 .0 .fits) (s .pre .1 .2) (s .args .backward) (l .loop .from) (e .loop-test .left)) (c .leave2 .result) _ _ _ _ (c .leave2 .ensures)
+    end-left (looping t l) (none-past (s .pre .1 .0 .fits) (s .pre .1 .2) (s .args .backward) (l .loop .from) (e .loop-test .left))
+    (c .leave2 .result) _ _ _ _ (c .leave2 .ensures)
 
 pub +visit-spec : {M : Type 1} → statement M
 +visit-spec = close μ-visit λ t. lts.spec (claims t)

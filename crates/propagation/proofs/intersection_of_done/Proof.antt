@@ -1,5 +1,6 @@
--- `intersection_of_done` meets its contract. The loop's invariant, `Intersecting`: what is found, with the Done ones among the neighbours still to come, makes
--- the whole intersection. The measure is what is left of 128.
+-- `intersection_of_done` meets its contract. The loop's invariant, `Intersecting`: what is found,
+-- with the Done ones among the neighbours still to come, makes the whole intersection. The measure
+-- is what is left of 128.
 use Prim.Native.Nat.{_-_}
 use native.Mathlib.Omega.{arith}
 use mathlib.Core.Path.{_∙_}
@@ -23,7 +24,8 @@ loop-holds c =
 returns : tie.Need-returns Inv-loop μ-loop
 returns c =
     let n = c .before .before .before in
-    c .or-empty .ensures ∙ intersecting-end (n .before .loop .inv) (found-nothing _ _ _ _ (n .next-neighbour .result) (n .next-neighbour .ensures) (c .before .enum-told .given .1))
+    c .or-empty .ensures ∙ intersecting-end (n .before .loop .inv)
+    (found-nothing _ _ _ _ (n .next-neighbour .result) (n .next-neighbour .ensures) (c .before .enum-told .given .1))
 
 with-neighbour-requires : tie.Need-with-neighbour-requires Inv-loop μ-loop
 with-neighbour-requires c κs =
@@ -48,7 +50,8 @@ loop-again : tie.Need-loop-again Inv-loop μ-loop
 loop-again c =
     let k = c .before .before in
     let n = k .before .before in
-    intersecting-more (n .before .loop .inv) (found-at _ _ _ _ (n .next-neighbour .result) (n .next-neighbour .ensures) _ _ (k .k .given .1)) (c .with-neighbour .result) (c .with-neighbour .ensures)
+    intersecting-more (n .before .loop .inv) (found-at _ _ _ _ (n .next-neighbour .result) (n .next-neighbour .ensures) _ _ (k .k .given .1))
+    (c .with-neighbour .result) (c .with-neighbour .ensures)
 
 pub intersection-of-done-spec : {M : Type 1} → statement M
 intersection-of-done-spec =

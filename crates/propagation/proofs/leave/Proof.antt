@@ -16,7 +16,8 @@ returns c =
     let s = c .before .before .before .before .before in
     let a = s .args in
     let j = c .join in
-    leaves doneNeighbours (a .graph .now) (a .backward) (a .b) (a .marks .now) (a .sets .now) (a .ws .now) (a .changed) (j .result) _ _ _ (s .pre .2) (s .pre .3) (j .ensures)
+    leaves doneNeighbours (a .graph .now) (a .backward) (a .b) (a .marks .now) (a .sets .now) (a .ws .now) (a .changed) (j .result) _ _ _ (s .pre .2)
+    (s .pre .3) (j .ensures)
 
 pub leave-spec : {M : Type 1} → statement M
 leave-spec = tie.close (tie.spec join-requires element-write-marks returns)

@@ -1,4 +1,5 @@
--- `propagate_non_null` meets its contract. The loop's invariant, `Rounding`: the rounds still allowed lead to the definition's end.
+-- `propagate_non_null` meets its contract. The loop's invariant, `Rounding`: the rounds still
+-- allowed lead to the definition's end.
 use Prim.Native.Nat.{_-_}
 use native.Mathlib.Omega.{arith}
 use borrow.Author.Tests.{not-true, not-false}

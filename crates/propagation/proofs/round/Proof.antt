@@ -1,9 +1,10 @@
--- `round` meets its contract: the backward walk goes on from what the forward one leaves, all of it reduced, or the forward one has no room, and neither has the round.
+-- `round` meets its contract: the backward walk goes on from what the forward one leaves, all of it
+-- reduced, or the forward one has no room, and neither has the round.
 use mathlib.Core.Bool.{false}
 use borrow.Author.Needs.{needs}
 use Rattle.model.specs.Propagation.{doneNeighbours}
 use Rattle.graph.specs.Bytes.{sizeIn}
-use Rattle.propagation.specs.Joins.{workOf, Holds}
+use Rattle.propagation.specs.Joins.{workOf, HoldsWork}
 use Rattle.propagation.specs.Propagates.{walkIn}
 use Rattle.propagation.proofs.Along.{joined-to}
 use Rattle.propagation.proofs.Rounding.{round-full, round-halfway, round-done}
@@ -18,12 +19,14 @@ to-walk a = a .before .before .before .before .before
 
 -- what the forward walk leaves
 forth : (k : tie.After-c) → let w = k .before .before in let a = entry w .args in
-    Holds (walkIn doneNeighbours (a .graph .now) false (workOf (sizeIn (a .graph .now)) (a .sets .now) (a .ws .now) false)) (sizeIn (a .graph .now)) (k .c .given .0 .0)
+    HoldsWork (walkIn doneNeighbours (a .graph .now) false (workOf (sizeIn (a .graph .now)) (a .sets .now) (a .ws .now) false)) (sizeIn (a .graph .now))
+    (k .c .given .0 .0)
     (w .walk .last .1 .1 .1 .0) (w .walk .last .1 .1 .1 .1 .0) (w .walk .last .1 .1 .1 .1 .1 .0)
 forth k =
     let w = k .before .before in
     let a = entry w .args in
-    joined-to (walkIn doneNeighbours (a .graph .now) false (workOf (sizeIn (a .graph .now)) (a .sets .now) (a .ws .now) false)) (sizeIn (a .graph .now)) (w .walk .result) _ _ _ (w .walk .ensures) _ (k .c .given .1)
+    joined-to (walkIn doneNeighbours (a .graph .now) false (workOf (sizeIn (a .graph .now)) (a .sets .now) (a .ws .now) false)) (sizeIn (a .graph .now))
+    (w .walk .result) _ _ _ (w .walk .ensures) _ (k .c .given .1)
 
 returns : tie.Need-returns
 returns c =
@@ -34,8 +37,11 @@ returns c =
 walk-requires-2 : tie.Need-walk-requires-2
 walk-requires-2 c κs =
     let k = to-walk c in
-    let s = entry (k .before .before) in
-    (record { fits = s .pre .0 .fits; stands = forth k .stands }, λ t. round-halfway doneNeighbours (s .args .graph .now) (s .args .sets .now) (s .args .ws .now) (s .pre .0 .stands) (forth k))
+    let s = entry (k .before .before) in (
+      record { fits = s .pre .0 .fits; stands = forth k .stands },
+      λ t. round-halfway doneNeighbours (s .args .graph .now) (s .args .sets .now)
+          (s .args .ws .now) (s .pre .0 .stands) (forth k),
+    )
 
 returns-2 : tie.Need-returns-2
 returns-2 c =

@@ -1,4 +1,5 @@
--- `with_neighbour` meets its contract: a block that is not Done is passed over; the set of one that is becomes the first, or is intersected with what there is.
+-- `with_neighbour` meets its contract: a block that is not Done is passed over; the set of one that
+-- is becomes the first, or is intersected with what there is.
 use mathlib.Core.Path.{refl, ap, _∙_}
 use mathlib.Core.Bool.{true, false}
 use native.Mathlib.Omega.{arith}

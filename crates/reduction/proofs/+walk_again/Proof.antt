@@ -1,5 +1,6 @@
--- The proof of the cycle of calls {walk_again}. The measure is the node's number: a parent stands before its child.
--- A root is found again. A child's path is its parent's and one entry: the parent's walk leads to q, and the entry leads on from there.
+-- The proof of the cycle of calls {walk_again}. The measure is the node's number: a parent stands
+-- before its child. A root is found again. A child's path is its parent's and one entry: the
+-- parent's walk leads to q, and the entry leads on from there.
 use Prim.Native.Nat.{ℕ, _<_}
 use native.Mathlib.Omega.{arith}
 use native.Mathlib.Nat.{le-trans, lt-trans}
@@ -35,7 +36,8 @@ below t = and 2 walk-again-kinds.ps (falls 2 walk-again-kinds.ps _<_ μ-walk-aga
 abbrev claims : ℕ → lts.Claims
 claims t = (load-reads.Asked, load-reads.Learnt, below t, walk-again.Post, step-reads.Asked, step-reads.Learnt)
 
-loaded : (t : ℕ) (l : lts.After-load (claims t) (at t) walk-again.Post) → Loaded (now (l .before .before .args .ws)) (l .before .before .args .k) (l .load .result)
+loaded : (t : ℕ) (l : lts.After-load (claims t) (at t) walk-again.Post) → Loaded (now (l .before .before .args .ws)) (l .before .before .args .k)
+    (l .load .result)
 loaded t l = let s = l .before .before in record { sound = s .pre .1 .0 .sound; here = s .pre .1 .1; loaded = l .load .ensures }
 
 load-requires : (t : ℕ) → lts.Need-load-requires (claims t) (at t) walk-again.Post

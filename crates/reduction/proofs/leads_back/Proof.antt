@@ -1,5 +1,7 @@
--- The loop's invariant, `Climbing`: the path of the node reached so far leads back to it where that of the first node does, and the other way round. A root's
--- does, and a child's does where its parent's does and its entry keeps its mark, and only there. The measure is the node's number: a parent stands before its child.
+-- The loop's invariant, `Climbing`: the path of the node reached so far leads back to it where that
+-- of the first node does, and the other way round. A root's does, and a child's does where its
+-- parent's does and its entry keeps its mark, and only there. The measure is the node's number: a
+-- parent stands before its child.
 use Prim.Native.Nat.{_<_}
 use native.Mathlib.Omega.{arith}
 use native.Mathlib.Nat.{le-trans}
@@ -51,14 +53,17 @@ loop-again c =
     let m = c .before in
     let load = m .before .before .before .before in
     let l = load .before in
-    climb (l .loop .inv) (l .before .pre .0 .sound) (load .load .ensures) (m .before .before .n .given .1) _ (m .reduced-mark .ensures) (beq-true _ _ (c .if1 .taken))
+    climb (l .loop .inv) (l .before .pre .0 .sound) (load .load .ensures) (m .before .before .n .given .1) _ (m .reduced-mark .ensures)
+    (beq-true _ _ (c .if1 .taken))
 
 returns-2 : tie.Need-returns-2 Inv-loop μ-loop
 returns-2 c =
     let m = c .before in
     let load = m .before .before .before .before in
     let l = load .before in
-    climb-stops (l .loop .inv) (l .before .pre .0 .sound) (load .load .ensures) (m .before .before .n .given .1) _ (m .reduced-mark .ensures) (l .before .pre .1) (c .if1 .left)
+    climb-stops (l .loop .inv) (l .before .pre .0 .sound) (load .load .ensures) (m .before .before .n .given .1) _ (m .reduced-mark .ensures)
+    (l .before .pre .1) (c .if1 .left)
 
 pub leads-back-spec : {M : Type 1} → statement M
-leads-back-spec = tie.close (tie.spec Inv-loop μ-loop loop-holds load-requires (λ c. search needs) (λ c. search needs) returns reduced-mark-requires loop-less loop-again returns-2)
+leads-back-spec = tie.close (tie.spec Inv-loop μ-loop loop-holds load-requires (λ c. search needs)
+    (λ c. search needs) returns reduced-mark-requires loop-less loop-again returns-2)

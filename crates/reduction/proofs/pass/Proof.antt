@@ -1,4 +1,5 @@
--- The loop's invariant, `Along`: the nodes that are left, reduced from here, give what the pass gives. A node whose path leads back to it changes nothing. The measure is what is left of 512.
+-- The loop's invariant, `Along`: the nodes that are left, reduced from here, give what the pass
+-- gives. A node whose path leads back to it changes nothing. The measure is what is left of 512.
 use Prim.Native.Nat.{_-_}
 use native.Mathlib.Omega.{arith}
 use mathlib.Core.Path.{sym, _∙_}
@@ -61,7 +62,8 @@ loop-again c =
     let size = registry-length (l .ws) in
     let next = sym (n .next .ensures) ∙ k .k .given .1 in
     let inside = along-inside (l .inv) _ next in
-    let back = node-back (membersOf (l .r .set .words)) (registryOf (l .ws)) _ (l .inv .held .sound) (omega arith) (sym (told .before .leads-back .ensures) ∙ told .if1 .taken) in
+    let back = node-back (membersOf (l .r .set .words)) (registryOf (l .ws)) _ (l .inv .held .sound) (omega arith)
+    (sym (told .before .leads-back .ensures) ∙ told .if1 .taken) in
     along-still (l .inv) _ next back
 
 reduce-node-requires : tie.Need-reduce-node-requires Inv-loop μ-loop
@@ -98,7 +100,8 @@ loop-again-2 c =
     let k = c .before .before .before .before .before .before .before .before .before in
     let n = k .before .before in
     let r = c .before .before .reduce-node in
-    along-more (n .before .before .loop .inv) _ (sym (n .next .ensures) ∙ k .k .given .1) (r .result) (r .last .0) (r .last .1 .0) (c .before .if2 .left) (r .ensures)
+    along-more (n .before .before .loop .inv) _ (sym (n .next .ensures) ∙ k .k .given .1) (r .result) (r .last .0) (r .last .1 .0)
+    (c .before .if2 .left) (r .ensures)
 
 returns-3 : tie.Need-returns-3 Inv-loop μ-loop
 returns-3 c = let l = c .before in along-end (l .loop .inv) (none-past (l .before .intersection .result .words) (l .loop .from) (c .loop-test .left))

@@ -1,4 +1,5 @@
--- The walk tells where the node's path leads: to the node itself, and nothing changes, or elsewhere, and that node takes its place.
+-- The walk tells where the node's path leads: to the node itself, and nothing changes, or
+-- elsewhere, and that node takes its place.
 use mathlib.Core.Path.{_≡_, ap, _∙_}
 use denote.Ref.{now}
 use borrow.Author.Needs.{needs}
@@ -39,8 +40,13 @@ returns-3 c =
     let w = q .before .before in
     let s = w .before .before .before .before in
     let r = w .walk-again in
-    let there = arrived-at _ (r .result) _ (r .last .0) (r .last .1 .0) (q .q .given .1) (r .ensures) in
-    (there .0, node-moved (now (s .args .ws)) (s .args .r) (s .args .k) (r .last .0) _ (there .1) (c .before .before .if1 .left) _ (c .insert .ensures ∙ ap (insert _) (c .before .remove .ensures)))
+    let there = arrived-at _ (r .result) _ (r .last .0) (r .last .1 .0) (q .q .given .1) (r .ensures) in (
+      there .0,
+      node-moved (now (s .args .ws)) (s .args .r) (s .args .k) (r .last .0) _ (there .1) (c .before .before .if1 .left) _
+          (c .insert .ensures ∙ ap (insert _) (c .before .remove .ensures)),
+    )
 
 pub reduce-node-spec : {M : Type 1} → statement M
-reduce-node-spec = tie.close (tie.spec (λ c κs. search needs) (λ c. search needs) (λ c. search needs) returns (λ c κs. let room = c .before .before .before .before .before .before .before .before .before .before .pre .0 .sized .room in search needs) insert-requires returns-2 returns-3)
+reduce-node-spec = tie.close (tie.spec (λ c κs. search needs) (λ c. search needs) (λ c. search needs) returns
+    (λ c κs. let room = c .before .before .before .before .before .before .before .before .before .before .pre .0 .sized .room in search needs)
+    insert-requires returns-2 returns-3)

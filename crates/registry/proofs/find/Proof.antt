@@ -1,5 +1,5 @@
--- The search goes along the bucket from its last node to its first. All nodes that it has passed or left out have another key, and where it meets the
--- key, that node is the only one with it.
+-- The search goes along the bucket from its last node to its first. All nodes that it has passed or
+-- left out have another key, and where it meets the key, that node is the only one with it.
 use Prim.Native.Nat.{_-_}
 use mathlib.Core.Path.{sym, ap, _∙_}
 use denote.Ref.{now}
@@ -41,7 +41,8 @@ returns c =
     let l = c .before .before .before .before in
     let s = l .before .before .before in
     let within = l .loop .inv .within in
-    sym (found-at (now (s .args .ws)) _ (s .args .n) (s .pre .2) (search needs) (ap (λ m. sameKey m (s .args .n)) (sym (c .before .before .load .ensures)) ∙ sym (c .before .same .ensures) ∙ c .if1 .taken))
+    sym (found-at (now (s .args .ws)) _ (s .args .n) (s .pre .2) (search needs)
+    (ap (λ m. sameKey m (s .args .n)) (sym (c .before .before .load .ensures)) ∙ sym (c .before .same .ensures) ∙ c .if1 .taken))
 
 link-requires : tie.Need-link-requires Inv-loop μ-loop
 link-requires c κs =
@@ -62,7 +63,8 @@ loop-again c =
     let l = c .before .before .before .before .before in
     let s = l .before .before .before in
     passed-more (now (s .args .ws)) (s .args .n) (s .pre .1) (l .loop .end) _ _ (l .loop .inv) (search needs)
-    (ap (λ m. sameKey m (s .args .n)) (sym (c .before .before .before .load .ensures)) ∙ sym (c .before .before .same .ensures) ∙ c .before .if1 .left) (c .link .ensures)
+    (ap (λ m. sameKey m (s .args .n)) (sym (c .before .before .before .load .ensures)) ∙ sym (c .before .before .same .ensures) ∙ c .before .if1 .left)
+    (c .link .ensures)
 
 count-requires : tie.Need-count-requires Inv-loop μ-loop
 count-requires c κs = search needs

@@ -1,4 +1,5 @@
--- The three words of the node, the end of its bucket and the count are stored. The words of the nodes that are there stay, and so do the other buckets' ends.
+-- The three words of the node, the end of its bucket and the count are stored. The words of the
+-- nodes that are there stay, and so do the other buckets' ends.
 use Prim.Native.Nat.{_+_, _*_}
 use mathlib.Core.Path.{_≡_, _∙_}
 use denote.Ref.{now}

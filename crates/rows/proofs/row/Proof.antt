@@ -1,4 +1,5 @@
--- `row` meets its contract: a row is known by its eight words, and the loop's invariant says that those passed are copied.
+-- `row` meets its contract: a row is known by its eight words, and the loop's invariant says that
+-- those passed are copied.
 use Prim.Native.Nat.{ℕ, _+_, _*_, _≤_, _<_, _-_}
 use native.Mathlib.Omega.{arith}
 use mathlib.Core.Path.{_≡_}

@@ -1,5 +1,5 @@
--- `set_row` meets its contract: the loop's invariant says that the words passed are copied and that all others are as at entry, and a row whose
--- words are as at entry is so too.
+-- `set_row` meets its contract: the loop's invariant says that the words passed are copied and that
+-- all others are as at entry, and a row whose words are as at entry is so too.
 use Prim.Native.Nat.{ℕ, _+_, _*_, _≤_, _-_}
 use native.Mathlib.Omega.{arith}
 use native.Mathlib.Numerals.{add-one}

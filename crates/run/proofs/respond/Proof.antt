@@ -25,7 +25,8 @@ slice-write-out-2 c =
     let call = c .before .before .before .before .before in
     let a = call .before .before .before .before .before in
     second (call .perform .last .1 .1 .0) _
-    (room (a .args .operation) (take (a .args .got) (now (a .args .space))) (now (a .args .out)) _ (a .pre .2) (call .perform .ensures) (c .before .outcome2 .given .1))
+    (room (a .args .operation) (take (a .args .got) (now (a .args .space))) (now (a .args .out)) _ (a .pre .2) (call .perform .ensures)
+    (c .before .outcome2 .given .1))
 
 slice-write-out-3 : tie.Need-slice-write-out-3
 slice-write-out-3 c =
@@ -33,13 +34,15 @@ slice-write-out-3 c =
     let call = told .before .before .before .before .before in
     let a = call .before .before .before .before .before in
     third (call .perform .last .1 .1 .0) _ _
-    (room (a .args .operation) (take (a .args .got) (now (a .args .space))) (now (a .args .out)) _ (a .pre .2) (call .perform .ensures) (told .before .outcome2 .given .1))
+    (room (a .args .operation) (take (a .args .got) (now (a .args .space))) (now (a .args .out)) _ (a .pre .2) (call .perform .ensures)
+    (told .before .outcome2 .given .1))
 
 returns : tie.Need-returns
 returns c =
     let call = c .before .before .before .before .before in
     let a = call .before .before .before .before .before in
-    written (a .args .operation) (take (a .args .got) (now (a .args .space))) (now (a .args .out)) _ (a .pre .2) (call .perform .ensures) (c .before .outcome .given .1)
+    written (a .args .operation) (take (a .args .got) (now (a .args .space))) (now (a .args .out)) _ (a .pre .2) (call .perform .ensures)
+    (c .before .outcome .given .1)
 
 returns-2 : tie.Need-returns-2
 returns-2 c =

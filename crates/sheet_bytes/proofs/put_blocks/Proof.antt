@@ -1,4 +1,5 @@
--- The loop's invariant: the bytes of the blocks from b on are still to come, with room for as many as the words hold.
+-- The loop's invariant: the bytes of the blocks from b on are still to come, with room for as many
+-- as the words hold.
 use Prim.Native.Nat.{_+_, _*_, _-_, _≤_}
 use native.Mathlib.Nat.{sub-zero}
 use mathlib.Core.Path.{ap}

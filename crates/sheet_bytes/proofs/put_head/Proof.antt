@@ -37,7 +37,8 @@ returns c =
     let three = four .before .before .before .before in
     let two = three .before .before .before .before in
     let one = two .before .before .before .before in
-    let front = writes-then (writes-then (writes-then (one .put-number .ensures) (two .put-number2 .ensures)) (three .put-number3 .ensures)) (four .put-number4 .ensures) in
+    let front = writes-then (writes-then (writes-then (one .put-number .ensures) (two .put-number2 .ensures)) (three .put-number3 .ensures))
+    (four .put-number4 .ensures) in
     writes-then front (writes-as (ap (numberBytes 1) (five .before .flag .ensures .0)) (five .put-number5 .ensures))
 
 pub put-head-spec : {M : Type 1} → statement M

@@ -1,4 +1,5 @@
--- The parts of a node, one after the other: what stands in the words is the node of the registry, and the identifier and the reactive mark are its root's.
+-- The parts of a node, one after the other: what stands in the words is the node of the registry,
+-- and the identifier and the reactive mark are its root's.
 use Prim.Native.Nat.{_+_, _≤_}
 use native.Mathlib.Omega.{arith}
 use lib.ListN.{length}
@@ -70,7 +71,8 @@ returns c =
     let front = writes-then (writes-then (one .put-number .ensures) (two .put-number2 .ensures)) (three .put-number3 .ensures) in
     let back = writes-then (writes-then (writes-then front (four .put-origin .ensures)) (five .put-number4 .ensures)) (six .put-number5 .ensures) in
     writes-as
-    (node-written (now (s .args .ws)) (s .args .k .0) (s .pre .1) (root .before .load .result) (root .root-of .result) _ _ _ (root .before .load .ensures) (root .root-of .ensures) (two .before .parent-number .ensures) (five .before .span .ensures) (six .before .flag .ensures .0))
+    (node-written (now (s .args .ws)) (s .args .k .0) (s .pre .1) (root .before .load .result) (root .root-of .result) _ _ _
+    (root .before .load .ensures) (root .root-of .ensures) (two .before .parent-number .ensures) (five .before .span .ensures) (six .before .flag .ensures .0))
     back
 
 pub put-node-spec : {M : Type 1} → statement M

@@ -1,4 +1,5 @@
--- The loop's invariant: the bytes of the nodes from i on are still to come, with room for as many as the words hold.
+-- The loop's invariant: the bytes of the nodes from i on are still to come, with room for as many
+-- as the words hold.
 use Prim.Native.Nat.{_+_, _*_, _-_, _≤_}
 use native.Mathlib.Omega.{arith}
 use mathlib.Core.Path.{_≡_, refl, sym, _∙_}
@@ -25,7 +26,8 @@ abbrev μ-loop : tie.MeasureT-loop
 μ-loop ws out₀ start end at₀ i₀ out at i = end - i
 
 loop-holds : tie.Need-loop-holds Inv-loop μ-loop
-loop-holds c = let s = c .before .before in (search needs, search needs, registry-length (now (s .args .ws)) ∙ sym (c .count .ensures), search needs, coming-start refl)
+loop-holds c = let s = c .before .before in
+    (search needs, search needs, registry-length (now (s .args .ws)) ∙ sym (c .count .ensures), search needs, coming-start refl)
 
 put-node-requires : tie.Need-put-node-requires Inv-loop μ-loop
 put-node-requires c κs =

@@ -1,4 +1,5 @@
--- The loop's invariant: the bytes of the row from node 64 * i on are still to come. A word's bytes are the row's next eight.
+-- The loop's invariant: the bytes of the row from node 64 * i on are still to come. A word's bytes
+-- are the row's next eight.
 use Prim.Native.Nat.{_+_, _*_, _-_, _≤_}
 use mathlib.Core.Path.{refl}
 use lib.ListN.{length}

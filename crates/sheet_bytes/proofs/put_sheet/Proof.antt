@@ -1,4 +1,5 @@
--- The head, the nodes and the blocks, one after the other. Each has its room: 8 + 512 * 23 + 128 * 70 = 20,744 bytes are the most.
+-- The head, the nodes and the blocks, one after the other. Each has its room: 8 + 512 * 23 + 128 *
+-- 70 = 20,744 bytes are the most.
 use Prim.Native.Nat.{_+_, _*_, _≤_}
 use native.Mathlib.Omega.{arith}
 use lib.ListN.{length}
@@ -47,7 +48,8 @@ returns c j p x =
     let blocks = c .before .before in
     let nodes = blocks .before .before .before .before in
     let head = nodes .before .before .before .before in
-    writes-as (sheet-bytes (head .before .count .result) (head .before .count .ensures) x) (writes-then (writes-then (head .put-head .ensures) (nodes .put-nodes .ensures)) (blocks .put-blocks .ensures))
+    writes-as (sheet-bytes (head .before .count .result) (head .before .count .ensures) x)
+    (writes-then (writes-then (head .put-head .ensures) (nodes .put-nodes .ensures)) (blocks .put-blocks .ensures))
 
 pub put-sheet-spec : {M : Type 1} → statement M
 put-sheet-spec =

@@ -1,5 +1,6 @@
--- The loop's invariant: the node reached so far has the identifier and the reactive mark that the first one has. A root has its own, and a child those of
--- its parent. The measure is the node's number: a parent stands before its child.
+-- The loop's invariant: the node reached so far has the identifier and the reactive mark that the
+-- first one has. A root has its own, and a child those of its parent. The measure is the node's
+-- number: a parent stands before its child.
 use Prim.Native.Nat.{_<_}
 use native.Mathlib.Nat.{le-trans, lt-trans}
 use mathlib.Core.Path.{_≡_, refl, sym, _∙_}

@@ -1,4 +1,5 @@
--- A registry without room is refusal 9; otherwise the bytes are those of the job and its propagation.
+-- A registry without room is refusal 9; otherwise the bytes are those of the job and its
+-- propagation.
 use Prim.Native.Nat.{ℕ, _≤_, _<_}
 use native.Mathlib.Omega.{arith}
 use mathlib.Core.Path.{_≡_, sym, ap, _∙_}
@@ -38,8 +39,13 @@ put-requires c κs =
     let x = r .propagate in
     let held = propagated-ran _ _ (x .result) _ _ _ (job-propagated noted doneNeighbours (x .result) _ _ _ (x .ensures)) _ (k .propagated .given .1) in
     let few = rounds-fit doneNeighbours (noted .job) in
-    let same = propagated-rounds held in
-    (a .pre .0, record { sized = held .stands .held .sized; sound = held .stands .held .sound; members = held .stands .members }, omega (arith, few, same), a .pre .1)
+    let same = propagated-rounds held in (
+      a .pre .0,
+      record { sized = held .stands .held .sized; sound = held .stands .held .sound; members = held .stands .members },
+      omega
+          (arith, few, same),
+      a .pre .1,
+    )
 
 returns-2 : tie.Need-returns-2
 returns-2 c =
@@ -51,7 +57,8 @@ returns-2 c =
     let x = r .propagate in
     let held = propagated-ran _ _ (x .result) _ _ _ (job-propagated noted doneNeighbours (x .result) _ _ _ (x .ensures)) _ (k .propagated .given .1) in
     let put = w .put .ensures (noted .job) (noted .blocks .end) (noted .blocks .reads) (propagated doneNeighbours (noted .job .blocks)) (held .same) in
-    stands-written (room-written doneNeighbours (a .args .operation) (now (a .args .s)) (noted .job) (noted .blocks .end) (noted .blocks .reads) held) (put .0) (put .1)
+    stands-written (room-written doneNeighbours (a .args .operation) (now (a .args .s)) (noted .job) (noted .blocks .end) (noted .blocks .reads) held)
+    (put .0) (put .1)
 
 pub perform-read-spec : {M : Type 1} → statement M
 perform-read-spec =

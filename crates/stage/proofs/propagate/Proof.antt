@@ -1,4 +1,5 @@
--- What is entered and filled is what the definition's propagation starts from; a registry without room for the assumed paths has none in the end.
+-- What is entered and filled is what the definition's propagation starts from; a registry without
+-- room for the assumed paths has none in the end.
 use lib.ListN.{length-replicate}
 use Prim.Native.Nat.{ℕ}
 use borrow.Author.Needs.{needs}
@@ -34,7 +35,8 @@ returns-2 c =
     let t = f .before .before in
     let e = t .before .before in
     let a = e .before .before .before .before .before in
-    propagates (blocks-count (a .pre .0)) (entered-all _ _ _ _ _ _ (e .enter-blocks .ensures) (t .enum-told .given .1)) (f .fill-graph .ensures) doneNeighbours (r .result) (r .last .1 .0) (r .last .1 .1 .0) (r .last .1 .1 .1 .0) (r .ensures)
+    propagates (blocks-count (a .pre .0)) (entered-all _ _ _ _ _ _ (e .enter-blocks .ensures) (t .enum-told .given .1))
+    (f .fill-graph .ensures) doneNeighbours (r .result) (r .last .1 .0) (r .last .1 .1 .0) (r .last .1 .1 .1 .0) (r .ensures)
 
 pub propagate-spec : {M : Type 1} → statement M
 propagate-spec =

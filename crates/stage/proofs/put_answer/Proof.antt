@@ -26,7 +26,8 @@ returns c =
     let r = w .before .before .before in
     let p = r .before in
     let a = p .before .before .before .before in
-    puts-answer (a .pre .0) (now (a .args .sets)) (now (a .args .ws)) (a .pre .1) (p .place-of .result) (p .place-of .ensures) _ (r .row .ensures) (a .args .run) _ _ _ (w .put-answer .ensures)
+    puts-answer (a .pre .0) (now (a .args .sets)) (now (a .args .ws)) (a .pre .1) (p .place-of .result) (p .place-of .ensures) _ (r .row .ensures)
+    (a .args .run) _ _ _ (w .put-answer .ensures)
 
 place-of-requires : tie.Need-place-of-requires
 place-of-requires c κs = c .before .before .before .pre .0 .noted .few

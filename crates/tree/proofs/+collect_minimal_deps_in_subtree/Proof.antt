@@ -1,5 +1,7 @@
--- The proof of the cycle of calls {collect_minimal_deps_in_subtree}. The measure is the number of positions behind `from`: the children of a position stand behind it.
--- The loop's invariant, `Deriving`: the records still to come, written from here on, give what all of them give from the start.
+-- The proof of the cycle of calls {collect_minimal_deps_in_subtree}. The measure is the number of
+-- positions behind `from`: the children of a position stand behind it. The loop's invariant,
+-- `Deriving`: the records still to come, written from here on, give what all of them give from the
+-- start.
 use Prim.Native.Nat.{ℕ, _+_, _-_, _<_}
 use native.Mathlib.Omega.{arith}
 use mathlib.Core.Path.{_≡_, sym, ap, subst, _∙_}
@@ -62,7 +64,8 @@ entry t l = l .before .before .before .before
 abbrev to-loop : (t : ℕ) → lts.After-parent-in (claims t) (at t) reads.Post Inv-loop μ-loop → lts.In-loop (claims t) (at t) reads.Post Inv-loop μ-loop
 to-loop t p = p .before .before
 
-abbrev to-parent : (t : ℕ) → lts.After-is-dependency (claims t) (at t) reads.Post Inv-loop μ-loop → lts.After-parent-in (claims t) (at t) reads.Post Inv-loop μ-loop
+abbrev to-parent : (t : ℕ) → lts.After-is-dependency (claims t) (at t) reads.Post Inv-loop μ-loop → lts.After-parent-in (claims t)
+    (at t) reads.Post Inv-loop μ-loop
 to-parent t d = d .before .before .before .before
 
 long : (t : ℕ) (c : lts.Start (claims t) (at t) reads.Post Inv-loop μ-loop) → length (c .args .way .words) ≡ 17
@@ -84,7 +87,8 @@ put-next-requires t c κs =
     let p = to-parent t d in
     let i = to-loop t p in
     let l = i .before in
-    asked-put (l .loop .inv) (i .loop-test .taken) (sym (p .parent-in .ensures .0) ∙ d .before .before .before .if1 .taken) (long t (entry t l)) (d .before .before .push .result) (d .before .before .push .ensures)
+    asked-put (l .loop .inv) (i .loop-test .taken) (sym (p .parent-in .ensures .0) ∙ d .before .before .before .if1 .taken) (long t (entry t l))
+    (d .before .before .push .result) (d .before .before .push .ensures)
     (d .is-dependency .result) (d .is-dependency .ensures ∙ ap isDependencyAccess (d .before .access-in .ensures)) (c .before .if2 .taken)
 
 again-requires : (t : ℕ) → lts.Need-collect-minimal-deps-in-subtree-requires (claims t) (at t) reads.Post Inv-loop μ-loop
@@ -96,7 +100,8 @@ again-requires t c κs =
     let more = i .loop-test .taken in
     let reached = l .loop .inv .reached in (
       subst (λ (n : ℕ). countIn (entry t l .args .tree .now) - (l .loop .i + 1) < n) (entry t l .pre .0) (omega arith),
-      asked-derived (l .loop .inv) more (sym (p .parent-in .ensures .0) ∙ d .before .before .before .if1 .taken) (long t (entry t l)) (d .before .before .push .result) (d .before .before .push .ensures)
+      asked-derived (l .loop .inv) more (sym (p .parent-in .ensures .0) ∙ d .before .before .before .if1 .taken) (long t (entry t l))
+          (d .before .before .push .result) (d .before .before .push .ensures)
           (d .is-dependency .result) (d .is-dependency .ensures ∙ ap isDependencyAccess (d .before .access-in .ensures)) (c .before .if2 .left),
     )
 

@@ -1,5 +1,5 @@
--- The loop's invariant, `Appending`: the positions there, and those still to be made, are those at entry and all that were to be made. The measure is
--- what is left of the way.
+-- The loop's invariant, `Appending`: the positions there, and those still to be made, are those at
+-- entry and all that were to be made. The measure is what is left of the way.
 use Prim.Native.Nat.{_-_}
 use denote.Ref.{now}
 use borrow.Author.Needs.{needs}

@@ -1,5 +1,5 @@
--- The loop's invariant, `Descending`: the positions passed, and the rest of the way entered among the others, are the whole way entered. The measure is
--- what is left of the positions.
+-- The loop's invariant, `Descending`: the positions passed, and the rest of the way entered among
+-- the others, are the whole way entered. The measure is what is left of the positions.
 use Prim.Native.Nat.{_-_, _<_}
 use mathlib.Core.Logic.{⊎-elim}
 use native.Mathlib.Omega.{arith}
@@ -33,8 +33,10 @@ loop-again c =
     let d = i .before .loop .inv in
     let k : i .before .loop .found < i .before .before .before .before .args .t3 .depth = omega (arith, d .within, left .if1 .left) in
     ⊎-elim
-    (λ w. rw (w .1, w .2) (descending-merged d (i .loop-test .taken) k (m .merge-at .result) _ (m .merge-at .ensures .0) (m .merge-at .ensures .1) (w .0 .taken)))
-    (λ w. rw (w .1, w .2) (descending-passed d (i .loop-test .taken) k (m .merge-at .result) _ (m .merge-at .ensures .0) (m .merge-at .ensures .1) (w .0 .left)))
+    (λ w. rw (w .1, w .2) (descending-merged d (i .loop-test .taken) k (m .merge-at .result) _ (m .merge-at .ensures .0) (m .merge-at .ensures .1)
+    (w .0 .taken)))
+    (λ w. rw (w .1, w .2) (descending-passed d (i .loop-test .taken) k (m .merge-at .result) _ (m .merge-at .ensures .0) (m .merge-at .ensures .1)
+    (w .0 .left)))
     (c .if2 .came)
 
 returns-2 : tie.Need-returns-2 Inv-loop μ-loop

@@ -1,4 +1,5 @@
--- The parent is compared, then the key; where both agree the word is packed again with the merged access.
+-- The parent is compared, then the key; where both agree the word is packed again with the merged
+-- access.
 use mathlib.Core.Path.{refl, sym, ap, _∙_}
 use mathlib.Core.Bool.{true, false}
 use denote.Ref.{now}
@@ -27,7 +28,13 @@ returns-2 c =
     let over = sym (parent .parent-in .ensures .0) ∙ key .before .if1 .left in (
       by-key (now (a .s)) w (a .parent) (positionOf (now (a .s)) (a .step)) true over (sym (test .if2 .taken) ∙ key .same-key .ensures),
       ap (set (now (a .tree)) (a .i))
-          (c .pack .ensures ∙ rw (merged .merge .ensures, merged .before .access-in2 .ensures, place .place-in .ensures .0, place .before .access-in .ensures, parent .parent-in .ensures .0)),
+          (c .pack .ensures ∙ rw (
+            merged .merge .ensures,
+            merged .before .access-in2 .ensures,
+            place .place-in .ensures .0,
+            place .before .access-in .ensures,
+            parent .parent-in .ensures .0,
+          )),
     )
 
 returns-3 : tie.Need-returns-3

@@ -1,4 +1,5 @@
--- The two marks of the access are the two bits; parent and place have 16 bits each, so that nothing is lost.
+-- The two marks of the access are the two bits; parent and place have 16 bits each, so that nothing
+-- is lost.
 use borrow.Author.Needs.{needs}
 use Rattle.model.specs.Answer.{flag}
 use Rattle.tree.specs.Words.{pack}

@@ -1,4 +1,5 @@
--- The parent says whether the position is a root, which is read as a head, or a child, which is read as an entry.
+-- The parent says whether the position is a root, which is read as a head, or a child, which is
+-- read as an entry.
 use mathlib.Core.Path.{sym, ap, _∙_}
 use denote.Ref.{now}
 use borrow.Author.Needs.{needs}

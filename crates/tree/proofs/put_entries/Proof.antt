@@ -1,5 +1,5 @@
--- The loop's invariant: the bytes of the entries still to come, written from here on, give what the bytes of all give from the start. The measure is what
--- is left of the way.
+-- The loop's invariant: the bytes of the entries still to come, written from here on, give what the
+-- bytes of all give from the start. The measure is what is left of the way.
 use Prim.Native.Nat.{_+_, _-_, _≤_}
 use denote.Ref.{now}
 use borrow.Author.Needs.{needs}
@@ -26,7 +26,8 @@ put-entry-requires c κs =
     let l = i .before .loop in
     let a = i .before .before .before .before .args in
     let next = entries-next (now (a .s)) (a .t4) (l .i) (i .loop-test .taken) (q .position-of .result) (q .position-of .ensures) in
-    entry-room (q .position-of .result .entry) (entriesBytes (now (a .s)) (a .t4) (l .i + 1)) (l .out) (l .at) (coming-room (coming-as next (l .inv .0)) (l .inv .1))
+    entry-room (q .position-of .result .entry) (entriesBytes (now (a .s)) (a .t4) (l .i + 1)) (l .out) (l .at)
+    (coming-room (coming-as next (l .inv .0)) (l .inv .1))
 
 loop-again : tie.Need-loop-again Inv-loop μ-loop
 loop-again c =

@@ -1,4 +1,5 @@
--- The record is written at the place reached, and counted; the count stays below the buffer's length.
+-- The record is written at the place reached, and counted; the count stays below the buffer's
+-- length.
 use native.Mathlib.Omega.{arith}
 use borrow.Author.Needs.{needs}
 use Rattle.tree.proofs.Deriving.{count-fits, put-one}

@@ -11,7 +11,8 @@ put-path-head-requires c κs =
     let r = l .before .before in
     let start = r .before .before .before .before in
     let a = start .args in
-    head-room (now (a .s)) (a .t4) (r .position-of .result) (l .position-of2 .result) (start .pre .0) (r .position-of .ensures) (l .position-of2 .ensures) (now (a .out)) (a .at) (start .pre .2)
+    head-room (now (a .s)) (a .t4) (r .position-of .result) (l .position-of2 .result) (start .pre .0) (r .position-of .ensures)
+    (l .position-of2 .ensures) (now (a .out)) (a .at) (start .pre .2)
 
 put-entries-requires : tie.Need-put-entries-requires
 put-entries-requires c κs =
@@ -20,7 +21,8 @@ put-entries-requires c κs =
     let r = l .before .before in
     let start = r .before .before .before .before in
     let a = start .args in
-    let room = entries-room (now (a .s)) (a .t4) (r .position-of .result) (l .position-of2 .result) (start .pre .0) (r .position-of .ensures) (l .position-of2 .ensures) (now (a .out)) (a .at) (start .pre .2) in
+    let room = entries-room (now (a .s)) (a .t4) (r .position-of .result) (l .position-of2 .result) (start .pre .0) (r .position-of .ensures)
+    (l .position-of2 .ensures) (now (a .out)) (a .at) (start .pre .2) in
     (start .pre .1, room _ _ (h .put-path-head .ensures))
 
 returns : tie.Need-returns
@@ -31,7 +33,8 @@ returns c =
     let r = l .before .before in
     let start = r .before .before .before .before in
     let a = start .args in
-    way-written (now (a .s)) (a .t4) (r .position-of .result) (l .position-of2 .result) (start .pre .0) (r .position-of .ensures) (l .position-of2 .ensures) (h .put-path-head .ensures) (e .put-entries .ensures)
+    way-written (now (a .s)) (a .t4) (r .position-of .result) (l .position-of2 .result) (start .pre .0) (r .position-of .ensures)
+    (l .position-of2 .ensures) (h .put-path-head .ensures) (e .put-entries .ensures)
 
 pub put-path-spec : {M : Type 1} → statement M
 put-path-spec =

@@ -1,4 +1,5 @@
--- The two parents say whether each is a root; two roots are compared by identifier, two children by property.
+-- The two parents say whether each is a root; two roots are compared by identifier, two children by
+-- property.
 use mathlib.Core.Path.{sym, ap, _∙_}
 use denote.Ref.{now}
 use borrow.Author.Needs.{needs}

@@ -1,4 +1,5 @@
--- The loop's invariant, `Walking`: the positions noted and the walk still to come are the whole walk. The measure is the number of entries left.
+-- The loop's invariant, `Walking`: the positions noted and the walk still to come are the whole
+-- walk. The measure is the number of entries left.
 use mathlib.Core.Path.{refl, sym, _∙_}
 use native.Mathlib.Omega.{arith}
 use denote.Ref.{now}
@@ -34,7 +35,8 @@ loop-again c =
     let entry = test .before .before in
     let i = entry .before in
     rw (to .step-to .ensures, c .step-access .ensures)
-    (walking-more (i .before .loop .inv) (i .loop-test .taken) (entry .entry-at .result) (entry .entry-at .ensures) (sym (test .before .goes-on .ensures) ∙ test .if1 .taken))
+    (walking-more (i .before .loop .inv) (i .loop-test .taken) (entry .entry-at .result) (entry .entry-at .ensures)
+    (sym (test .before .goes-on .ensures) ∙ test .if1 .taken))
 
 step-to-requires-2 : tie.Need-step-to-requires-2 Inv-loop μ-loop
 step-to-requires-2 c κs = let w = c .before .before .before .before .before .loop .inv in (omega (arith, w .few), w .near)
@@ -46,7 +48,8 @@ returns c =
     let entry = test .before .before in
     let i = entry .before in
     rw (c .step-to2 .ensures, m .merge .ensures)
-    (walking-cut (i .before .loop .inv) (i .loop-test .taken) (entry .entry-at .result) (entry .entry-at .ensures) (sym (test .before .goes-on .ensures) ∙ test .if1 .left))
+    (walking-cut (i .before .loop .inv) (i .loop-test .taken) (entry .entry-at .result) (entry .entry-at .ensures)
+    (sym (test .before .goes-on .ensures) ∙ test .if1 .left))
 
 step-to-requires-3 : tie.Need-step-to-requires-3 Inv-loop μ-loop
 step-to-requires-3 c κs = let w = c .before .before .loop .inv in (omega (arith, w .few), w .near)

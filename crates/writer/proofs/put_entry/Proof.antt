@@ -5,7 +5,8 @@ use Rattle.writer.proofs.put_entry.Statement.{statement}
 use Rattle.writer.proofs.put_entry.Tie as tie
 
 put-number-requires : tie.Need-put-number-requires
-put-number-requires c κs = let step = c .before .before .before in room-after 10 4 (step .put-step .ensures) (step-length (step .before .before .before .args .e)) (search needs)
+put-number-requires c κs =
+    let step = c .before .before .before in room-after 10 4 (step .put-step .ensures) (step-length (step .before .before .before .args .e)) (search needs)
 
 returns : tie.Need-returns
 returns c =

@@ -1,4 +1,5 @@
--- The loop's invariant: what is left of the number, stored from here on, gives what the whole gives from the start. The measure is what is left to the end.
+-- The loop's invariant: what is left of the number, stored from here on, gives what the whole gives
+-- from the start. The measure is what is left to the end.
 use Prim.Native.Nat.{_+_, _-_, _≤_}
 use native.Mathlib.Omega.{arith}
 use mathlib.Core.Path.{_≡_, refl, sym, ap, _∙_}

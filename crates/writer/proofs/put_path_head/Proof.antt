@@ -51,7 +51,8 @@ returns c =
     let w1 = w2 .before .before .before .before .before in
     writes-then
     (writes-then
-    (writes-then (writes-then (w1 .put-number .ensures) (w2 .put-number2 .ensures)) (writes-as (ap (numberBytes 1) (w3 .before .flag .ensures .0)) (w3 .put-number3 .ensures)))
+    (writes-then (writes-then (w1 .put-number .ensures) (w2 .put-number2 .ensures))
+    (writes-as (ap (numberBytes 1) (w3 .before .flag .ensures .0)) (w3 .put-number3 .ensures)))
     (w4 .put-number4 .ensures))
     (w5 .put-number5 .ensures)
 

@@ -16,7 +16,16 @@ use Rattle.entries.proofs.PropertyLiteral.is_number.Reads as is-number-reads
 use Rattle.entries.proofs.PropertyLiteral.value.Reads as value-reads
 
 abbrev claims : lts.Claims
-claims = (flag-reads.Asked, flag-reads.Learnt, put-number-reads.Asked, put-number-reads.Learnt, is-number-reads.Asked, is-number-reads.Learnt, value-reads.Asked, value-reads.Learnt)
+claims = (
+  flag-reads.Asked,
+  flag-reads.Learnt,
+  put-number-reads.Asked,
+  put-number-reads.Learnt,
+  is-number-reads.Asked,
+  is-number-reads.Learnt,
+  value-reads.Asked,
+  value-reads.Learnt,
+)
 
 -- the room behind each number
 
@@ -41,7 +50,8 @@ returns c =
     let one = kind .before .before .before .before .before in
     let optional = one .before in
     writes-as
-    (step-bytes (optional .before .before .before .args .e) _ _ _ (optional .flag .ensures .0) (kind .flag2 .ensures .0 ∙ ap flag (kind .before .is-number .ensures)) (value .value .ensures))
+    (step-bytes (optional .before .before .before .args .e) _ _ _ (optional .flag .ensures .0)
+    (kind .flag2 .ensures .0 ∙ ap flag (kind .before .is-number .ensures)) (value .value .ensures))
     (writes-then (writes-then (one .put-number .ensures) (two .put-number2 .ensures)) (three .put-number3 .ensures))
 
 pub put-step-spec : {M : Type 1} → statement M

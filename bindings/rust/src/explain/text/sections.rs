@@ -30,9 +30,8 @@ impl<'a> Sections<'a> {
             sections[section].push(place);
             section_of.push(section);
         }
-        for section in &mut sections {
-            section.sort_by_key(|&step| (steps[step].how.moment(), steps[step].block));
-        }
+        let in_order = |&step: &usize| (steps[step].how.moment(), steps[step].block);
+        sections.iter_mut().for_each(|section| section.sort_by_key(in_order));
         Self { steps, names: &explanation.names, sections, section_of }
     }
 

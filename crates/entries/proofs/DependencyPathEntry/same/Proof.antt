@@ -1,4 +1,5 @@
--- `&&` of the two tests: where the properties differ the answer is false, and else it is the test of the marks.
+-- `&&` of the two tests: where the properties differ the answer is false, and else it is the test
+-- of the marks.
 use mathlib.Core.Path.{_∙_, sym}
 use borrow.Author.Needs.{needs}
 use Rattle.entries.proofs.DependencyPathEntry.same.Statement.{statement}

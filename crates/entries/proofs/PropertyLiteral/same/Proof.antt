@@ -1,4 +1,5 @@
--- The four arms of the two matches are the four clauses of `sameProperty`: what each pattern bound says which clause.
+-- The four arms of the two matches are the four clauses of `sameProperty`: what each pattern bound
+-- says which clause.
 use borrow.Author.Needs.{needs}
 use Rattle.entries.proofs.PropertyLiteral.same.Statement.{statement}
 use Rattle.entries.proofs.PropertyLiteral.same.Tie as tie

@@ -1,4 +1,5 @@
--- Where the other list is longer, its bits above this one's weight are those of the levels after this one's.
+-- Where the other list is longer, its bits above this one's weight are those of the levels after
+-- this one's.
 use native.Mathlib.Omega.{arith}
 use native.Mathlib.Nat.{div-mul-le-self}
 use borrow.Author.Needs.{needs}

@@ -4,8 +4,8 @@ use borrow.Author.Needs.{needs}
 use Prim.Native.Nat.{_-_}
 use mathlib.Core.Path.{_≡_, refl, sym, _∙_}
 use lib.ListN.{length, drop}
-use Rattle.model.specs.Job.{containsId}
-use Rattle.job.specs.Ids.{blockId, blockIds}
+use Rattle.model.specs.Job.{containsId, blockId}
+use Rattle.job.specs.Ids.{blockIds}
 use Rattle.job.proofs.IdLists.{contains-none, contains-here, contains-next}
 use Rattle.job.proofs.ids.contains_from.Statement.{statement}
 use Rattle.job.proofs.ids.contains_from.Tie as tie

@@ -5,7 +5,7 @@ use Prim.Native.Nat.{_-_, _≤_}
 use native.Mathlib.Nat.{sub-zero}
 use mathlib.Core.Path.{_≡_, refl, sym, _∙_}
 use lib.Seq.{sets}
-use Rattle.model.specs.Read.{readMany, readNumber}
+use Rattle.model.specs.ReadingBytes.{readMany, readNumber}
 use Rattle.model.specs.Job.{readBlockId}
 use Rattle.fields.specs.Answer.{gotU32}
 use Rattle.fields.proofs.Reading.{seen}

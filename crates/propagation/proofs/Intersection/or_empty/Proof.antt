@@ -1,4 +1,5 @@
--- `Intersection::or_empty` meets its contract: nothing is to come, so it is the set that there is, or the empty one.
+-- `Intersection::or_empty` meets its contract: nothing is to come, so it is the set that there is,
+-- or the empty one.
 use mathlib.Core.Path.{sym, ap, _∙_}
 use mathlib.Core.Bool.{Bool}
 use mathlib.Core.List.{[]}
@@ -14,7 +15,8 @@ returns c = let m = c .before .before .args .self in ap (λ (t : Bool). intersec
 
 returns-2 : tie.Need-returns-2
 unfolding intersectionOf
-returns-2 c = let m = c .before .before .args .self in c .empty .ensures ∙ ap (λ (t : Bool). intersectionBy t (membersOf (m .set .words)) []) (sym (c .before .if1 .left))
+returns-2 c = let m = c .before .before .args .self in c .empty .ensures ∙ ap (λ (t : Bool). intersectionBy t (membersOf (m .set .words)) [])
+    (sym (c .before .if1 .left))
 
 pub or-empty-spec : {M : Type 1} → statement M
 or-empty-spec = tie.close (tie.spec (λ c κs. search needs) returns returns-2)

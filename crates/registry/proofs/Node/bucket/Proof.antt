@@ -1,4 +1,5 @@
--- The two arms are the clauses of `bucketOf`. The factors are small enough that no product of 64 bits wraps.
+-- The two arms are the clauses of `bucketOf`. The factors are small enough that no product of 64
+-- bits wraps.
 use Prim.Native.Nat.{_/_, _<_}
 use borrow.Author.Needs.{needs}
 use Rattle.registry.proofs.Node.bucket.Statement.{statement}

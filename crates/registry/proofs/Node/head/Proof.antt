@@ -43,7 +43,8 @@ bit-requires-3 : tie.Need-bit-requires-3
 bit-requires-3 c κs = search needs
 
 mul-result-4 : tie.Need-mul-result-4
-mul-result-4 c = let small = packs-child (c .before .before .before .before .before .before .pre) (c .before .before .before .before .self2 .given .1) in search needs
+mul-result-4 c =
+    let small = packs-child (c .before .before .before .before .before .before .pre) (c .before .before .before .before .self2 .given .1) in search needs
 
 mul-result-5 : tie.Need-mul-result-5
 mul-result-5 c = search needs
@@ -55,11 +56,13 @@ mul-result-6 : tie.Need-mul-result-6
 mul-result-6 c = search needs
 
 add-result-4 : tie.Need-add-result-4
-add-result-4 c = let small = packs-child (c .before .before .before .before .before .before .pre) (c .before .before .before .before .self2 .given .1) in search needs
+add-result-4 c =
+    let small = packs-child (c .before .before .before .before .before .before .pre) (c .before .before .before .before .self2 .given .1) in search needs
 
 returns : tie.Need-returns
 returns c = (
-  rw (c .before .before .before .self .given .1) (packed-root _ _ _ (c .before .bit .result) (search needs) (c .before .bit .ensures .0) (c .before .bit .ensures .1)),
+  rw (c .before .before .before .self .given .1) (packed-root _ _ _ (c .before .bit .result) (search needs) (c .before .bit .ensures .0)
+      (c .before .bit .ensures .1)),
   search needs,
 )
 

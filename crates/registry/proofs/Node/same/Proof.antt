@@ -1,4 +1,5 @@
--- The arms of the two matches are the clauses of `sameKey`; of two children the parents are compared before the entries.
+-- The arms of the two matches are the clauses of `sameKey`; of two children the parents are
+-- compared before the entries.
 use Rattle.model.specs.Tests.{eqb-equal, eqb-apart}
 use borrow.Author.Needs.{needs}
 use Rattle.registry.proofs.Node.same.Statement.{statement}
@@ -35,10 +36,20 @@ returns-3 : tie.Need-returns-3
 returns-3 c = search needs
 
 returns-4 : tie.Need-returns-4
-returns-4 c = rw (c .before .before .before .before .before .before .before .before .self2 .given .1, c .before .before .before .before .before .other2 .given .1, eqb-equal _ _ (c .before .if1 .taken)) (c .same .ensures)
+returns-4 c =
+    rw (
+      c .before .before .before .before .before .before .before .before .self2 .given .1,
+      c .before .before .before .before .before .other2 .given .1,
+      eqb-equal _ _ (c .before .if1 .taken),
+    ) (c .same .ensures)
 
 returns-5 : tie.Need-returns-5
-returns-5 c = rw (c .before .before .before .before .before .before .before .self2 .given .1, c .before .before .before .before .other2 .given .1, eqb-apart _ _ (c .if1 .left))
+returns-5 c =
+    rw (
+      c .before .before .before .before .before .before .before .self2 .given .1,
+      c .before .before .before .before .other2 .given .1,
+      eqb-apart _ _ (c .if1 .left),
+    )
 
 pub same-spec : {M : Type 1} → statement M
 same-spec =

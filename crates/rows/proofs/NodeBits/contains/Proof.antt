@@ -1,4 +1,5 @@
--- `NodeBits::contains` meets its contract: the bit that it reads is the test by which the members are chosen.
+-- `NodeBits::contains` meets its contract: the bit that it reads is the test by which the members
+-- are chosen.
 use mathlib.Core.Path.{sym}
 use Rattle.rows.specs.Members.{hasBit}
 use Rattle.rows.proofs.Members.{contains-members}

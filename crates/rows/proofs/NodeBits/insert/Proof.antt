@@ -1,4 +1,5 @@
--- `NodeBits::insert` meets its contract: the bit of k is set in its word, so the test of k passes and each other answers as before.
+-- `NodeBits::insert` meets its contract: the bit of k is set in its word, so the test of k passes
+-- and each other answers as before.
 use Rattle.rows.proofs.Members.{inserted}
 use borrow.Author.Needs.{needs}
 use Rattle.rows.proofs.NodeBits.insert.Statement.{statement}

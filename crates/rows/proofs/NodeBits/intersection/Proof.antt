@@ -1,4 +1,5 @@
--- `NodeBits::intersection` meets its contract: each word is met by `&`, so each test passes where both pass.
+-- `NodeBits::intersection` meets its contract: each word is met by `&`, so each test passes where
+-- both pass.
 use Rattle.rows.proofs.Members.{intersected}
 use borrow.Author.Needs.{needs}
 use Rattle.rows.proofs.NodeBits.intersection.Statement.{statement}

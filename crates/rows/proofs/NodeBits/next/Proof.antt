@@ -1,6 +1,7 @@
--- `NodeBits::next` meets its contract. The loop's invariant: what is sought from `k` on is what is sought from `from` on. The word of `k`, moved
--- down to it, holds the tests from `k` to the word's end: where it is 0 none of them passes and the next word is as good a place to start, and
--- else its lowest set bit is the first member. The measure is what is left of 512.
+-- `NodeBits::next` meets its contract. The loop's invariant: what is sought from `k` on is what is
+-- sought from `from` on. The word of `k`, moved down to it, holds the tests from `k` to the word's
+-- end: where it is 0 none of them passes and the next word is as good a place to start, and else
+-- its lowest set bit is the first member. The measure is what is left of 512.
 use mir.Syntax.{w64}
 use mir.Val.{Fits}
 use Prim.Native.Nat.{_-_, _/_, _≤_}

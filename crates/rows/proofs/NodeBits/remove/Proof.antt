@@ -1,4 +1,5 @@
--- `NodeBits::remove` meets its contract: the bit of k is set and then turned over, so the test of k fails and each other answers as before.
+-- `NodeBits::remove` meets its contract: the bit of k is set and then turned over, so the test of k
+-- fails and each other answers as before.
 use Rattle.rows.proofs.Members.{removed}
 use borrow.Author.Needs.{needs}
 use Rattle.rows.proofs.NodeBits.remove.Statement.{statement}

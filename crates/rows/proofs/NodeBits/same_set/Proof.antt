@@ -1,5 +1,6 @@
--- `NodeBits::same_set` meets its contract. Words that differ differ in a bit, so in the test of a node, and the sets are not the same; where
--- all eight are equal, every test answers the same. The loop's invariant: the words passed are equal.
+-- `NodeBits::same_set` meets its contract. Words that differ differ in a bit, so in the test of a
+-- node, and the sets are not the same; where all eight are equal, every test answers the same. The
+-- loop's invariant: the words passed are equal.
 use mir.Syntax.{w64}
 use mir.Val.{Fits}
 use Prim.Native.Nat.{ℕ, _≤_, _<_, _-_}

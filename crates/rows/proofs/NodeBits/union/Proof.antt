@@ -1,4 +1,5 @@
--- `NodeBits::union` meets its contract: each word is joined by `|`, so each test passes where one of the two passes.
+-- `NodeBits::union` meets its contract: each word is joined by `|`, so each test passes where one
+-- of the two passes.
 use Rattle.rows.proofs.Members.{united}
 use borrow.Author.Needs.{needs}
 use Rattle.rows.proofs.NodeBits.union.Statement.{statement}
