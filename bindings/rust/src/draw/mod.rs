@@ -57,6 +57,10 @@ const TITLE: f64 = 46.0;
 const ABOVE_LEGEND: f64 = 40.0;
 
 /// One self-contained SVG file.
+///
+/// # Errors
+///
+/// Where nothing is explained: the job does not belong together with this sheet and this answer.
 pub fn draw(job: &Job, sheet: &Sheet, answer: &Answer) -> Result<String, Mismatch> {
     let explanation = explain(job, sheet, answer)?;
     Ok(Picture { job, sheet, view: View::whole(job) }.drawn(&explanation))
@@ -64,6 +68,10 @@ pub fn draw(job: &Job, sheet: &Sheet, answer: &Answer) -> Result<String, Mismatc
 
 /// The same with only the blocks that matter to the candidates: those that bring a known path to
 /// the scope block, or stop one. Where others are left out, it says how many.
+///
+/// # Errors
+///
+/// As for [`draw`].
 pub fn draw_focused(job: &Job, sheet: &Sheet, answer: &Answer) -> Result<String, Mismatch> {
     let explanation = explain(job, sheet, answer)?;
     let view = View::only(job, &focus::blocks_in_focus(&explanation));

@@ -105,7 +105,6 @@ impl Replay {
     }
 
     /// The nodes that a block holds in the end, ascending.
-    #[must_use]
     pub fn held(&self, block: usize) -> impl Iterator<Item = NodeId> + '_ {
         self.sets[block].iter()
     }

@@ -111,6 +111,12 @@ fn names_of_a_file_are_used_for_bytes() {
     }
     let sheet = text(&["sheet", &format!("--names={names}")], hex(BYTES));
     assert_eq!(sheet, "rounds 1, settled\nnode 0 reactive athlete\nblock 7 holds athlete\n");
+    for command in ["explain", "draw"] {
+        let shown = text(&[command, "--names", names], hex(BYTES));
+        assert_eq!(shown, text(&[command], named), "{command}");
+        assert!(shown.contains("athlete") && shown.contains(".lastSession"), "{command}: {shown}");
+        assert!(!shown.contains("1.10"), "{command}: {shown}");
+    }
     let short = "scope 7 block 7 candidate athlete.lastSession";
     assert_eq!(
         written(&["encode", "--names", names], short),
