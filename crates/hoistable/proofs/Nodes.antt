@@ -20,7 +20,7 @@ use Rattle.registry.proofs.Stored.{nodesOf-length, nodesOf-at}
 use Rattle.registry.proofs.View.{registry-length, origin-at}
 
 node-over : (before : PropertyPathRegistry) (ns : List Node) (k : ℕ) (d : Node) {i : IdentifierId} {r : Bool} {s : ℕ} → k < length ns → getD ns k d ≡ Root i r s
-    → Placed.storedNode (nodesOver before ns) k ≡ rootNode i r s
+    → Placed.nodeAt (nodesOver before ns) k ≡ rootNode i r s
 node-over before [] k d l e = absurd (not-suc-le-zero l)
 node-over before (n ∷ ns) zero d l e = ap (nodeOver before) e
 node-over before (n ∷ ns) (suc k) d l e = node-over (before ++ (nodeOver before n ∷ [])) ns k d (omega arith) e

@@ -181,9 +181,9 @@ module _ (mark : NodeId → DependencyPathEntry → Bool) {ws : List ℕ} {k : N
         go (inl f) =
             let same : again p .registry ≡ reg = sym (f .same) ∙ ap (λ (y : Reached). y .registry) to in
             let number : find wanted (again p .registry) ≡ k .0 = ap (λ (y : Reached). y .node .0) to in
-            let passes : wanted (Placed.storedNode reg (k .0)) ≡ true =
-            ap (λ (r : PropertyPathRegistry). wanted (Placed.storedNode r (k .0))) (sym same) ∙ ap
-            (λ (i : ℕ). wanted (Placed.storedNode (again p .registry) i)) (sym number) ∙ f .passes in
+            let passes : wanted (Placed.nodeAt reg (k .0)) ≡ true =
+            ap (λ (r : PropertyPathRegistry). wanted (Placed.nodeAt r (k .0))) (sym same) ∙ ap
+            (λ (i : ℕ). wanted (Placed.nodeAt (again p .registry) i)) (sym number) ∙ f .passes in
             let child-test : isChild reached marked (childOf p e) ≡ true = subst (λ (y : Origin). isChild reached marked y ≡ true)
             (hangs (Child p e) child) passes in
             let parent : p .0 ≡ reached .0 = eqb-true (p .0) (reached .0) (and-first (eqb (p .0) (reached .0)) _ child-test) in

@@ -62,7 +62,7 @@ registry-snoc ws vs n e = ap (nodesOver []) e ∙ over-snoc [] (nodesOf ws) n
 -- A node of the model's registry hangs where the node in the words does.
 
 origin-over : (before : PropertyPathRegistry) (ns : List Node) (k : ℕ) (d : Node) → k < length ns
-    → Placed.storedNode (nodesOver before ns) k .origin ≡ originOf (getD ns k d)
+    → Placed.nodeAt (nodesOver before ns) k .origin ≡ originOf (getD ns k d)
 origin-over before [] k d l = absurd (not-suc-le-zero l)
 origin-over before (n ∷ ns) zero d l = go n
   where
@@ -71,7 +71,7 @@ origin-over before (n ∷ ns) zero d l = go n
     go (Child p e) = refl
 origin-over before (n ∷ ns) (suc k) d l = origin-over (before ++ (nodeOver before n ∷ [])) ns k d (omega arith)
 
-pub origin-at : (ws : List ℕ) (k : ℕ) → k < countIn ws → Placed.storedNode (registryOf ws) k .origin ≡ originOf (storedNode ws k)
+pub origin-at : (ws : List ℕ) (k : ℕ) → k < countIn ws → Placed.nodeAt (registryOf ws) k .origin ≡ originOf (storedNode ws k)
 unfolding registryOf registryFrom
 origin-at ws k l = let size = nodesOf-length ws in origin-over [] (nodesOf ws) k (storedNode ws k) (omega arith) ∙ ap originOf (nodesOf-at ws k l)
 
@@ -82,12 +82,12 @@ find-same t u [] h = refl
 find-same t u (n ∷ ns) h = rw (h n, find-same t u ns h)
 
 test-over : (before : PropertyPathRegistry) (ns : List Node) (k : ℕ) (d n : Node) → k < length ns
-    → testFor n (Placed.storedNode (nodesOver before ns) k) ≡ sameKey (getD ns k d) n
+    → testFor n (Placed.nodeAt (nodesOver before ns) k) ≡ sameKey (getD ns k d) n
 test-over before [] k d n l = absurd (not-suc-le-zero l)
 test-over before (m ∷ ms) zero d n l = test-key before m n
 test-over before (m ∷ ms) (suc k) d n l = test-over (before ++ (nodeOver before m ∷ [])) ms k d n (omega arith)
 
-test-at : (ws : List ℕ) (k : ℕ) (n : Node) → k < countIn ws → testFor n (Placed.storedNode (registryOf ws) k) ≡ sameKey (storedNode ws k) n
+test-at : (ws : List ℕ) (k : ℕ) (n : Node) → k < countIn ws → testFor n (Placed.nodeAt (registryOf ws) k) ≡ sameKey (storedNode ws k) n
 unfolding registryOf registryFrom
 test-at ws k n l = let size = nodesOf-length ws in test-over [] (nodesOf ws) k (storedNode ws k) n (omega arith) ∙ ap (λ m. sameKey m n) (nodesOf-at ws k l)
 
@@ -113,7 +113,7 @@ sound-only reg k (Child p e) (childOf q f) d st t = find-same (isChildBy p e) (i
 pub found-at : (ws : List ℕ) (k : ℕ) (n : Node) → Sound (registryOf ws) → k < countIn ws → sameKey (storedNode ws k) n ≡ true → findNode (nodesOf ws) n ≡ k
 found-at ws k n h l t =
     let size = registry-length ws in
-    let m = Placed.storedNode (registryOf ws) k in
+    let m = Placed.nodeAt (registryOf ws) k in
     sym (find-view ws n) ∙ sound-only (registryOf ws) k n (m .origin) (m .fullPath) (h k (omega arith)) (test-at ws k n l ∙ t)
 
 -- What the model finds or makes.

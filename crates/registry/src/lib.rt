@@ -30,6 +30,7 @@ use entries::IdentifierId;
 use entries::NodeId;
 use entries::PropertyLiteral;
 use rows::NodeBits;
+use writer::flag;
 
 // A node: a root with its identifier, reactive mark and span, or the child of a node by an entry.
 pub enum Node {
@@ -89,12 +90,6 @@ impl Node {
     }
 }
 
-fn bit(b: bool) -> u64
-    ensures { λ r. ⌜ (r ≡ flag b) × (r < 2) ⌝ }
-{
-    if b { 1 } else { 0 }
-}
-
 // A node as three words, and back. The first word has the identifier (of a root) below the parent,
 // and three marks above it, of which the second is worth two of the first and the third four. Above
 // them stands the link to the node before it in its bucket.
@@ -115,13 +110,13 @@ impl Node {
     {
         match self {
             Node::Root(identifier, reactive, _) => {
-                let mark = bit(reactive);
+                let mark = flag(reactive);
                 identifier.0 as u64 + Node::ROOT * PARENT + mark * 4 * OPTIONAL
             }
             Node::Child(parent, entry) => {
                 let property = entry.property;
-                let number = bit(property.is_number());
-                let optional = bit(entry.optional);
+                let number = flag(property.is_number());
+                let optional = flag(entry.optional);
                 parent.0 as u64 * PARENT + (optional + number * 2) * OPTIONAL
             }
         }

@@ -28,7 +28,7 @@ use Rattle.sheet_bytes.specs.Sheet.{rootOf}
 -- Node k of the registry is node k of the words over the nodes before it.
 
 over-at : (before : PropertyPathRegistry) (ns : List Node) (k : ℕ) (d : Node) → k < length ns
-    → Placed.storedNode (nodesOver before ns) k ≡ nodeOver (before ++ take k (nodesOver before ns)) (getD ns k d)
+    → Placed.nodeAt (nodesOver before ns) k ≡ nodeOver (before ++ take k (nodesOver before ns)) (getD ns k d)
 over-at before [] k d l = absurd (not-suc-le-zero l)
 over-at before (n ∷ ns) zero d l = ap (λ (b : PropertyPathRegistry). nodeOver b n) (sym (append-nil before))
 over-at before (n ∷ ns) (suc k) d l =
@@ -36,7 +36,7 @@ over-at before (n ∷ ns) (suc k) d l =
     over-at (before ++ (here ∷ [])) ns k d (omega arith)
     ∙ ap (λ (b : PropertyPathRegistry). nodeOver b (getD ns k d)) (append-assoc before (here ∷ []) (take k (nodesOver (before ++ (here ∷ [])) ns)))
 
-node-at : (ws : List ℕ) (k : ℕ) → k < countIn ws → Placed.storedNode (registryOf ws) k ≡ nodeOver (take k (registryOf ws)) (storedNode ws k)
+node-at : (ws : List ℕ) (k : ℕ) → k < countIn ws → Placed.nodeAt (registryOf ws) k ≡ nodeOver (take k (registryOf ws)) (storedNode ws k)
 unfolding registryOf registryFrom
 node-at ws k l =
     let size = nodesOf-length ws in
@@ -46,27 +46,27 @@ span-over : (before : PropertyPathRegistry) (n : Node) → nodeOver before n .fu
 span-over before (Root i r s) = refl
 span-over before (Child p e) = refl
 
-span-at : (ws : List ℕ) (k : ℕ) → k < countIn ws → Placed.storedNode (registryOf ws) k .fullPath .span ≡ spanIn (storedNode ws k)
+span-at : (ws : List ℕ) (k : ℕ) → k < countIn ws → Placed.nodeAt (registryOf ws) k .fullPath .span ≡ spanIn (storedNode ws k)
 span-at ws k l = ap (λ (n : PropertyPathNode). n .fullPath .span) (node-at ws k l) ∙ span-over (take k (registryOf ws)) (storedNode ws k)
 
 -- A root has its own identifier and reactive mark, and a child those of its parent, which stands
 -- before it.
 
 pub root-here : (ws : List ℕ) (k : ℕ) → k < countIn ws → {i : IdentifierId} {r : Bool} {s : ℕ} → storedNode ws k ≡ Root i r s
-    → record { identifier = i; reactive = r } ≡ rootOf (Placed.storedNode (registryOf ws) k .fullPath)
+    → record { identifier = i; reactive = r } ≡ rootOf (Placed.nodeAt (registryOf ws) k .fullPath)
 root-here ws k l e = sym (ap (λ (n : PropertyPathNode). rootOf (n .fullPath)) (node-at ws k l ∙ ap (nodeOver (take k (registryOf ws))) e))
 
 module _ {ws : List ℕ} (h : HoldsRegistry ws) (k : ℕ) (l : k < countIn ws) {p : NodeId} {e : DependencyPathEntry} (is : storedNode ws k ≡ Child p e) where
-  stands : StandsAt (registryOf ws) k (childOf p e) (Placed.storedNode (registryOf ws) k .fullPath)
+  stands : StandsAt (registryOf ws) k (childOf p e) (Placed.nodeAt (registryOf ws) k .fullPath)
   stands =
       let size = registry-length ws in
-      subst (λ (o : Origin). StandsAt (registryOf ws) k o (Placed.storedNode (registryOf ws) k .fullPath)) (origin-at ws k l ∙ ap originOf is)
+      subst (λ (o : Origin). StandsAt (registryOf ws) k o (Placed.nodeAt (registryOf ws) k .fullPath)) (origin-at ws k l ∙ ap originOf is)
       (h .sound k (omega arith))
 
   pub parent-before : p .0 < k
   parent-before = stands .after
 
-  pub parent-root : rootOf (fullPathOf (registryOf ws) p) ≡ rootOf (Placed.storedNode (registryOf ws) k .fullPath)
+  pub parent-root : rootOf (fullPathOf (registryOf ws) p) ≡ rootOf (Placed.nodeAt (registryOf ws) k .fullPath)
   parent-root = let c = stands .child in λ i. record { identifier = sym (c .identifier) i; reactive = sym (c .reactive) i }
 
 -- The bytes of a node, from what the code has of it.
@@ -87,21 +87,21 @@ unfolding nodeBytes
 node-bytes n o r p s f eo er ep es ef = rw (ef, er, ep, ← eo, ← es)
 
 pub node-written : (ws : List ℕ) (k : ℕ) → k < countIn ws → (n : Node) (r : PathRoot) (p s f : ℕ) → n ≡ storedNode ws k → r ≡ rootOf
-    (Placed.storedNode (registryOf ws) k .fullPath)
+    (Placed.nodeAt (registryOf ws) k .fullPath)
     → p ≡ parentNumber (originOf n) → s ≡ spanIn n → f ≡ flag (r .reactive)
     → numberBytes 2 NO ++ numberBytes 2 p ++ numberBytes 4 (r .identifier .0) ++ originBytes
-    (originOf n) ++ numberBytes 4 s ++ numberBytes 1 f ≡ nodeBytes 4 (Placed.storedNode (registryOf ws) k)
+    (originOf n) ++ numberBytes 4 s ++ numberBytes 1 f ≡ nodeBytes 4 (Placed.nodeAt (registryOf ws) k)
 node-written ws k l n r p s f loaded er ep es ef =
-    node-bytes (Placed.storedNode (registryOf ws) k) (originOf n) r p s f (origin-at ws k l ∙ ap originOf (sym loaded)) er ep
+    node-bytes (Placed.nodeAt (registryOf ws) k) (originOf n) r p s f (origin-at ws k l ∙ ap originOf (sym loaded)) er ep
     (span-at ws k l ∙ ap spanIn (sym loaded) ∙ sym es) ef
 
 -- What is to come from node i on: its bytes, and those from the next on.
 
 pub nodes-more : (reg : PropertyPathRegistry) (i : ℕ) → i < length reg → concatMap (nodeBytes 4) (drop i reg) ≡ nodeBytes 4
-    (Placed.storedNode reg i) ++ concatMap (nodeBytes 4) (drop (i + 1) reg)
+    (Placed.nodeAt reg i) ++ concatMap (nodeBytes 4) (drop (i + 1) reg)
 nodes-more reg i l =
     let e : suc i ≡ i + 1 = omega arith in
-    ap (concatMap (nodeBytes 4)) (drop-cons reg i _ l) ∙ ap (λ (k : ℕ). nodeBytes 4 (Placed.storedNode reg i) ++ concatMap (nodeBytes 4) (drop k reg)) e
+    ap (concatMap (nodeBytes 4)) (drop-cons reg i _ l) ∙ ap (λ (k : ℕ). nodeBytes 4 (Placed.nodeAt reg i) ++ concatMap (nodeBytes 4) (drop k reg)) e
 
 pub nodes-over : (reg : PropertyPathRegistry) (i : ℕ) → length reg ≤ i → concatMap (nodeBytes 4) (drop i reg) ≡ []
 nodes-over reg i l = ap (concatMap (nodeBytes 4)) (drop-of-length-le reg l)

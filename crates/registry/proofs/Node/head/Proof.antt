@@ -9,8 +9,8 @@ use Rattle.registry.proofs.Node.head.Tie as tie
 enum-known-self : tie.Need-enum-known-self
 enum-known-self c = search needs
 
-bit-requires : tie.Need-bit-requires
-bit-requires c κs = search needs
+flag-requires : tie.Need-flag-requires
+flag-requires c κs = search needs
 
 cast-result : tie.Need-cast-result
 cast-result c = search needs
@@ -36,11 +36,11 @@ enum-known-self-2 c = search needs
 is-number-requires : tie.Need-is-number-requires
 is-number-requires c κs = search needs
 
-bit-requires-2 : tie.Need-bit-requires-2
-bit-requires-2 c κs = search needs
+flag-requires-2 : tie.Need-flag-requires-2
+flag-requires-2 c κs = search needs
 
-bit-requires-3 : tie.Need-bit-requires-3
-bit-requires-3 c κs = search needs
+flag-requires-3 : tie.Need-flag-requires-3
+flag-requires-3 c κs = search needs
 
 mul-result-4 : tie.Need-mul-result-4
 mul-result-4 c =
@@ -61,8 +61,8 @@ add-result-4 c =
 
 returns : tie.Need-returns
 returns c = (
-  rw (c .before .before .before .self .given .1) (packed-root _ _ _ (c .before .bit .result) (search needs) (c .before .bit .ensures .0)
-      (c .before .bit .ensures .1)),
+  rw (c .before .before .before .self .given .1) (packed-root _ _ _ (c .before .flag .result) (search needs) (c .before .flag .ensures .0)
+      (c .before .flag .ensures .1)),
   search needs,
 )
 
@@ -70,8 +70,8 @@ returns-2 : tie.Need-returns-2
 returns-2 c =
     let small = packs-child (c .before .before .before .before .before .before .pre) (c .before .before .before .before .self2 .given .1) in (
       rw (c .before .before .before .before .self2 .given .1)
-          (packed-child _ _ (c .bit3 .result) (c .before .bit2 .result) small (c .bit3 .ensures .0) (c .bit3 .ensures .1)
-          (c .before .bit2 .ensures .0 ∙ ap flag (c .before .before .is-number .ensures)) (c .before .bit2 .ensures .1)),
+          (packed-child _ _ (c .flag3 .result) (c .before .flag2 .result) small (c .flag3 .ensures .0) (c .flag3 .ensures .1)
+          (c .before .flag2 .ensures .0 ∙ ap flag (c .before .before .is-number .ensures)) (c .before .flag2 .ensures .1)),
       search needs,
     )
 
@@ -80,7 +80,7 @@ head-spec =
     tie.close
     (tie.spec
     enum-known-self
-    bit-requires
+    flag-requires
     cast-result
     mul-result
     add-result
@@ -89,8 +89,8 @@ head-spec =
     add-result-2
     enum-known-self-2
     is-number-requires
-    bit-requires-2
-    bit-requires-3
+    flag-requires-2
+    flag-requires-3
     mul-result-4
     mul-result-5
     add-result-3
