@@ -89,7 +89,8 @@ SE = markOf 0x53 0x45
 abbrev pub stepBytes : DependencyPathEntry → List ℕ
 stepBytes e = u8 (flag (e .optional)) ++ u8 (flag (isNumber (e .property))) ++ u64 (valueOf (e .property))
 
--- "Entries of 14 bytes: optional u8, kind u8, value u64, span u32", the span in so many bytes.
+-- "Entries of 14 bytes: optional u8 .., kind u8 .., value u64, span u32", the span in so many
+-- bytes.
 abbrev pub entryBytes : ℕ → DependencyPathEntry → List ℕ
 entryBytes spanBytes e = stepBytes e ++ numberBytes spanBytes (e .span)
 
@@ -110,8 +111,8 @@ answerBytes spanBytes job p =
 
 -- The same read back: what an answer holds.
 
--- What stands in an answer: "count, rounds, settled, .. returned path", the count being that of the
--- list.
+-- What stands in an answer: "count .., rounds .., settled .. returned path", the count being that
+-- of the list.
 pub record Answered : Type 0 where
   pub paths : List ReactiveScopeDependency
   pub rounds : ℕ
@@ -137,8 +138,8 @@ abbrev pub originBytes : Origin → List ℕ
 originBytes root = u8 0 ++ u8 0 ++ u64 0
 originBytes (childOf p e) = stepBytes e
 
--- "Per node NO, parent u16, identifier u32, optional u8, kind u8, value u64, span u32, the root's
--- reactive u8."
+-- "Per node NO, parent u16 .., identifier u32, optional u8, kind u8, value u64 .., span u32, the
+-- root's reactive u8."
 unfoldable pub nodeBytes : ℕ → PropertyPathNode → List ℕ
 unfolding numberBytes
 nodeBytes spanBytes n =
@@ -164,7 +165,7 @@ setBytes [] sets = []
 setBytes (b ∷ bs) [] = []
 setBytes (b ∷ bs) (s ∷ sets) = u16 SE ++ u32 (b .id .0) ++ rowBytes s 0 64 ++ setBytes bs sets
 
--- "The sheet is SH, nodes u16, blocks u16, rounds u8, settled u8; per node .., per block .."
+-- "The sheet is SH, nodes u16, blocks u16, rounds u8, settled u8; per node ..; per block .."
 unfoldable pub sheetBytes : ℕ → Job → Rounds Work → List ℕ
 unfolding numberBytes nodeBytes setBytes
 sheetBytes spanBytes job p =

@@ -90,7 +90,7 @@ unfoldable pub propagateWith : Reducer → JoiningRule → Graph → PropertyPat
 unfolding roundsFrom round
 propagateWith reduce rule g reg sets = roundsFrom hasChanged (round reduce rule g) 100 zero (roundStart reg sets)
 
--- "Module 4": with the reduction of module 3.
+-- Module 4, with the reduction of module 3.
 unfoldable pub propagateNonNull : JoiningRule → Graph → PropertyPathRegistry → List NodeSet → Rounds Work
 unfolding propagateWith reduceMaybeOptionalChains
 propagateNonNull rule g reg sets = propagateWith reduceMaybeOptionalChains rule g reg sets

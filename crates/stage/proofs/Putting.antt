@@ -53,7 +53,7 @@ not-false : (b : Bool) → not b ≡ false → b ≡ true
 not-false true e = refl
 not-false false e = never refl e
 
--- "The scope block is a block of the job": 8 did not turn it back.
+-- The scope block is a block of the job, since 8 did not turn it back.
 scope-known : (j : Job) → hasUnknown j ≡ false → Member (j .scope) (idsOf (j .blocks))
 unfolding hasUnknown
 scope-known j u =
