@@ -13,7 +13,8 @@ use Rattle.model.specs.Job.{readBlockId}
 use Rattle.job.specs.Head.{readBlockHead}
 use Rattle.job.specs.Passing.{orNone}
 use Rattle.job.specs.declared.BlockHead.{BlockHead}
-use Rattle.job.proofs.Bounds.{Holds, predecessors-most}
+use Rattle.laws.specs.Fits.{HoldsIfRead}
+use Rattle.job.proofs.Bounds.{predecessors-most}
 use Rattle.job.proofs.Noting.{notes-few}
 use Rattle.graph.specs.Bytes.{degreeIn, predecessorIn}
 use Rattle.edges.specs.Rows.{idsNoted, placeAmong, placesNoted, rowAt, withRow, RowsFilled}
@@ -37,7 +38,7 @@ sets-inside (v ∷ vs) l i (suc k) room h =
 
 -- A row has at most 64 predecessors.
 
-few-of : (most : ℕ) (x : Read BlockHead) (list : BlockHead → ℕ → List ℕ) → Holds (λ (h : BlockHead). h .predecessors ≤ most) x
+few-of : (most : ℕ) (x : Read BlockHead) (list : BlockHead → ℕ → List ℕ) → HoldsIfRead (λ (h : BlockHead). h .predecessors ≤ most) x
     → ((a : BlockHead) (n : ℕ) → length (list a n) ≤ a .predecessors) → length (orNone x list) ≤ most
 few-of most (got a n) list h f = let l = f a n in omega arith
 few-of most (refused r) list h f = omega arith

@@ -10,23 +10,15 @@ use Rattle.entries.specs.declared.Refusal.the-variants.{OutOfRange}
 use Rattle.model.specs.ReadingBytes.{Read, got, refused, ByteReader, andThen, readNumber, readMark, readWithin, readFlag}
 use Rattle.model.specs.Job.{BL, Header, readBlockId, readHeader}
 use Rattle.model.specs.Tests.{and-second}
+use Rattle.laws.specs.Fits.{HoldsIfRead, holds-then}
 use Rattle.fields.proofs.Within.{within-fields}
 use Rattle.job.specs.Head.{readPathHead, readBlockHead}
 use Rattle.job.specs.declared.PathHead.{PathHead}
 use Rattle.job.specs.declared.BlockHead.{BlockHead}
 use Rattle.job.proofs.Fields.{header-fields}
 
-abbrev pub HoldsIfRead : {A : Type 0} → (A → Type 0) → Read A → Type 0
-HoldsIfRead P (got a next) = P a
-HoldsIfRead P (refused r) = Unit
-
 pub held : {A : Type 0} (P : A → Type 0) {x : Read A} {a : A} {n : ℕ} → x ≡ got a n → HoldsIfRead P x → P a
 held P e h = rw e at h
-
-pub holds-then : {A B : Type 0} (P : A → Type 0) (Q : B → Type 0) (x : Read A) (rest : A → ℕ → Read B)
-    → HoldsIfRead P x → ((a : A) (n : ℕ) → P a → HoldsIfRead Q (rest a n)) → HoldsIfRead Q (andThen x rest)
-holds-then P Q (got a n) rest h f = f a n h
-holds-then P Q (refused r) rest h f = tt
 
 -- where nothing of the first part matters
 pub holds-after : {A B : Type 0} (Q : B → Type 0) (x : Read A) (rest : A → ℕ → Read B)

@@ -7,7 +7,8 @@ use native.Mathlib.Omega.{arith}
 use lib.ListN.{length, getD, drop}
 use Rattle.model.specs.ReadingBytes.{Read, got, refused, ByteReader, mapped, both, readMany}
 use Rattle.job.specs.Passing.{notes}
-use Rattle.job.proofs.Bounds.{HoldsIfRead, held}
+use Rattle.laws.specs.Fits.{HoldsIfRead}
+use Rattle.job.proofs.Bounds.{held}
 use Rattle.job.proofs.Passing.{both-got}
 
 pub holds-mapped : {A B : Type 0} (P : A → Type 0) (Q : B → Type 0) (f : A → B) → ((a : A) → P a → Q (f a))

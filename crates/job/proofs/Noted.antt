@@ -14,7 +14,8 @@ use Rattle.job.specs.Head.{readBlockHead}
 use Rattle.job.specs.Ids.{blockIds, anyUnknown, predecessorsAt, checkedBy}
 use Rattle.job.specs.Kept.{notePlace, noteNumber, blockNotes, blockPlaces, blockNumbers, headOf, keptOf}
 use Rattle.job.specs.declared.BlockHead.{BlockHead}
-use Rattle.job.proofs.Bounds.{HoldsIfRead, held}
+use Rattle.laws.specs.Fits.{HoldsIfRead}
+use Rattle.job.proofs.Bounds.{held}
 use Rattle.job.proofs.Passing.{mapped-got}
 use Rattle.job.proofs.Heads.{blockOf, block-by-head}
 use Rattle.job.proofs.Many.{many-holds, many-all}

@@ -11,7 +11,8 @@ use Rattle.job.specs.Head.{readBlockHead}
 use Rattle.job.specs.Ids.{predecessorsAt}
 use Rattle.job.specs.declared.BlockHead.{BlockHead}
 use Rattle.job.proofs.Noting.{notes-few}
-use Rattle.job.proofs.Bounds.{HoldsIfRead, predecessors-most}
+use Rattle.laws.specs.Fits.{HoldsIfRead}
+use Rattle.job.proofs.Bounds.{predecessors-most}
 
 -- the first n of an array r are the numbers vs
 pub record Stored (vs r : List ℕ) (n : ℕ) : Type 0 where

@@ -107,7 +107,7 @@ module _ (mark : NodeId → DependencyPathEntry → Bool) {ws : List ℕ} {k : N
   inside : k .0 < length reg
   inside = let size = registry-length ws in let l = x .here in omega arith
 
-  hangs : (m : Node) → n ≡ m → Rattle.model.specs.RegistryLaws.storedNode reg (k .0) .origin ≡ originOf m
+  hangs : (m : Node) → n ≡ m → Rattle.model.specs.RegistryLaws.nodeAt reg (k .0) .origin ≡ originOf m
   hangs m e = origin-at ws (k .0) (x .here) ∙ ap originOf (sym (x .loaded) ∙ e)
 
   pub walk-root : (i : IdentifierId) (r : Bool) (s : ℕ) → n ≡ Root i r s → again k ≡ record { registry = reg; node = k }

@@ -19,7 +19,8 @@ use Rattle.model.specs.Tests.{decide, eqb-true, eqb-false, eqb-apart}
 use Rattle.model.specs.Tree.{DependencyPosition, ended, stepTo, stepAccess, rootPosition}
 use Rattle.job.specs.Head.{readPathHead}
 use Rattle.job.specs.declared.PathHead.{PathHead}
-use Rattle.job.proofs.Bounds.{Holds, entries-most}
+use Rattle.laws.specs.Fits.{HoldsIfRead}
+use Rattle.job.proofs.Bounds.{entries-most}
 use Rattle.tree.specs.declared.Way.{Way}
 use Rattle.tree.specs.Words.{headOr, headAt, entryAt, parentIn, pack, positionAs, positionOf, positionsFrom}
 use Rattle.tree.specs.Walk.{walkBy, bitsOf, entriesFrom, pathAt, wayPositions, steppedTo, Walks}
@@ -40,7 +41,7 @@ entries-length : (s : List ℕ) (at n : ℕ) → length (entriesFrom s at n) ≡
 entries-length s at zero = refl
 entries-length s at (suc n) = ap suc (entries-length s (at + 14) n)
 
-few-or : (x : Read PathHead) → Holds (λ (h : PathHead). h .entries ≤ 16) x → headOr x .entries ≤ 16
+few-or : (x : Read PathHead) → HoldsIfRead (λ (h : PathHead). h .entries ≤ 16) x → headOr x .entries ≤ 16
 few-or (got h n) few = few
 few-or (refused r) few = omega arith
 
