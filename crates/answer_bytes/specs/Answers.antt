@@ -29,7 +29,7 @@ pub record AddsCandidates (s : List ℕ) (start count : ℕ) (reg : PropertyPath
   pub is : (cs : List ReactiveScopeDependency) (end : ℕ) → readMany count (readPath spanWidth CA) s start ≡ got cs end
       → forestOf s tree ≡ dependencyTree (map (fullPathOf reg) set) cs
 
--- "AN, count u16, rounds u8, settled u8 (1 or 0)."
+-- "AN, count u16, rounds u8, settled u8 (1 or 0)"
 abbrev pub headBytes : ℕ → ℕ → Bool → List ℕ
 headBytes count rounds settled = u16 AN ++ u16 count ++ u8 rounds ++ u8 (flag settled)
 

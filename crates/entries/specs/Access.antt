@@ -9,15 +9,15 @@ use Rattle.entries.specs.declared.PropertyAccessType.the-variants.{
   UnconditionalDependency,
 }
 
--- "Optional only if both are": which of "the four access kinds" are optional (`is_optional` of the
--- Rust).
+-- "Optional only if both are": which of "the four access kinds" are optional
+-- (`is_optional_access` of the Rust).
 abbrev pub isOptionalAccess : PropertyAccessType → Bool
 isOptionalAccess OptionalAccess = true
 isOptionalAccess UnconditionalAccess = false
 isOptionalAccess OptionalDependency = true
 isOptionalAccess UnconditionalDependency = false
 
--- "A dependency if either is": which of them are dependencies (`is_dependency` of the Rust).
+-- "A dependency if either is": which of them are dependencies (`is_dependency_access` of the Rust).
 abbrev pub isDependencyAccess : PropertyAccessType → Bool
 isDependencyAccess OptionalAccess = false
 isDependencyAccess UnconditionalAccess = false

@@ -17,7 +17,7 @@ zeros-differ = refl
 pub nan-equal : sameProperty (Number 0x7ff8000000000000) (Number 0x7ff8000000000000) ≡ true
 nan-equal = refl
 
--- "Equal when kind and .. value are equal."
+-- "Equal when kind and .. value are equal"
 pub kinds-differ : sameProperty (String 5) (Number 5) ≡ false
 kinds-differ = refl
 

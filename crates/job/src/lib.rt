@@ -299,7 +299,7 @@ pub fn block_head_at(s: &[u8], at: usize) -> ReadBlockHead
 }
 
 // The head of a block, and the place after its paths.
-pub fn block_at(s: &[u8], at: usize) -> ReadBlockHead
+fn block_at(s: &[u8], at: usize) -> ReadBlockHead
     ensures { λ r. ⌜ gotBlockId r ≡ mapped (λ (b : Block). b .id) (readBlock spanWidth (now (s .entry)) at) ⌝ }
 {
     let head_field = block_head_at(s, at);

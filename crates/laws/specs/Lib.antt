@@ -10,6 +10,5 @@ pub mod GraphsAgree
 pub mod ForestLaws
 pub mod TreeLaws
 -- what is written and read
-pub mod ReadingLaws
 pub mod ReadBack
 pub mod Fits

@@ -128,12 +128,12 @@ readAnswer spanBytes s at =
     andThen (readFlag s settledAt) (λ settled pathsAt.
     mapped (λ paths. record { paths = paths; rounds = rounds; settled = settled }) (readMany count (readPath spanBytes DE) s pathsAt)))))
 
--- "Parent u16 (65535 for a root)."
+-- "Parent u16 (65535 for a root)"
 abbrev pub parentNumber : Origin → ℕ
 parentNumber root = rootMark
 parentNumber (childOf p e) = p .0
 
--- "Optional u8, kind u8, value u64 (these three 0 for a root)."
+-- "Optional u8, kind u8, value u64 (these three 0 for a root)"
 abbrev pub originBytes : Origin → List ℕ
 originBytes root = u8 0 ++ u8 0 ++ u64 0
 originBytes (childOf p e) = stepBytes e

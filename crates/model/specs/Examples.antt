@@ -97,8 +97,8 @@ abbrev lastSpan : ℕ → List DependencyPathEntry → ℕ
 lastSpan s [] = s
 lastSpan s (e ∷ es) = lastSpan (e .span) es
 
--- a returned path: reactive as the first candidate is, with the span of its last entry, or the
--- first candidate's where it has none
+-- a path of identifier 1, returned, assumed or of a set: reactive as the first candidate is, with the
+-- span of its last entry, or the first candidate's where it has none
 abbrev one : List DependencyPathEntry → ReactiveScopeDependency
 one es = pathOf 1 true (lastSpan 1 es) es
 
@@ -156,7 +156,7 @@ examples =
     ∷ propagation (block 0 [] [] ∷ block 1 (0 ∷ []) (five ∷ []) ∷ block 2 (0 ∷ []) [] ∷ block 3 (1 ∷ 2 ∷ []) [] ∷ [])
     ([] ∷ (five ∷ []) ∷ [] ∷ [] ∷ []) 1
     -- P3, a loop: 0, 1 (after 0, 3), 2 (after 1), 3 (after 1, 2), 4 (after 1), assumed in 2: in 2
-    -- and 3
+    -- and 3 (2 rounds, which document 01 does not say)
     ∷ propagation (block 0 [] [] ∷ block 1 (0 ∷ 3 ∷ []) [] ∷ block 2 (1 ∷ []) (five ∷ [])
     ∷ block 3 (1 ∷ 2 ∷ []) [] ∷ block 4 (1 ∷ []) [] ∷ [])
     ([] ∷ [] ∷ (five ∷ []) ∷ (five ∷ []) ∷ [] ∷ []) 2

@@ -63,7 +63,7 @@ readEntry spanBytes s at =
     andThen (readNumber spanBytes s spanAt) (λ span next.
     got (record { property = propertyOf kind value; optional = optional; span = span }) next))))
 
--- "PA: identifier u32, reactive u8 (0 or 1), span u32, entry count u8 (0 to 16), then entries."
+-- "PA: identifier u32, reactive u8 (0 or 1), span u32, entry count u8 (0 to 16), then entries"
 -- "CA, with the fields of PA."
 unfoldable pub readPath : ℕ → ℕ → ByteReader ReactiveScopeDependency
 unfolding readMark readFlag readNumber readWithin readEntry
@@ -86,7 +86,7 @@ pub record Block : Type 0 where
 abbrev pub blockId : ℕ → BlockId
 blockId i = record { 0 = i }
 
--- "Id u32", of a block. "Identifiers and block ids are kept apart as in the source."
+-- "Id u32", of a block. "Identifiers and block ids are kept apart as in the source"
 abbrev pub readBlockId : ByteReader BlockId
 readBlockId s at = mapped blockId (readU32 s at)
 

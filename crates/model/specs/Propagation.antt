@@ -29,7 +29,7 @@ JoiningRule = List TraversalState → List ℕ → List ℕ
 unfoldable pub doneNeighbours : JoiningRule
 doneNeighbours marks bs = select (λ b. isDone (getD marks b Unmarked)) bs
 
--- "The intersection of its Done neighbours' sets (none Done: nothing joins)."
+-- "The intersection of its Done neighbours' sets (none Done: nothing joins)"
 unfoldable pub intersectionOf : List NodeSet → NodeSet
 intersectionOf [] = []
 intersectionOf (s ∷ ss) = foldl intersection s ss
@@ -62,7 +62,7 @@ pub record Graph : Type 0 where
   pub predecessors : ℕ → List ℕ
   pub successors : ℕ → List ℕ
 
--- "Forward takes blocks in job order with predecessors in job order."
+-- "Forward takes blocks in job order with predecessors in job order"
 unfoldable pub forward : Reducer → JoiningRule → Graph → Work → Work
 unfolding walk jobOrder join
 forward reduce rule g w = walk (g .size) (g .predecessors) (join reduce rule (g .predecessors)) (jobOrder (g .size)) w
@@ -76,7 +76,7 @@ backward reduce rule g w = walk (g .size) (g .successors) (join reduce rule (g .
 abbrev pub roundStart : PropertyPathRegistry → List NodeSet → Work
 roundStart reg sets = record { registry = reg; sets = sets; changed = false }
 
--- "Rounds of a forward and a backward walk."
+-- "Rounds of a forward and a backward walk"
 unfoldable pub round : Reducer → JoiningRule → Graph → Work → Work
 unfolding forward backward
 round reduce rule g w = backward reduce rule g (forward reduce rule g (roundStart (w .registry) (w .sets)))
@@ -85,7 +85,7 @@ round reduce rule g w = backward reduce rule g (forward reduce rule g (roundStar
 abbrev pub hasChanged : Work → Bool
 hasChanged w = w .changed
 
--- "At most 100 rounds."
+-- "At most 100 rounds"
 unfoldable pub propagateWith : Reducer → JoiningRule → Graph → PropertyPathRegistry → List NodeSet → Rounds Work
 unfolding roundsFrom round
 propagateWith reduce rule g reg sets = roundsFrom hasChanged (round reduce rule g) 100 zero (roundStart reg sets)

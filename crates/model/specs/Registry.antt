@@ -13,7 +13,7 @@ use Rattle.entries.specs.Path.{sameEntry, ReactiveScopeDependency}
 abbrev pub nodeLimit : ℕ
 nodeLimit = 512
 
--- "Parent u16 (65535 for a root)."
+-- "Parent u16 (65535 for a root)"
 abbrev pub rootMark : ℕ
 rootMark = 65535
 
@@ -71,7 +71,7 @@ pub record Reached : Type 0 where
 abbrev pub findOrMake : (PropertyPathNode → Bool) → PropertyPathNode → PropertyPathRegistry → Reached
 findOrMake test new reg = record { registry = ensure test new reg; node = record { 0 = find test reg } }
 
--- "A root's reactive and span come from the path that first made it."
+-- "A root's reactive and span come from the path that first made it"
 abbrev pub rootNode : IdentifierId → Bool → ℕ → PropertyPathNode
 rootNode i r s = record { origin = root; fullPath = record { identifier = i; reactive = r; path = []; span = s } }
 

@@ -11,12 +11,12 @@ unfoldable pub placesFrom : ℕ → ℕ → List ℕ
 placesFrom k zero = []
 placesFrom k (suc n) = k ∷ placesFrom (suc k) n
 
--- "Forward takes blocks in job order."
+-- "Forward takes blocks in job order"
 unfoldable pub jobOrder : ℕ → List ℕ
 unfolding placesFrom
 jobOrder n = placesFrom zero n
 
--- "Backward takes reverse job order."
+-- "Backward takes reverse job order"
 unfoldable pub reverseJobOrder : ℕ → List ℕ
 unfolding jobOrder
 reverseJobOrder n = reverse (jobOrder n)

@@ -24,7 +24,7 @@ abbrev pub startsOptional : List DependencyPathEntry → Bool
 startsOptional [] = false
 startsOptional (e ∷ es) = e .optional
 
--- "Paths with an optional first entry ahead, order otherwise kept."
+-- "Paths with an optional first entry ahead, order otherwise kept"
 unfoldable pub ordered : List ReactiveScopeDependency → List ReactiveScopeDependency
 ordered ds = select (λ d. startsOptional (d .path)) ds ++ select (λ d. not (startsOptional (d .path))) ds
 
@@ -162,7 +162,7 @@ dependencyOf [] = record { identifier = record { 0 = zero }; reactive = false; p
 dependencyOf (p ∷ ps) = record { identifier = keyIdentifier (p .key); reactive = p .reactive; path = map entryOf ps; span = lastSpan p ps }
 
 -- "Returned are the first dependencies on each way down, roots and children in order of first
--- insertion."
+-- insertion"
 unfoldable pub deriveMinimalDependencies : List ReactiveScopeDependency → List ReactiveScopeDependency → List ReactiveScopeDependency
 unfolding dependencyTree
 deriveMinimalDependencies hs cs = map dependencyOf (firsts isDependency (dependencyTree hs cs))

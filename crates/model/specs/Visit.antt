@@ -39,7 +39,7 @@ unmarkedIn (Done ∷ ms) = unmarkedIn ms
 abbrev pub marked : {W : Type 0} → ℕ → Visited W → Bool
 marked b v = isMarked (getD (v .marks) b Done)
 
--- "A visit marks the block Active."
+-- "A visit marks the block Active"
 abbrev pub enter : {W : Type 0} → ℕ → Visited W → Visited W
 enter b v = record { marks = set (v .marks) b Active; work = v .work }
 

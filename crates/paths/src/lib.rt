@@ -15,8 +15,8 @@ use job::ReadEntry;
 use job::ReadPathHead;
 use registry::NodeEntered;
 
-// The path's node and the place after the record; or that the registry has no room. Where a part
-// that was read before is refused, `Full` stands for an answer that no caller sees.
+// The path's node and the place after the record; or that the registry has no room. The code has to
+// answer for a field that is refused, too; that never happens, and it says `Full`.
 pub enum EnteredPath {
     At(NodeId, usize),
     Full,

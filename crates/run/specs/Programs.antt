@@ -1,5 +1,5 @@
 -- What the programs `answer` and `sheet` write.
-use Prim.Native.Nat.{ℕ, _<_}
+use Prim.Native.Nat.{ℕ, _≤_, _<_}
 use native.Mathlib.Omega.{arith}
 use mathlib.Core.Path.{_≡_, ap}
 use mathlib.Core.Bool.{true}
@@ -31,6 +31,12 @@ pub record Responds (op : Operation) (job before after : List ℕ) (n : ℕ) : T
 -- how many bytes of a job a program reads at most
 abbrev pub bytesRead : ℕ
 bytesRead = 65536
+
+-- What the operation's program writes of some job, of no more bytes than it reads, has n bytes.
+pub record Runs (op : Operation) (n : ℕ) : Type 0 where
+  pub job : List ℕ
+  pub few : length job ≤ bytesRead
+  pub size : n ≡ length (programOf op job)
 
 -- A longer job is refused as too long, and so are its first bytes.
 first-bytes-verdict : (head spanBytes : ℕ) (rule : JoiningRule) (bytes : ℕ → Job → Rounds Work → List ℕ) (s out : List ℕ)

@@ -4,7 +4,7 @@ ghost use mathlib.Core.Path.{_≡_};
 ghost use Prim.Native.Nat.{_≤_};
 ghost use lib.ListN.{length, take};
 ghost use Rattle.model.specs.Answer.{leastBuffer};
-ghost use Rattle.run.specs.Programs.{bytesRead, Responds};
+ghost use Rattle.run.specs.Programs.{bytesRead, Responds, Runs};
 use stage::Operation;
 use stage::Outcome;
 
@@ -27,11 +27,15 @@ fn respond(operation: Operation, space: &[u8], got: usize, out: &mut [u8]) -> us
 }
 
 // The program of the operation. Of a job longer than 65,536 bytes the rest is not read: the program
-// writes the same of its first bytes (`first-bytes`).
-pub fn run(operation: Operation) {
+// writes the same of its first bytes (`first-bytes`). How many bytes were given to be written: as many
+// as there are of the job that was read, of which no contract of input and output says more.
+pub fn run(operation: Operation) -> usize
+    ensures { λ r. ⌜ Runs operation r ⌝ }
+{
     let mut space = io::large_buffer();
     let got = io::read_full(0, &mut space);
     let mut out = [0u8; 24576];
     let n = respond(operation, &space, got, &mut out);
     io::write_all(1, &out[..n]);
+    n
 }

@@ -30,7 +30,7 @@ use Rattle.model.specs.Answer.{
   readAnswer,
 }
 use Rattle.safety.specs.Runs.{WithoutLoops}
-use Rattle.safety.specs.Statement.{Safety, Demand3, AnswerMeetsDemand3, AnswersMeetDemand3, EveryAnswerMeetsDemand3}
+use Rattle.safety.specs.Statement.{Safety, Demand3, AnswerMeetsDemand3, OperationMeetsDemand3, EveryAnswerMeetsDemand3}
 use Rattle.laws.specs.GraphLaws.{ProperBlocks, proper-blocks}
 use Rattle.safety.specs.StageSafe.{hoistable-safe}
 use Rattle.laws.specs.TreeLaws.{returned-one, returned-some}
@@ -109,7 +109,7 @@ answer-holds rule w j few fit =
 -- What an operation's answer meets, under any rule for which a job's returned paths meet demand 3.
 pub verdict-meets : (head spanBytes : ℕ) (Hypothesis : List Block → Type 0) (rule : JoiningRule)
     → ((j : Job) → ProperBlocks (j .blocks) → Demand3 Hypothesis j (returnedPaths j (propagated rule (j .blocks) .work)))
-    → AnswersMeetDemand3 head spanBytes Hypothesis (verdict head spanBytes rule answerBytes)
+    → OperationMeetsDemand3 head spanBytes Hypothesis (verdict head spanBytes rule answerBytes)
 verdict-meets head spanBytes Hypothesis rule meets job out answer bytes e = go
     (verdict-written head spanBytes rule answerBytes job out answer e)
   where

@@ -1,5 +1,5 @@
--- A join is sound where the block on the run before (or after) this one is among the joined
--- neighbours: then what joins is safe. Nothing is said of loops here.
+-- A join keeps the sets of a run's blocks non-nullish where the block on the run before (or after)
+-- this one is among the joined neighbours, or where nothing joins. Nothing is said of loops here.
 use Prim.Native.Nat.{ℕ, zero, suc}
 use native.Mathlib.Omega.{arith}
 use mathlib.Core.Path.{_≡_, refl, sym, ap, subst}

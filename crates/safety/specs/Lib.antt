@@ -1,6 +1,8 @@
 -- the statement
 pub mod Runs
 pub mod Statement
+-- reading a path
+pub mod ReadingPathsLaws
 -- propagation
 pub mod RegistrySafe
 pub mod ReductionSafe

@@ -44,8 +44,7 @@ pub record Beside (On : ℕ → Type 0) (n : ℕ) (near : ℕ → List ℕ) : Ty
   pub beside : (b : ℕ) → On b → (near b ≡ []) ⊎ Some On (near b)
 
 module _ {X : Type 0} (S : Store X) (On : ℕ → Type 0) where
-  -- a rule that joins all neighbours of the run's block that is joined, or none, keeps the sets
-  -- non-nullish; the rule of Done neighbours does so where all are Done
+  -- a join of the Done neighbours keeps the run's sets non-nullish where all neighbours are Done
   done-join : (n : ℕ) (near : ℕ → List ℕ) → Beside On n near → (b : ℕ) (marks : List TraversalState) (w : Work) → b < n → All
       (IsDone marks) (near b) → NonNullOn S On w
       → NonNullOn S On (join reduceMaybeOptionalChains doneNeighbours near b marks w)

@@ -22,7 +22,7 @@ use Rattle.model.specs.Registry.{
 use Rattle.model.specs.RegistryLaws.{Extends, extends-path, extends-length, Sound, Proper, root-reached, child-reached, entry-property}
 use Rattle.model.specs.Sets.{NodeSet}
 use Rattle.model.specs.ListLaws.{All, all-map}
-use Rattle.laws.specs.ReadingLaws.{NonNull, Reaches, reaches-root, reaches-safe, reaches-next, nullish-not}
+use Rattle.safety.specs.ReadingPathsLaws.{NonNull, Reaches, reaches-root, reaches-safe, reaches-next, nullish-not}
 
 module _ {X : Type 0} (S : Store X) where
   -- a node of the registry whose path reads to a non-nullish value

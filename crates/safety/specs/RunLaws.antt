@@ -81,17 +81,17 @@ module _ (bs : List Block) (ok : ProperBlocks bs) where
     no-loop-onward b r = no-loop-back b (reach-back bs ok (reach-inside bs ok r) r)
 
 -- The places of a run's blocks, with or without loops.
-module _ (bs : List Block) (via : BlockId) (ok : ProperBlocks bs) (s : List Block) (run : RunVia bs via s) where
-  abbrev pub OnRun : ℕ → Type 0
-  OnRun k = Member (blockAt bs k) s
+abbrev pub OnRun : List Block → List Block → ℕ → Type 0
+OnRun bs s k = Member (blockAt bs k) s
 
-  on-place : (c : Block) → Member c s → (placeOf bs (c .id) < length bs) × OnRun (placeOf bs (c .id)) ×
+module _ (bs : List Block) (via : BlockId) (ok : ProperBlocks bs) (s : List Block) (run : RunVia bs via s) where
+  on-place : (c : Block) → Member c s → (placeOf bs (c .id) < length bs) × OnRun bs s (placeOf bs (c .id)) ×
       (blockAt bs (placeOf bs (c .id)) ≡ c)
   on-place c m =
       let p = place-member c bs (ok .distinct) (all-at (λ b. Member b bs) s c (run .sequence .blocks) m) in
       (p .0, subst (λ b. Member b s) (sym (p .1)) m, p .1)
 
-  pub back : Beside OnRun (graphOf bs .size) (graphOf bs .predecessors)
+  pub back : Beside (OnRun bs s) (graphOf bs .size) (graphOf bs .predecessors)
   unfolding graphOf predecessorsOf
   back = record {
     inGraph = predecessors-inside bs ok;
@@ -100,14 +100,14 @@ module _ (bs : List Block) (via : BlockId) (ok : ProperBlocks bs) (s : List Bloc
   }
     where
       go : (b : ℕ) → NoPredecessor (blockAt bs b) ⊎ ((c : Block) × Member c s × Precedes c (blockAt bs b)) →
-          (predecessorsOf bs b ≡ []) ⊎ Some OnRun (predecessorsOf bs b)
+          (predecessorsOf bs b ≡ []) ⊎ Some (OnRun bs s) (predecessorsOf bs b)
       go b (inl e) = inl (ap (map (placeOf bs)) e)
       go b (inr h) =
           let c = h .0 in
-          inr (some-of OnRun (predecessorsOf bs b) (placeOf bs (c .id)) (on-place c (h .1) .1)
+          inr (some-of (OnRun bs s) (predecessorsOf bs b) (placeOf bs (c .id)) (on-place c (h .1) .1)
           (precedes-predecessor bs ok c b (all-at (λ d. Member d bs) s c (run .sequence .blocks) (h .1)) (h .2)))
 
-  pub onward : Beside OnRun (graphOf bs .size) (graphOf bs .successors)
+  pub onward : Beside (OnRun bs s) (graphOf bs .size) (graphOf bs .successors)
   unfolding graphOf
   onward = record {
     inGraph = successors-inside bs ok;
@@ -116,16 +116,16 @@ module _ (bs : List Block) (via : BlockId) (ok : ProperBlocks bs) (s : List Bloc
   }
     where
       go : (b : ℕ) → NoSuccessor bs (blockAt bs b) ⊎ ((c : Block) × Member c s × Precedes (blockAt bs b) c) →
-          (successorsOf bs b ≡ []) ⊎ Some OnRun (successorsOf bs b)
+          (successorsOf bs b ≡ []) ⊎ Some (OnRun bs s) (successorsOf bs b)
       go b (inl none) = inl (no-successor bs ok b none)
       go b (inr h) =
           let c = h .0 in
           let p = on-place c (h .1) in
-          inr (precedes-successor bs ok b OnRun (placeOf bs (c .id)) (p .0) (p .1) (subst (Precedes (blockAt bs b)) (sym (p .2)) (h .2)))
+          inr (precedes-successor bs ok b (OnRun bs s) (placeOf bs (c .id)) (p .0) (p .1) (subst (Precedes (blockAt bs b)) (sym (p .2)) (h .2)))
 
-  pub on-via : OnRun (placeOf bs via)
+  pub on-via : OnRun bs s (placeOf bs via)
   on-via = go s (run .passes) (λ c m. on-place c m .1)
     where
-      go : (t : List Block) → Some (λ b. b .id ≡ via) t → ((c : Block) → Member c t → OnRun (placeOf bs (c .id))) → OnRun (placeOf bs via)
-      go (c ∷ t) (inl e) f = subst (λ i. OnRun (placeOf bs i)) e (f c (inl refl))
+      go : (t : List Block) → Some (λ b. b .id ≡ via) t → ((c : Block) → Member c t → OnRun bs s (placeOf bs (c .id))) → OnRun bs s (placeOf bs via)
+      go (c ∷ t) (inl e) f = subst (λ i. OnRun bs s (placeOf bs i)) e (f c (inl refl))
       go (c ∷ t) (inr r) f = go t r (λ d m. f d (inr m))

@@ -18,7 +18,7 @@ Linked [] = Unit {0}
 Linked (a ∷ []) = Unit {0}
 Linked (a ∷ (b ∷ s)) = Precedes a b × Linked (b ∷ s)
 
--- "At least one."
+-- "At least one"
 abbrev pub NonEmpty : List Block → Type 0
 NonEmpty [] = ⊥
 NonEmpty (a ∷ s) = Unit {0}

@@ -18,7 +18,7 @@ use Rattle.model.specs.RegistryLaws.{Sound, sound-empty, path-proper, path-exte
 use Rattle.model.specs.PropagationLaws.{members-empty, paths-filled, blocks-begun}
 use Rattle.laws.specs.Membership.{Member, all-at, all-of-map}
 use Rattle.safety.specs.Runs.{WithoutLoops, Run, AssumedHold}
-use Rattle.laws.specs.ReadingLaws.{NonNull}
+use Rattle.safety.specs.ReadingPathsLaws.{NonNull}
 use Rattle.safety.specs.RegistrySafe.{NonNullNode, NonNullSet, set-extends, path-safe}
 use Rattle.safety.specs.JoinSafe.{NonNullOn}
 use Rattle.safety.specs.PropagationSafe.{propagation-safe, forward-done, backward-done}
@@ -52,8 +52,8 @@ module _ {X : Type 0} (S : Store X) where
   -- under any rule under which propagation keeps the run's sets non-nullish
   module _ (rule : JoiningRule) (j : Job) (ok : ProperBlocks (j .blocks)) (s : List Block) (run : Run j s) (assumed : AssumedHold S s) where
     abbrev pub Keeps : Type 0
-    Keeps = (reg : PropertyPathRegistry) (sets : List NodeSet) → NonNullOn S (OnRun (j .blocks) (j .scope) ok s run)
-        (roundStart reg sets) → NonNullOn S (OnRun (j .blocks) (j .scope) ok s run)
+    Keeps = (reg : PropertyPathRegistry) (sets : List NodeSet) → NonNullOn S (OnRun (j .blocks) s)
+        (roundStart reg sets) → NonNullOn S (OnRun (j .blocks) s)
         (propagateNonNull rule (graphOf (j .blocks)) reg sets .work)
 
     pub hoistable-by : Keeps → All (NonNull S) (hoistablePaths j (propagated rule (j .blocks) .work))
@@ -78,8 +78,8 @@ module _ {X : Type 0} (S : Store X) where
   hoistable-safe j ok free s run assumed =
       let g = graphOf (j .blocks) in
       hoistable-by doneNeighbours j ok s run assumed
-      (propagation-safe S (OnRun (j .blocks) (j .scope) ok s run) doneNeighbours g
-      (forward-done S (OnRun (j .blocks) (j .scope) ok s run) g (back (j .blocks) (j .scope) ok s run)
+      (propagation-safe S (OnRun (j .blocks) s) doneNeighbours g
+      (forward-done S (OnRun (j .blocks) s) g (back (j .blocks) (j .scope) ok s run)
       (onward (j .blocks) (j .scope) ok s run) (no-loop-back (j .blocks) ok free))
-      (backward-done S (OnRun (j .blocks) (j .scope) ok s run) g (back (j .blocks) (j .scope) ok s run)
+      (backward-done S (OnRun (j .blocks) s) g (back (j .blocks) (j .scope) ok s run)
       (onward (j .blocks) (j .scope) ok s run) (no-loop-onward (j .blocks) ok free)))

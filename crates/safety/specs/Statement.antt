@@ -44,11 +44,11 @@ pub record AnswerMeetsDemand3 (head spanBytes : ℕ) (Hypothesis : List Block �
 
 -- Of an operation: whatever job it does not refuse, with whatever out buffer, what it writes meets
 -- demand 3.
-abbrev pub AnswersMeetDemand3 : ℕ → ℕ → (List Block → Type 0) → (List ℕ → List ℕ → Verdict) → Type 1
-AnswersMeetDemand3 head spanBytes Hypothesis operation =
+abbrev pub OperationMeetsDemand3 : ℕ → ℕ → (List Block → Type 0) → (List ℕ → List ℕ → Verdict) → Type 1
+OperationMeetsDemand3 head spanBytes Hypothesis operation =
     (job out answer : List ℕ) → All (λ b. b < 256) job → operation job out ≡ writes answer
     → AnswerMeetsDemand3 head spanBytes Hypothesis job answer
 
 -- The claim: of the bytes of any job that `answer` does not refuse, with any out buffer.
 abbrev pub EveryAnswerMeetsDemand3 : Type 1
-EveryAnswerMeetsDemand3 = AnswersMeetDemand3 HD spanWidth WithoutLoops answerOf
+EveryAnswerMeetsDemand3 = OperationMeetsDemand3 HD spanWidth WithoutLoops answerOf

@@ -54,7 +54,7 @@ use Rattle.model.specs.Tree.{
   deriveMinimalDependencies,
 }
 use Rattle.laws.specs.Membership.{all-of, all-of-map}
-use Rattle.laws.specs.ReadingLaws.{NonNull, NoThrow, nullish-not}
+use Rattle.safety.specs.ReadingPathsLaws.{NonNull, NoThrow, nullish-not}
 use Rattle.laws.specs.ForestLaws.{key-true, Along, WayAlong, firsts-along, along-addAll}
 use Rattle.laws.specs.TreeLaws.{optional-of, Properties, Rooted, ways-rooted}
 

@@ -12,47 +12,47 @@ use Rattle.model.specs.Sets.{NodeSet}
 use Rattle.model.specs.Answer.{rowBytes, setBytes}
 use Rattle.rows.specs.Rows.{rowOf, rowsFrom, rowsOf}
 use Rattle.writer.proofs.Bytes.{number-length}
-use Rattle.sheet_bytes.specs.Sheet.{blockBytes, blocksBytes}
+use Rattle.sheet_bytes.specs.Sheet.{setRecord, setRecords}
 
 row-length : (s : NodeSet) (k n : ℕ) → length (rowBytes s k n) ≡ n
 unfolding rowBytes
 row-length s k zero = refl
 row-length s k (suc n) = ap suc (row-length s (k + 8) n)
 
-pub block-length : (id : BlockId) (s : NodeSet) → length (blockBytes id s) ≡ 70
+pub block-length : (id : BlockId) (s : NodeSet) → length (setRecord id s) ≡ 70
 block-length id s = simp (length-append, number-length, row-length)
 
 module _ (numbers rows : List ℕ) where
   -- what is to come from block b on: its bytes, and those from the next on
   pub blocks-more : (b n : ℕ) → b < n
-      → blocksBytes numbers rows b (n - b) ≡ blockBytes (blockId (getD numbers b 0)) (rowOf rows b) ++ blocksBytes numbers rows (b + 1) (n - (b + 1))
-  unfolding blocksBytes
+      → setRecords numbers rows b (n - b) ≡ setRecord (blockId (getD numbers b 0)) (rowOf rows b) ++ setRecords numbers rows (b + 1) (n - (b + 1))
+  unfolding setRecords
   blocks-more b n l =
       let e : n - b ≡ suc (n - (b + 1)) = omega arith in
       let f : suc b ≡ b + 1 = omega arith in
-      ap (blocksBytes numbers rows b) e
-      ∙ ap (λ (k : ℕ). blockBytes (blockId (getD numbers b 0)) (rowOf rows b) ++ blocksBytes numbers rows k (n - (b + 1))) f
+      ap (setRecords numbers rows b) e
+      ∙ ap (λ (k : ℕ). setRecord (blockId (getD numbers b 0)) (rowOf rows b) ++ setRecords numbers rows k (n - (b + 1))) f
 
-  pub blocks-over : (b n : ℕ) → n ≤ b → blocksBytes numbers rows b (n - b) ≡ []
-  unfolding blocksBytes
-  blocks-over b n l = let e : n - b ≡ 0 = omega arith in ap (blocksBytes numbers rows b) e
+  pub blocks-over : (b n : ℕ) → n ≤ b → setRecords numbers rows b (n - b) ≡ []
+  unfolding setRecords
+  blocks-over b n l = let e : n - b ≡ 0 = omega arith in ap (setRecords numbers rows b) e
 
   -- The blocks of a job from block b on.
 
   blocks-from : (bs : List Block) (b n : ℕ) → length bs ≡ n → ((k : ℕ) → k < n → blockId (getD numbers (b + k) 0) ≡ getD (idsOf bs) k (blockId 0))
-      → blocksBytes numbers rows b n ≡ setBytes bs (rowsFrom rows b n)
-  unfolding blocksBytes setBytes
+      → setRecords numbers rows b n ≡ setBytes bs (rowsFrom rows b n)
+  unfolding setRecords setBytes
   blocks-from [] b zero e h = refl
   blocks-from [] b (suc n) e h = absurd (omega arith)
   blocks-from (x ∷ bs) b zero e h = absurd (omega arith)
   blocks-from (x ∷ bs) b (suc n) e h =
       let here : blockId (getD numbers b 0) ≡ x .id = ap (λ (i : ℕ). blockId (getD numbers i 0)) (omega arith) ∙ h 0 (omega arith) in
-      let rest : blocksBytes numbers rows (suc b) n ≡ setBytes bs (rowsFrom rows (suc b) n)
+      let rest : setRecords numbers rows (suc b) n ≡ setBytes bs (rowsFrom rows (suc b) n)
       = blocks-from bs (suc b) n (omega arith) (λ k l. ap (λ (i : ℕ). blockId (getD numbers i 0)) (omega arith) ∙ h (suc k) (omega arith)) in
-      ap (λ (i : BlockId). blockBytes i (rowOf rows b) ++ blocksBytes numbers rows (suc b) n) here ∙ ap
-      (λ (ys : List ℕ). blockBytes (x .id) (rowOf rows b) ++ ys) rest
+      ap (λ (i : BlockId). setRecord i (rowOf rows b) ++ setRecords numbers rows (suc b) n) here ∙ ap
+      (λ (ys : List ℕ). setRecord (x .id) (rowOf rows b) ++ ys) rest
 
-  pub blocks-are : (bs : List Block) (n : ℕ) → length bs ≡ n → map blockId (take n numbers) ≡ idsOf bs → blocksBytes numbers rows 0 n ≡ setBytes bs
+  pub blocks-are : (bs : List Block) (n : ℕ) → length bs ≡ n → map blockId (take n numbers) ≡ idsOf bs → setRecords numbers rows 0 n ≡ setBytes bs
       (rowsOf rows n)
   unfolding rowsOf
   blocks-are bs n e ids =

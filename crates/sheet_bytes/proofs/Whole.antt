@@ -12,7 +12,7 @@ use Rattle.model.specs.Answer.{nodeBytes, sheetBytes}
 use Rattle.registry.specs.Words.{countIn, registryOf}
 use Rattle.registry.proofs.View.{registry-length}
 use Rattle.writer.proofs.Bytes.{number-length}
-use Rattle.sheet_bytes.specs.Sheet.{headBytes, blocksBytes, HoldsPropagated}
+use Rattle.sheet_bytes.specs.Sheet.{headBytes, setRecords, HoldsPropagated}
 use Rattle.sheet_bytes.proofs.Blocks.{blocks-are}
 
 pub head-length : (nodes blocks rounds : ℕ) (settled : Bool) → length (headBytes nodes blocks rounds settled) ≡ 8
@@ -20,7 +20,7 @@ head-length nodes blocks rounds settled = simp (length-append, number-length)
 
 pub sheet-bytes : {ws rows numbers : List ℕ} {n ran : ℕ} {last : Bool} {j : Job} {p : Rounds Work} (nodes : ℕ) → nodes ≡ countIn ws
     → HoldsPropagated ws rows numbers n ran last j p
-    → headBytes nodes n ran last ++ concatMap (nodeBytes 4) (registryOf ws) ++ blocksBytes numbers rows 0 n ≡ sheetBytes 4 j p
+    → headBytes nodes n ran last ++ concatMap (nodeBytes 4) (registryOf ws) ++ setRecords numbers rows 0 n ≡ sheetBytes 4 j p
 unfolding sheetBytes
 sheet-bytes {ws} {rows} {numbers} {n} {ran} {last} {j} {p} nodes counted x =
     let blocks = blocks-are numbers rows (j .blocks) n (x .count) (x .ids) in

@@ -20,18 +20,18 @@ use Rattle.sheet_bytes.specs.declared.PathRoot.{PathRoot}
 abbrev pub rootOf : ReactiveScopeDependency → PathRoot
 rootOf d = record { identifier = d .identifier; reactive = d .reactive }
 
--- "SH, nodes u16, blocks u16, rounds u8, settled u8."
+-- "SH, nodes u16, blocks u16, rounds u8, settled u8"
 abbrev pub headBytes : ℕ → ℕ → ℕ → Bool → List ℕ
 headBytes nodes blocks rounds settled = u16 SH ++ u16 nodes ++ u16 blocks ++ u8 rounds ++ u8 (flag settled)
 
--- "Per block .. SE, id u32, 64 bytes where node k is bit k mod 8 of byte k div 8."
-abbrev pub blockBytes : BlockId → NodeSet → List ℕ
-blockBytes id s = u16 SE ++ u32 (id .0) ++ rowBytes s 0 64
+-- "Per block .. SE, id u32, 64 bytes where node k is bit k mod 8 of byte k div 8"
+abbrev pub setRecord : BlockId → NodeSet → List ℕ
+setRecord id s = u16 SE ++ u32 (id .0) ++ rowBytes s 0 64
 
 -- n blocks from block b on, by their numbers and rows
-unfoldable pub blocksBytes : List ℕ → List ℕ → ℕ → ℕ → List ℕ
-blocksBytes numbers rows b zero = []
-blocksBytes numbers rows b (suc n) = blockBytes (blockId (getD numbers b 0)) (rowOf rows b) ++ blocksBytes numbers rows (suc b) n
+unfoldable pub setRecords : List ℕ → List ℕ → ℕ → ℕ → List ℕ
+setRecords numbers rows b zero = []
+setRecords numbers rows b (suc n) = setRecord (blockId (getD numbers b 0)) (rowOf rows b) ++ setRecords numbers rows (suc b) n
 
 -- The job has n blocks, whose ids have these numbers; the work p has the registry and the sets that
 -- the words hold, after so many rounds, settled or not.

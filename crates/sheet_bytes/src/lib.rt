@@ -11,7 +11,7 @@ ghost use Rattle.rows.specs.Rows.{rowOf};
 ghost use Rattle.registry.specs.Nodes.{originOf};
 ghost use Rattle.registry.specs.Words.{countIn, registryOf, HoldsRegistry};
 ghost use Rattle.writer.specs.Writes.{Writes};
-ghost use Rattle.sheet_bytes.specs.Sheet.{rootOf, headBytes, blockBytes, blocksBytes, WritesSheet};
+ghost use Rattle.sheet_bytes.specs.Sheet.{rootOf, headBytes, setRecord, setRecords, WritesSheet};
 use entries::BlockId;
 use entries::IdentifierId;
 use entries::NodeId;
@@ -128,7 +128,7 @@ fn put_row(sets: &[u64; 1024], b: usize, out: &mut [u8], start: usize) -> usize
 // Block b: its id and its set.
 fn put_block(sets: &[u64; 1024], b: usize, id: BlockId, out: &mut [u8], at: usize) -> usize
     requires { ⌜ (b < 128) × (at + 70 ≤ length (now out)) ⌝ }
-    ensures { λ r. ⌜ Writes (now (out .entry)) (now (out .exit)) at (blockBytes id (rowOf (now (sets .entry)) b)) r ⌝ }
+    ensures { λ r. ⌜ Writes (now (out .entry)) (now (out .exit)) at (setRecord id (rowOf (now (sets .entry)) b)) r ⌝ }
 {
     let id_at = put_number(out, at, 2, SE);
     let row_at = put_number(out, id_at, 4, id.0 as u64);
@@ -144,7 +144,7 @@ fn put_blocks(
     start: usize,
 ) -> usize
     requires { ⌜ (blocks ≤ 128) × (start + 70 * 128 ≤ length (now out)) ⌝ }
-    ensures { λ r. ⌜ Writes (now (out .entry)) (now (out .exit)) start (blocksBytes (now (ids .entry)) (now (sets .entry)) 0 blocks) r ⌝ }
+    ensures { λ r. ⌜ Writes (now (out .entry)) (now (out .exit)) start (setRecords (now (ids .entry)) (now (sets .entry)) 0 blocks) r ⌝ }
 {
     let mut at = start;
     let mut b: usize = 0;

@@ -37,7 +37,7 @@ use Rattle.propagation.specs.declared.RoundsRun.{RoundsRun}
 use Rattle.propagation.specs.Joins.{workOf}
 use Rattle.propagation.specs.Propagates.{roundsOf}
 use Rattle.answer_bytes.specs.Answers.{answerOver, WritesAnswer}
-use Rattle.sheet_bytes.specs.Sheet.{headBytes, blockBytes, WritesSheet}
+use Rattle.sheet_bytes.specs.Sheet.{headBytes, setRecord, WritesSheet}
 use Rattle.sheet_bytes.proofs.Nodes.{nodes-length}
 use Rattle.sheet_bytes.proofs.Blocks.{block-length}
 use Rattle.sheet_bytes.proofs.Whole.{head-length}
@@ -67,7 +67,7 @@ sets-length : (bs : List Block) (sets : List NodeSet) → length (setBytes bs se
 unfolding setBytes
 sets-length [] sets = omega arith
 sets-length (b ∷ bs) [] = omega arith
-sets-length (b ∷ bs) (t ∷ ts) = omega (arith, length-append (blockBytes (b .id) t) (setBytes bs ts), block-length (b .id) t, sets-length bs ts)
+sets-length (b ∷ bs) (t ∷ ts) = omega (arith, length-append (setRecord (b .id) t) (setBytes bs ts), block-length (b .id) t, sets-length bs ts)
 
 sheet-fits : (j : Job) (p : Rounds Work) (before : List ℕ) → length (p .work .registry) ≤ 512 → length (j .blocks) ≤ 128 → leastBuffer ≤ length before
     → length (sheetBytes spanWidth j p) ≤ length before

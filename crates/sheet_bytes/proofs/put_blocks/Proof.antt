@@ -7,7 +7,7 @@ use lib.ListN.{length}
 use denote.Ref.{now}
 use borrow.Author.Needs.{needs}
 use Rattle.writer.proofs.Bytes.{writes-length, room-after}
-use Rattle.sheet_bytes.specs.Sheet.{blocksBytes}
+use Rattle.sheet_bytes.specs.Sheet.{setRecords}
 use Rattle.writer.proofs.Bytes.{Coming}
 use Rattle.sheet_bytes.proofs.Coming.{coming-start, coming-more, coming-end}
 use Rattle.sheet_bytes.proofs.Blocks.{block-length, blocks-more, blocks-over}
@@ -16,13 +16,13 @@ use Rattle.sheet_bytes.proofs.put_blocks.Tie as tie
 
 abbrev Inv-loop : tie.InvT-loop
 Inv-loop sets ids blocks out₀ start at₀ b₀ out at b =
-    (b ≤ blocks) × (at + 70 * (128 - b) ≤ length out) × Coming out₀ out start at (blocksBytes ids sets 0 blocks) (blocksBytes ids sets b (blocks - b))
+    (b ≤ blocks) × (at + 70 * (128 - b) ≤ length out) × Coming out₀ out start at (setRecords ids sets 0 blocks) (setRecords ids sets b (blocks - b))
 
 abbrev μ-loop : tie.MeasureT-loop
 μ-loop sets ids blocks out₀ start at₀ b₀ out at b = blocks - b
 
 loop-holds : tie.Need-loop-holds Inv-loop μ-loop
-loop-holds c = (search needs, search needs, coming-start (ap (blocksBytes _ _ 0) (sub-zero (c .before .args .blocks))))
+loop-holds c = (search needs, search needs, coming-start (ap (setRecords _ _ 0) (sub-zero (c .before .args .blocks))))
 
 loop-again : tie.Need-loop-again Inv-loop μ-loop
 loop-again c =
