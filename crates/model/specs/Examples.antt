@@ -97,8 +97,8 @@ abbrev lastSpan : ℕ → List DependencyPathEntry → ℕ
 lastSpan s [] = s
 lastSpan s (e ∷ es) = lastSpan (e .span) es
 
--- a path of identifier 1, returned, assumed or of a set: reactive as the first candidate is, with the
--- span of its last entry, or the first candidate's where it has none
+-- a path of identifier 1, returned, assumed or of a set: reactive as the first candidate is, with
+-- the span of its last entry, or the first candidate's where it has none
 abbrev one : List DependencyPathEntry → ReactiveScopeDependency
 one es = pathOf 1 true (lastSpan 1 es) es
 

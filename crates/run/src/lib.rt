@@ -27,8 +27,8 @@ fn respond(operation: Operation, space: &[u8], got: usize, out: &mut [u8]) -> us
 }
 
 // The program of the operation. Of a job longer than 65,536 bytes the rest is not read: the program
-// writes the same of its first bytes (`first-bytes`). How many bytes were given to be written: as many
-// as there are of the job that was read, of which no contract of input and output says more.
+// writes the same of its first bytes (`first-bytes`). How many bytes were given to be written: as
+// many as there are of the job that was read, of which no contract of input and output says more.
 pub fn run(operation: Operation) -> usize
     ensures { λ r. ⌜ Runs operation r ⌝ }
 {

@@ -121,11 +121,13 @@ module _ (bs : List Block) (via : BlockId) (ok : ProperBlocks bs) (s : List Bloc
       go b (inr h) =
           let c = h .0 in
           let p = on-place c (h .1) in
-          inr (precedes-successor bs ok b (OnRun bs s) (placeOf bs (c .id)) (p .0) (p .1) (subst (Precedes (blockAt bs b)) (sym (p .2)) (h .2)))
+          inr (precedes-successor bs ok b (OnRun bs s) (placeOf bs (c .id)) (p .0) (p .1)
+          (subst (Precedes (blockAt bs b)) (sym (p .2)) (h .2)))
 
   pub on-via : OnRun bs s (placeOf bs via)
   on-via = go s (run .passes) (λ c m. on-place c m .1)
     where
-      go : (t : List Block) → Some (λ b. b .id ≡ via) t → ((c : Block) → Member c t → OnRun bs s (placeOf bs (c .id))) → OnRun bs s (placeOf bs via)
+      go : (t : List Block) → Some (λ b. b .id ≡ via) t → ((c : Block) → Member c t → OnRun bs s (placeOf bs (c .id))) → OnRun bs s
+          (placeOf bs via)
       go (c ∷ t) (inl e) f = subst (λ i. OnRun bs s (placeOf bs i)) e (f c (inl refl))
       go (c ∷ t) (inr r) f = go t r (λ d m. f d (inr m))

@@ -1,4 +1,5 @@
--- The bytes to be written are a part of the buffer, and as many as the program's output of the job read.
+-- The bytes to be written are a part of the buffer, and as many as the program's output of the job
+-- read.
 use Prim.Native.Nat.{ℕ, _≤_}
 use native.Mathlib.Omega.{arith}
 use mathlib.Core.Path.{_≡_, sym}
