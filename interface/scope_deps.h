@@ -49,7 +49,7 @@ enum scope_deps_refusal {
  *   that can be read and written;
  * - the two do not overlap, and nothing else writes to either during the call.
  *
- * The call takes no memory but stack, at most 64 KiB, and keeps nothing after it
+ * The call takes no memory but stack, at most 64 KiB as measured, and keeps nothing after it
  * returns. So calls on different buffers may run at the same time.
  */
 int64_t scope_deps_answer(const uint8_t *job, size_t job_len, uint8_t *out, size_t out_len);

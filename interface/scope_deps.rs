@@ -37,7 +37,8 @@ unsafe extern "C" {
 ///
 /// Gives the number of bytes written, or the number of the refusal, 1 to 9. Bytes of
 /// `out` beyond that number stay as they were; at a refusal all of them do. Any bytes
-/// and any lengths are allowed. The call takes no memory but stack, at most 64 KiB.
+/// and any lengths are allowed. The call takes no memory but stack,
+/// at most 64 KiB as measured.
 pub fn answer(job: &[u8], out: &mut [u8]) -> Result<usize, u8> {
     // SAFETY: a slice's pointer is not null and good for its length, and `out` is
     // borrowed alone.

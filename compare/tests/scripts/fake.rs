@@ -85,7 +85,8 @@ else
 fi
 "#;
 
-/// Builds programs that say how they were built, and their words.
+/// Builds programs that say how they were built, and their words. The tool without the library
+/// reads any file but one called `bad.job`, and ends with status 3 where a command asks the stage.
 const CARGO: &str = r#"#!/usr/bin/env bash
 echo "cargo $*" >>"$FAKE_CALLS"
 kind=whole
@@ -95,6 +96,10 @@ while [ $# -gt 0 ]; do
 done
 mkdir -p "$target/release"
 printf '%s\n' '#!/usr/bin/env bash' "echo $kind: \$*" >"$target/release/$program"
+if [ $kind = light ]; then
+  printf '%s\n' 'case " $* " in *" bad.job "*) exit 1 ;; *" --help "*) exit ;; esac' \
+    'case ${1:-} in answer | sheet | explain | draw) exit 3 ;; esac' >>"$target/release/$program"
+fi
 chmod +x "$target/release/$program"
 "#;
 

@@ -231,7 +231,7 @@ fn what_asks_the_stage_has_the_library_made_first() {
             saying(fake.run("bin/scope-deps", &[command, "x"]), &parts),
             format!("whole: {command} x\n")
         );
-        assert_eq!(fake.calls(), ["rt staticlib", "cargo build"]);
+        assert_eq!(fake.calls(), ["cargo build", "rt staticlib", "cargo build"]);
         // All is built: nothing is needed and nothing is written.
         fake.without("rt");
         fake.without("cargo");
@@ -244,6 +244,16 @@ fn what_asks_the_stage_has_the_library_made_first() {
         );
         assert_eq!(fake.files(), files);
     }
+}
+
+#[test]
+fn a_file_that_cannot_be_read_is_told_before_anything_is_proved() {
+    let fake = Fake::new("told-first");
+    let said = fake.run("bin/scope-deps", &["explain", "--all", "-o", "x", "bad.job"]).without_building();
+    assert_eq!((said.status, said.messages.as_str()), (1, "light: explain --all -o x bad.job\n"));
+    assert_eq!(fake.calls(), ["cargo build"]);
+    // Standard input is not read before it is needed.
+    saying(fake.run("bin/scope-deps", &["explain", "-o", "bad.job"]), &["library is missing"]);
 }
 
 #[test]

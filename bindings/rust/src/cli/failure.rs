@@ -30,6 +30,8 @@ impl Failure {
     pub fn exit_code(&self) -> ExitCode {
         match self {
             Self::Misused(_) => ExitCode::from(2),
+            // The job was read; `bin/scope-deps` goes on from there.
+            Self::BuiltWithout("library") => ExitCode::from(3),
             _ => ExitCode::FAILURE,
         }
     }
