@@ -11,7 +11,6 @@ use Rattle.entries.specs.declared.IdentifierId.{IdentifierId}
 use Rattle.entries.specs.declared.DependencyPathEntry.{DependencyPathEntry}
 use Rattle.entries.specs.declared.Refusal.{Refusal}
 use Rattle.entries.specs.Path.{ReactiveScopeDependency}
-use Rattle.model.specs.Lists.{firstFlag, firstFlag}
 use Rattle.model.specs.ReadingBytes.{got, refused, readMany}
 use Rattle.model.specs.Job.{CA, readEntry, readPath}
 use Rattle.model.specs.Sets.{NodeSet}
@@ -36,11 +35,11 @@ use Rattle.job.proofs.Heads.{pathOf}
 use Rattle.job.proofs.Many.{many-first}
 use Rattle.job.proofs.Passing.{not-both}
 use Rattle.job.proofs.RecordParts.{PathParts, path-parts}
-use Rattle.hoistable.specs.Levels.{levelsOf, nonNullLevels, laterLevels, numberOf}
+use Rattle.hoistable.specs.Levels.{levelsOf, nonNullLevels, numberOf}
 use Rattle.hoistable.specs.Candidate.{entriesAt, Candidate}
 use Rattle.hoistable.proofs.Names.{candidate-read}
 use Rattle.hoistable.proofs.Walks.{number-first, number-later}
-use Rattle.tree.specs.Walk.{restFlags, bitsOf, walkBy, pathAt}
+use Rattle.tree.specs.Walk.{bitsOf, walkBy, pathAt}
 use Rattle.tree.specs.Tree.{Held, Adds, countIn, forestOf}
 use Rattle.tree.proofs.Caller.{path-at, FlagsAt, walk-by-flags}
 use Rattle.answer_bytes.specs.Answers.{CandidatesAt, AddsCandidates}

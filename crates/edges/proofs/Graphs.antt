@@ -21,7 +21,7 @@ use Rattle.graph.proofs.Neighbours.{none-among}
 use Rattle.edges.specs.Rows.{RowsFilled}
 use Rattle.edges.specs.Order.{orderFrom, Ordered}
 use Rattle.edges.specs.Successors.{RankFits, RanksFit, namesAsPredecessor, AllMarked}
-use Rattle.edges.proofs.Ordering.{order-more}
+use Rattle.edges.proofs.Ordering.{order-more, map-same}
 
 -- Lists by place.
 
@@ -138,11 +138,7 @@ module _ (rows : ℕ → List ℕ) (n : ℕ) (order g₀ g₁ g₂ : List ℕ) (
 
     order-is : map (blockOfRank g) (placesFrom (128 - n) (128 - (128 - n))) ≡ order
     unfolding orderFrom
-    order-is = map-places (blockOfRank g) (blockOfRank g₂) (128 - (128 - n)) (128 - n) (λ q a b. rank-is q (omega arith)) ∙ x₂ .ranks
-      where
-        map-places : (f h : ℕ → ℕ) (m r : ℕ) → ((q : ℕ) → r ≤ q → q < r + m → f q ≡ h q) → map f (placesFrom r m) ≡ map h (placesFrom r m)
-        map-places f h zero r e = refl
-        map-places f h (suc m) r e = rw (e r (omega arith) (omega arith), map-places f h m (suc r) (λ q a b. e q (omega arith) (omega arith)))
+    order-is = map-same (blockOfRank g) (blockOfRank g₂) (128 - (128 - n)) (128 - n) (λ q a b. rank-is q (omega arith)) ∙ x₂ .ranks
 
     pub successors-are : (b : ℕ) → b < 128 → successorsFrom g b 0 ≡ select (λ j. anyOf (eqb b) (rows j)) order
     unfolding successorsFrom

@@ -10,9 +10,10 @@ use Rattle.entries.specs.declared.BlockId.{BlockId}
 use Rattle.model.specs.Tests.{by-cond, eqb-equal, eqb-apart}
 use Rattle.model.specs.ReadingBytes.{got, readNumber}
 use Rattle.model.specs.Job.{sameBlock}
+use Rattle.laws.specs.Fits.{holds-got}
 use Rattle.job.specs.Head.{readBlockHead}
 use Rattle.job.specs.declared.BlockHead.{BlockHead}
-use Rattle.job.proofs.Bounds.{held, predecessors-most}
+use Rattle.job.proofs.Bounds.{predecessors-most}
 use Rattle.edges.specs.Rows.{idsFrom, idsNoted, placeAmong, placesNoted, rowAt, withRow}
 
 -- The search for a place, from k on.
@@ -99,7 +100,7 @@ unfolding rowAt
 row-noted s at ids n e = rw e
 
 pub noted-few : (s : List ℕ) (at : ℕ) {head : BlockHead} {idsAt : ℕ} → readBlockHead s at ≡ got head idsAt → head .predecessors ≤ 64
-noted-few s at e = held (λ (h : BlockHead). h .predecessors ≤ 64) e (predecessors-most s at)
+noted-few s at e = holds-got (λ (h : BlockHead). h .predecessors ≤ 64) e (predecessors-most s at)
 
 pub row-stored : (g h : List ℕ) (b : ℕ) (row noted : List ℕ) (n : ℕ) → row ≡ noted → n ≡ length noted → h ≡ sets g (b * 64) noted → set h
     (8192 + b) n ≡ withRow g b row

@@ -11,8 +11,7 @@ use Rattle.entries.specs.declared.DependencyPathEntry.{DependencyPathEntry}
 use Rattle.entries.specs.declared.HoistableAccessType.the-variants.{Optional, NonNull}
 use Rattle.entries.specs.Path.{ReactiveScopeDependency}
 use Rattle.model.specs.Lists.{select}
-use Rattle.model.specs.Tests.{by-cond, decide, never, eqb-same, eqb-true}
-use Rattle.model.specs.RegistryLaws.{property-same, property-true}
+use Rattle.model.specs.Tests.{by-cond, decide}
 use Rattle.model.specs.Sets.{NodeSet}
 use Rattle.model.specs.Registry.{PropertyPathRegistry, fullPathOf}
 use Rattle.model.specs.Forest.{Key, identifierKey, propertyKey, sameKey, Forest, empty, position, findKey, chain, add, addAll}
@@ -28,24 +27,11 @@ use Rattle.model.specs.Tree.{
   accessIsNonNull,
   startsOptional,
 }
+use Rattle.laws.specs.ForestLaws.{key-true, key-apart}
+use Rattle.laws.specs.TreeLaws.{nameKeys}
 use Rattle.hoistable.specs.declared.Levels.{Levels}
 use Rattle.hoistable.specs.Levels.{levelsOf, nonNullLevels, numberOf}
 use Rattle.hoistable.specs.Agreement.{agreed, levelsAlong, over, decided, HoldsLevels}
-
--- Keys.
-
-key-same : (k : Key) → sameKey k k ≡ true
-key-same (identifierKey i) = eqb-same (i .0)
-key-same (propertyKey p) = property-same p
-
-key-true : (a b : Key) → sameKey a b ≡ true → a ≡ b
-key-true (identifierKey i) (identifierKey j) e = let n : i .0 ≡ j .0 = eqb-true (i .0) (j .0) e in ap identifierKey (λ d. record { 0 = n d })
-key-true (identifierKey i) (propertyKey q) e = never e refl
-key-true (propertyKey p) (identifierKey j) e = never e refl
-key-true (propertyKey p) (propertyKey q) e = ap propertyKey (property-true p q e)
-
-key-apart : (a b : Key) → sameKey a b ≡ false → sameKey b a ≡ false
-key-apart a b e = decide (sameKey b a) (λ t. never (ap (sameKey a) (key-true b a t) ∙ key-same a) e) (λ t. t)
 
 -- Several lists, the first ones first.
 
@@ -118,9 +104,6 @@ all-levels f (w ∷ ws) ks = all-levels (add hoistableKey firstMade f w) ws ks �
 
 -- The positions of a path along a candidate's names.
 
-abbrev names : List DependencyPathEntry → List Key
-names es = map (λ (e : DependencyPathEntry). propertyKey (e .property)) es
-
 before-optional : (ds : List DependencyPathEntry) → not (accessIsNonNull (accessBefore ds)) ≡ startsOptional ds
 before-optional ds = go (startsOptional ds)
   where
@@ -131,17 +114,17 @@ before-optional ds = go (startsOptional ds)
 abbrev positionBefore : Key → List DependencyPathEntry → HoistablePosition
 positionBefore k ds = record { key = k; access = accessBefore ds }
 
-path-levels : (j k : Key) (ds es : List DependencyPathEntry) → wayLevels (positionBefore j ds ∷ hoistableEntries ds) (k ∷ names es) ≡ cond (sameKey j k)
+path-levels : (j k : Key) (ds es : List DependencyPathEntry) → wayLevels (positionBefore j ds ∷ hoistableEntries ds) (k ∷ nameKeys es) ≡ cond (sameKey j k)
     (agreed ds es) []
 path-levels j k [] es = refl
 path-levels j k (d ∷ ds) [] = ap (λ b. cond (sameKey j k) (b ∷ []) []) (before-optional (d ∷ ds))
 path-levels j k (d ∷ ds) (e ∷ es) =
-    ap (λ b. cond (sameKey j k) (b ∷ wayLevels (positionBefore (propertyKey (d .property)) ds ∷ hoistableEntries ds) (names (e ∷ es))) [])
+    ap (λ b. cond (sameKey j k) (b ∷ wayLevels (positionBefore (propertyKey (d .property)) ds ∷ hoistableEntries ds) (nameKeys (e ∷ es))) [])
     (before-optional (d ∷ ds))
     ∙ ap (λ bs. cond (sameKey j k) (d .optional ∷ bs) []) (path-levels (propertyKey (d .property)) (propertyKey (e .property)) ds es)
 
 paths-levels : (i : IdentifierId) (es : List DependencyPathEntry) (ds : List ReactiveScopeDependency)
-    → map (wayLevelsAt (identifierKey i ∷ names es)) (map hoistablePositions ds) ≡ map (levelsAlong i es) ds
+    → map (wayLevelsAt (identifierKey i ∷ nameKeys es)) (map hoistablePositions ds) ≡ map (levelsAlong i es) ds
 paths-levels i es [] = refl
 paths-levels i es (d ∷ ds) = λ j. path-levels (identifierKey (d .identifier)) (identifierKey i) (d .path) es j ∷ paths-levels i es ds j
 
@@ -159,12 +142,12 @@ decided-split i es xs ys (d ∷ ds) =
     (λ e. rw e (decided-split i es xs (over ys (levelsAlong i es d)) ds))
 
 tree-decided : (i : IdentifierId) (es : List DependencyPathEntry) (ds : List ReactiveScopeDependency) → treeLevels (hoistableTree ds)
-    (identifierKey i ∷ names es) ≡ decided i es [] [] ds
+    (identifierKey i ∷ nameKeys es) ≡ decided i es [] [] ds
 unfolding hoistableTree ordered
 tree-decided i es ds =
     let p : ReactiveScopeDependency → Bool = λ d. startsOptional (d .path) in
     let q : ReactiveScopeDependency → Bool = λ d. not (startsOptional (d .path)) in
-    all-levels empty (map hoistablePositions (ordered ds)) (identifierKey i ∷ names es)
+    all-levels empty (map hoistablePositions (ordered ds)) (identifierKey i ∷ nameKeys es)
     ∙ ap (overAll []) (paths-levels i es (ordered ds) ∙ map-append (levelsAlong i es) (select p ds) (select q ds))
     ∙ over-append [] (map (levelsAlong i es) (select p ds)) (map (levelsAlong i es) (select q ds))
     ∙ sym (decided-split i es [] [] ds)
@@ -181,7 +164,7 @@ tree-none empty = refl
 tree-none (position p c r) = refl
 
 levels-number : (f : Forest HoistablePosition) (k : Key) (es : List DependencyPathEntry) → numberOf (levelsOf (findKey hoistableKey f k) es) ≡ numberOf
-    (map not (treeLevels f (k ∷ names es)))
+    (map not (treeLevels f (k ∷ nameKeys es)))
 unfolding numberOf levelsOf
 levels-number empty k es = none-levels es
 levels-number (position p c r) k [] =

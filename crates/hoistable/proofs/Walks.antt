@@ -9,10 +9,10 @@ use mathlib.Core.Option.{Option}
 use lib.ListN.{length, getD}
 use lib.Dec.{eqb}
 use Rattle.entries.specs.declared.DependencyPathEntry.{DependencyPathEntry}
-use Rattle.model.specs.Lists.{firstFlag}
+use Rattle.model.specs.Lists.{firstFlag, restFlags}
 use Rattle.model.specs.Forest.{propertyKey, Found, childByKey}
 use Rattle.model.specs.Tree.{HoistablePosition, hoistableKey}
-use Rattle.hoistable.specs.Levels.{levelsOf, laterLevels, numberOf}
+use Rattle.hoistable.specs.Levels.{levelsOf, numberOf}
 
 pub levels-length : (h : Option (Found HoistablePosition)) (es : List DependencyPathEntry) → length (levelsOf h es) ≡ suc (length es)
 unfolding levelsOf
@@ -33,7 +33,7 @@ number-first [] = refl
 number-first (true ∷ bs) = rw (lowest-bit true bs)
 number-first (false ∷ bs) = rw (lowest-bit false bs)
 
-pub number-later : (bs : List Bool) → numberOf bs / 2 ≡ numberOf (laterLevels bs)
+pub number-later : (bs : List Bool) → numberOf bs / 2 ≡ numberOf (restFlags bs)
 unfolding numberOf
 number-later [] = refl
 number-later (true ∷ bs) = omega arith

@@ -6,7 +6,6 @@ use mathlib.Core.List.{List, [], _∷_, map}
 use mathlib.Core.Option.{Option}
 use Rattle.entries.specs.declared.IdentifierId.{IdentifierId}
 use Rattle.entries.specs.declared.DependencyPathEntry.{DependencyPathEntry}
-use Rattle.model.specs.Lists.{firstFlag}
 use Rattle.model.specs.Answer.{flag}
 use Rattle.model.specs.Sets.{NodeSet}
 use Rattle.model.specs.Registry.{PropertyPathRegistry, fullPathOf}
@@ -23,11 +22,6 @@ levelsOf h (e ∷ es) = atNonNull h ∷ levelsOf (childByKey hoistableKey h (pro
 unfoldable pub nonNullLevels : PropertyPathRegistry → NodeSet → IdentifierId → List DependencyPathEntry → List Bool
 unfolding levelsOf
 nonNullLevels reg set i es = levelsOf (findKey hoistableKey (hoistableTree (map (fullPathOf reg) set)) (identifierKey i)) es
-
--- the others
-abbrev pub laterLevels : List Bool → List Bool
-laterLevels [] = []
-laterLevels (b ∷ bs) = bs
 
 -- a list as a number: bit j is 1 where element j is true
 unfoldable pub numberOf : List Bool → ℕ

@@ -10,10 +10,11 @@ use lib.Seq.{sets, getD-take}
 use Rattle.entries.specs.declared.Refusal.the-variants.{RepeatedId, UnknownBlock}
 use Rattle.model.specs.ReadingBytes.{got, refused, readMany}
 use Rattle.model.specs.Job.{HD, CA, Header, Job, idsOf, readPath, readBlock, readRecords, hasRepeat, hasUnknown, acceptIds, readJob}
+use Rattle.laws.specs.Fits.{holds-got}
 use Rattle.job.specs.Kept.{notePlace, noteNumber, blockNotes, blockPlaces, blockNumbers, candidatesAt, headOf, keptOf}
 use Rattle.job.specs.declared.JobHead.{JobHead}
 use Rattle.job.specs.declared.ReadJob.the-variants.{Value}
-use Rattle.job.proofs.Bounds.{held, blocks-most, candidates-most}
+use Rattle.job.proofs.Bounds.{blocks-most, candidates-most}
 use Rattle.job.proofs.Many.{many-length, Again, read-again}
 use Rattle.job.proofs.Passing.{not-both, then-got}
 use Rattle.job.proofs.Records.{Parts, parts, answer-value}
@@ -67,8 +68,8 @@ module _ (s : List ℕ) (j : Job) (p : Parts s j) where
     keeps = refl;
     no-repeat = repeat;
     no-unknown = unknown;
-    blocks-few = omega (arith, block-count s j p, held (λ (h : Header). h .blocks ≤ 128) (p .header-read) (blocks-most HD s 0));
-    candidates-few = omega (arith, candidate-count, held (λ (h : Header). h .candidates ≤ 64) (p .header-read) (candidates-most HD s 0));
+    blocks-few = omega (arith, block-count s j p, holds-got (λ (h : Header). h .blocks ≤ 128) (p .header-read) (blocks-most HD s 0));
+    candidates-few = omega (arith, candidate-count, holds-got (λ (h : Header). h .candidates ≤ 64) (p .header-read) (candidates-most HD s 0));
     places-count = note-count s j p notePlace ∙ sym (block-count s j p);
     numbers-count = note-count s j p noteNumber ∙ sym (block-count s j p);
     numbers-are = ids-are s j p;

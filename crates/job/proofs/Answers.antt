@@ -8,11 +8,12 @@ use lib.Seq.{sets, length-sets}
 use Rattle.entries.specs.declared.Refusal.{Refusal}
 use Rattle.model.specs.ReadingBytes.{Read, andThen}
 use Rattle.model.specs.Job.{HD, Header, Block, Job, readBlock, readRecords, acceptIds, readJob}
+use Rattle.laws.specs.Fits.{holds-got}
 use Rattle.job.specs.Ids.{BlocksRead, checkedBy}
 use Rattle.job.specs.Kept.{notePlace, blockNotes, blockPlaces, blockNumbers, keptOf}
 use Rattle.job.specs.declared.JobHead.{JobHead}
 use Rattle.job.specs.declared.ReadJob.the-variants.{Value, Refused}
-use Rattle.job.proofs.Bounds.{held, blocks-most}
+use Rattle.job.proofs.Bounds.{blocks-most}
 use Rattle.job.proofs.Many.{many-length, notes-length, read-again}
 use Rattle.job.proofs.Stored.{Stored, stored}
 use Rattle.job.proofs.Records.{Parts, parts, answer-value, answer-refused}
@@ -32,7 +33,7 @@ module _ (s : List ℕ) (j : Job) (p : Parts s j) where
   block-count = many-length (readBlock 4) s (p .header .blocks) (p .blocksAt) (p .blocks-read)
 
   few : p .header .blocks ≤ 128
-  few = held (λ (h : Header). h .blocks ≤ 128) (p .header-read) (blocks-most HD s 0)
+  few = holds-got (λ (h : Header). h .blocks ≤ 128) (p .header-read) (blocks-most HD s 0)
 
   pub note-count : (f : ℕ → Block → ℕ) → length (blockNotes f s) ≡ p .header .blocks
   unfolding blockNotes

@@ -17,9 +17,6 @@ use Rattle.job.specs.declared.PathHead.{PathHead}
 use Rattle.job.specs.declared.BlockHead.{BlockHead}
 use Rattle.job.proofs.Fields.{header-fields}
 
-pub held : {A : Type 0} (P : A → Type 0) {x : Read A} {a : A} {n : ℕ} → x ≡ got a n → HoldsIfRead P x → P a
-held P e h = rw e at h
-
 -- where nothing of the first part matters
 pub holds-after : {A B : Type 0} (Q : B → Type 0) (x : Read A) (rest : A → ℕ → Read B)
     → ((a : A) (n : ℕ) → HoldsIfRead Q (rest a n)) → HoldsIfRead Q (andThen x rest)

@@ -7,8 +7,7 @@ use native.Mathlib.Omega.{arith}
 use lib.ListN.{length, getD, drop}
 use Rattle.model.specs.ReadingBytes.{Read, got, refused, ByteReader, mapped, both, readMany}
 use Rattle.job.specs.Passing.{notes}
-use Rattle.laws.specs.Fits.{HoldsIfRead}
-use Rattle.job.proofs.Bounds.{held}
+use Rattle.laws.specs.Fits.{HoldsIfRead, holds-got}
 use Rattle.job.proofs.Passing.{both-got}
 
 pub holds-mapped : {A B : Type 0} (P : A → Type 0) (Q : B → Type 0) (f : A → B) → ((a : A) → P a → Q (f a))
@@ -30,7 +29,7 @@ module _ {A : Type 0} (read : ByteReader A) (s : List ℕ) where
     many-holds (suc n) at = one-more n at (many-holds n) (read s at) refl
 
     pub many-all : (n at : ℕ) {all : List A} {end : ℕ} → readMany n read s at ≡ got all end → Q n at all
-    many-all n at e = held (Q n at) e (many-holds n at)
+    many-all n at e = holds-got (Q n at) e (many-holds n at)
 
   -- the first record, and the others from the place after it
   pub many-first : (n at : ℕ) {all : List A} {end : ℕ} → 0 < n → readMany n read s at ≡ got all end

@@ -14,8 +14,7 @@ use Rattle.job.specs.Head.{readBlockHead}
 use Rattle.job.specs.Ids.{blockIds, anyUnknown, predecessorsAt, checkedBy}
 use Rattle.job.specs.Kept.{notePlace, noteNumber, blockNotes, blockPlaces, blockNumbers, headOf, keptOf}
 use Rattle.job.specs.declared.BlockHead.{BlockHead}
-use Rattle.laws.specs.Fits.{HoldsIfRead}
-use Rattle.job.proofs.Bounds.{held}
+use Rattle.laws.specs.Fits.{HoldsIfRead, holds-got}
 use Rattle.job.proofs.Passing.{mapped-got}
 use Rattle.job.proofs.Heads.{blockOf, block-by-head}
 use Rattle.job.proofs.Many.{many-holds, many-all}
@@ -69,7 +68,7 @@ tests-agree test s =
     (λ n at all. anyOf (λ at. test (blockIds (predecessorsAt s at))) (notes notePlace n (readBlock 4) s at) ≡ anyOf (λ (b : Block). test (b .predecessors)) all)
     (λ at. refl)
     (λ n at next a rest e q.
-    rw (e, held (λ (b : Block). blockIds (predecessorsAt s at) ≡ b .predecessors) e (predecessors-are s at))
+    rw (e, holds-got (λ (b : Block). blockIds (predecessorsAt s at) ≡ b .predecessors) e (predecessors-are s at))
     (ap (λ (r : Bool). test (a .predecessors) || r) q))
 
 answer-tested : (s : List ℕ) (p q : Bool) (j : Job) (end : ℕ)

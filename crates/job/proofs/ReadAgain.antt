@@ -9,11 +9,11 @@ use Rattle.entries.specs.declared.BlockId.{BlockId}
 use Rattle.entries.specs.declared.Refusal.{Refusal}
 use Rattle.model.specs.ReadingBytes.{Read, got, refused, readMany, readNumber}
 use Rattle.model.specs.Job.{PA, readBlockId, readPath, readBlock, blockId}
+use Rattle.laws.specs.Fits.{holds-got}
 use Rattle.job.specs.Passing.{IsRead, notes, noteValue}
 use Rattle.job.specs.Head.{readBlockHead}
 use Rattle.job.specs.Ids.{blockIds}
 use Rattle.job.specs.declared.BlockHead.{BlockHead}
-use Rattle.job.proofs.Bounds.{held}
 use Rattle.job.proofs.Passing.{not-both, mapped-got, then-got, both-got}
 use Rattle.job.proofs.Heads.{blockOf, block-by-head}
 use Rattle.job.proofs.Many.{many-first, many-length}
@@ -57,5 +57,5 @@ pub count-again : (s : List ℕ) (n at : ℕ) → IsRead (readMany n readBlockId
 count-again s n at ids =
     let numbers = notes noteValue n (readNumber 4) s at in
     sym (length-map numbers blockId)
-    ∙ ap length (held (λ all. blockIds numbers ≡ all) (ids .read) (numbers-noted s n at))
+    ∙ ap length (holds-got (λ all. blockIds numbers ≡ all) (ids .read) (numbers-noted s n at))
     ∙ many-length readBlockId s n at (ids .read)

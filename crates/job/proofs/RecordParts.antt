@@ -10,10 +10,11 @@ use Rattle.entries.specs.declared.DependencyPathEntry.{DependencyPathEntry}
 use Rattle.entries.specs.Path.{ReactiveScopeDependency}
 use Rattle.model.specs.ReadingBytes.{got, readMany, readMark}
 use Rattle.model.specs.Job.{PA, Block, readBlockId, readEntry, readPath, readBlock}
+use Rattle.laws.specs.Fits.{holds-got}
 use Rattle.job.specs.Head.{readPathHead, readBlockHead}
 use Rattle.job.specs.declared.PathHead.{PathHead}
 use Rattle.job.specs.declared.BlockHead.{BlockHead}
-use Rattle.job.proofs.Bounds.{held, predecessors-most, entries-most}
+use Rattle.job.proofs.Bounds.{predecessors-most, entries-most}
 use Rattle.job.proofs.Ends.{ended-at, mark-ends, id-ends, entry-ends, path-head-ends, block-head-ends, block-head-within, many-ends}
 use Rattle.job.proofs.Heads.{pathOf, path-by-head, blockOf, block-by-head}
 use Rattle.job.proofs.Many.{many-length}
@@ -46,7 +47,7 @@ module _ (s : List ℕ) (at : ℕ) (b : Block) (next : ℕ) (head : BlockHead) (
     head-read = rw (← ids-place) r₁;
     head-within = rw (← ids-place) (block-head-within s at r₁);
     id = rw (← same);
-    predecessors-few = held (λ (h : BlockHead). h .predecessors ≤ 64) r₁ (predecessors-most s at);
+    predecessors-few = holds-got (λ (h : BlockHead). h .predecessors ≤ 64) r₁ (predecessors-most s at);
     predecessors-count = rw (← same) (many-length readBlockId s (head .predecessors) idsAt r₂);
     assumed-count = rw (← same) (many-length (readPath 4 PA) s (head .assumed) pathsAt r₃);
     predecessors-read = rw (← paths-place, ← ids-place, ← same) r₂;
@@ -85,7 +86,7 @@ module _ (s : List ℕ) (mark at : ℕ) (p : ReactiveScopeDependency) (next head
     head = head;
     head-read = rw (← entries-place, ← head-place) r₂;
     same = rw (← same);
-    entries-few = held (λ (h : PathHead). h .entries ≤ 16) r₂ (entries-most s headAt);
+    entries-few = holds-got (λ (h : PathHead). h .entries ≤ 16) r₂ (entries-most s headAt);
     entries-count = rw (← same) (many-length (readEntry 4) s (head .entries) entriesAt r₃);
     entries-read = rw (← entries-place, ← same) r₃;
     end = rw (← entries-place) (ended-at (entriesAt + 14 * head .entries) r₃ (many-ends 14 (readEntry 4) s (entry-ends s) (head .entries) entriesAt));

@@ -101,8 +101,8 @@ holds-mapped : {A B : Type 0} (P : A → Type 0) (Q : B → Type 0) (f : A → B
 holds-mapped P Q f (got a next) h g = g a h
 holds-mapped P Q f (refused r) h g = tt
 
-pub holds-got : {A : Type 0} (P : A → Type 0) (x : Read A) (a : A) (next : ℕ) → x ≡ got a next → HoldsIfRead P x → P a
-holds-got P x a next e h = rw e at h
+pub holds-got : {A : Type 0} (P : A → Type 0) {x : Read A} {a : A} {next : ℕ} → x ≡ got a next → HoldsIfRead P x → P a
+holds-got P e h = rw e at h
 
 pub any-value : {A : Type 0} (x : Read A) → HoldsIfRead (λ a. Unit {0}) x
 any-value (got a next) = tt

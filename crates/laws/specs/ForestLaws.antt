@@ -27,7 +27,7 @@ key-true (identifierKey i) (propertyKey q) e = never e refl
 key-true (propertyKey p) (identifierKey j) e = never e refl
 key-true (propertyKey p) (propertyKey q) e = ap propertyKey (property-true p q e)
 
-key-apart : (a b : Key) → sameKey a b ≡ false → sameKey b a ≡ false
+pub key-apart : (a b : Key) → sameKey a b ≡ false → sameKey b a ≡ false
 key-apart a b e = decide (sameKey b a) (λ t. never (ap (sameKey a) (key-true b a t) ∙ key-same a) e) (λ t. t)
 
 -- Lists of keys.

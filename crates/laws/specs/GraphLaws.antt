@@ -3,12 +3,13 @@
 use Prim.Native.Nat.{ℕ, zero, suc, _+_, _≤_, _<_}
 use native.Mathlib.Nat.{not-suc-le-zero}
 use native.Mathlib.Omega.{arith}
-use mathlib.Core.Path.{_≡_, refl, sym, ap, subst, _∙_}
+use mathlib.Core.Path.{_≡_, sym, ap, subst, _∙_}
 use mathlib.Core.Logic.{_⊎_, inl, inr}
-use mathlib.Core.Bool.{Bool, true, false, _||_, not, cond}
+use mathlib.Core.Bool.{true, false, _||_, not, cond}
 use mathlib.Core.List.{List, [], _∷_, _++_, map}
 use lib.ListN.{length, getD}
 use lib.Dec.{eqb, ltb}
+use borrow.Author.Tests.{not-false}
 use Rattle.entries.specs.declared.BlockId.{BlockId}
 use Rattle.model.specs.Lists.{select, anyOf}
 use Rattle.model.specs.Tests.{by-cond, decide, never, eqb-same, eqb-true, eqb-false, or-cases, or-second}
@@ -135,10 +136,6 @@ module _ (P : ℕ → Type 0) (bs : List Block) where
 pub record ProperBlocks (bs : List Block) : Type 0 where
   pub distinct : repeats (idsOf bs) ≡ false
   pub known : All (λ b. All (λ i. Member i (idsOf bs)) (b .predecessors)) bs
-
-not-false : (b : Bool) → not b ≡ false → b ≡ true
-not-false true e = refl
-not-false false e = never refl e
 
 -- the blocks of a job that refusals 7 and 8 let pass
 pub proper-blocks : (j : Job) → hasRepeat j ≡ false → hasUnknown j ≡ false → ProperBlocks (j .blocks)

@@ -75,7 +75,8 @@ merged-dependency p q = dependency-of (isOptionalAccess (p .access) && isOptiona
 
 -- The walk is a beginning of the candidate's way down, and its end is a dependency.
 
-abbrev nameKeys : List DependencyPathEntry → List Key
+-- the keys of a path's names
+abbrev pub nameKeys : List DependencyPathEntry → List Key
 nameKeys [] = []
 nameKeys (e ∷ es) = propertyKey (e .property) ∷ nameKeys es
 

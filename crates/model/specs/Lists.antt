@@ -33,3 +33,8 @@ concatMap f (x ∷ xs) = f x ++ concatMap f xs
 abbrev pub firstFlag : List Bool → Bool
 firstFlag [] = false
 firstFlag (b ∷ bs) = b
+
+-- and the flags after it
+abbrev pub restFlags : List Bool → List Bool
+restFlags [] = []
+restFlags (b ∷ bs) = bs

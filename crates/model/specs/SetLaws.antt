@@ -3,7 +3,7 @@ use Prim.Native.Nat.{ℕ, zero, suc, _+_, _≤_, _<_}
 use native.Mathlib.Nat.{le-refl, le-trans}
 use native.Mathlib.Omega.{arith}
 use mathlib.Core.Path.{_≡_, refl, sym, ap, subst, _∙_}
-use mathlib.Core.Bool.{Bool, true, false, _||_, not, cond, or-self-left}
+use mathlib.Core.Bool.{Bool, true, _||_, not, cond, or-self-left}
 use mathlib.Core.List.{List, [], _∷_, foldl}
 use lib.Dec.{eqb, ltb}
 use Rattle.entries.specs.declared.NodeId.{NodeId}
@@ -19,6 +19,7 @@ use Rattle.model.specs.Tests.{
   eqb-apart,
   ltb-true,
   ltb-false,
+  or-swap,
   or-second,
   or-cases,
 }
@@ -107,11 +108,6 @@ contains-inserted k j (x ∷ xs) =
     (λ t. ap (λ y. sameNode y j || contains xs j) (same-node x k t) ∙ sym
     (ap (λ y. sameNode k j || (sameNode y j || contains xs j)) (same-node x k t) ∙ or-self-left (sameNode k j) (contains xs j)))
     (λ t. ap (λ y. sameNode x j || y) (contains-inserted k j xs) ∙ or-swap (sameNode x j) (sameNode k j) (contains xs j)))
-  where
-    or-swap : (a b c : Bool) → a || (b || c) ≡ (b || (a || c))
-    or-swap true true c = refl
-    or-swap true false c = refl
-    or-swap false b c = refl
 
 pub contains-select : (test : NodeId → Bool) (j : NodeId) (s : NodeSet) → test j ≡ true → contains s j ≡ true → contains
     (select test s) j ≡ true

@@ -4,6 +4,7 @@ use native.Mathlib.Omega.{arith}
 use mathlib.Core.Path.{_≡_, refl, sym, ap}
 use mathlib.Core.Bool.{Bool, true, false, _&&_, _||_, not, cond, true≢false, false≢true, Bool·beq}
 use lib.Dec.{T, eqb, ltb, eqb→eq, eqb-refl, ltb→lt, lt→ltb, nltb→le}
+use Rattle.model.specs.Answer.{flag}
 
 -- to show something of `cond b x y`, show it of each branch with what its test says
 pub by-cond {ℓ κ} : {A : Type ℓ} (Q : A → Type κ) (b : Bool) {x y : A} → (b ≡ true → Q x) → (b ≡ false → Q y) → Q (cond b x y)
@@ -56,6 +57,11 @@ ltb-less a b h = passes-test (lt→ltb a b h)
 pub ltb-not-less : (a b : ℕ) → b ≤ a → ltb a b ≡ false
 ltb-not-less a b h = decide (ltb a b) (λ e. let l = ltb-true a b e in absurd (omega arith)) (λ e. e)
 
+-- whether a flag's number is 1 is the flag
+pub flag-is : (b : Bool) → eqb (flag b) 1 ≡ b
+flag-is true = refl
+flag-is false = refl
+
 pub and-first : (a b : Bool) → a && b ≡ true → a ≡ true
 and-first true b h = refl
 and-first false b h = absurd (false≢true h)
@@ -73,6 +79,11 @@ beq-true true true h = refl
 beq-true true false h = absurd (false≢true h)
 beq-true false true h = absurd (false≢true h)
 beq-true false false h = refl
+
+pub or-swap : (a b c : Bool) → a || (b || c) ≡ (b || (a || c))
+or-swap true true c = refl
+or-swap true false c = refl
+or-swap false b c = refl
 
 pub or-second : (a b : Bool) → b ≡ true → a || b ≡ true
 or-second true b h = refl

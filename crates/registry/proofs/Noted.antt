@@ -2,7 +2,7 @@
 use Prim.Native.Nat.{ℕ, zero, suc, _+_, _≤_, _<_}
 use native.Mathlib.Omega.{arith}
 use mathlib.Core.Path.{_≡_, refl, sym, ap, _∙_, subst}
-use mathlib.Core.Bool.{Bool, true, false, _||_, cond, or-comm, or-false}
+use mathlib.Core.Bool.{Bool, false, _||_, cond, or-comm, or-false}
 use mathlib.Core.List.{List, [], _∷_, _++_}
 use lib.ListN.{length, getD, replicate, length-replicate, getD-replicate, length-append, List·getD-append, List·getD-eq-default}
 use lib.Seq.{getD-append-seam}
@@ -10,7 +10,7 @@ use lib.Dec.{eqb}
 use Rattle.entries.specs.declared.NodeId.{NodeId}
 use Rattle.entries.specs.declared.DependencyPathEntry.{DependencyPathEntry}
 use Rattle.model.specs.Lists.{anyOf}
-use Rattle.model.specs.Tests.{decide, eqb-same, eqb-true, eqb-false}
+use Rattle.model.specs.Tests.{decide, eqb-same, eqb-true, eqb-false, or-swap}
 use Rattle.model.specs.Sets.{NodeSet, sameNode, contains, insert}
 use Rattle.model.specs.SetLaws.{same-node, contains-inserted}
 use Rattle.model.specs.Registry.{PropertyPathRegistry, PropertyPathNode, fullPathOf}
@@ -30,12 +30,7 @@ optional? e = e .optional
 
 any-snoc : (es : List DependencyPathEntry) (e : DependencyPathEntry) → anyOf optional? (es ++ (e ∷ [])) ≡ (e .optional || anyOf optional? es)
 any-snoc [] e = refl
-any-snoc (x ∷ es) e = ap (λ b. x .optional || b) (any-snoc es e) ∙ swap (x .optional) (e .optional) (anyOf optional? es)
-  where
-    swap : (a b c : Bool) → a || (b || c) ≡ (b || (a || c))
-    swap true true c = refl
-    swap true false c = refl
-    swap false b c = refl
+any-snoc (x ∷ es) e = ap (λ b. x .optional || b) (any-snoc es e) ∙ or-swap (x .optional) (e .optional) (anyOf optional? es)
 
 -- a place behind the last node has none
 past-none : (reg : PropertyPathRegistry) (k : NodeId) → length reg ≤ k .0 → hasOptional reg k ≡ false

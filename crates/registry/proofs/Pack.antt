@@ -3,24 +3,20 @@
 use Prim.Native.Nat.{ℕ, _+_, _*_, _/_, _%_, _<_}
 use native.Mathlib.Omega.{arith}
 use mathlib.Core.Bool.{Bool, true, false}
-use mathlib.Core.Path.{_≡_, refl, ap, _∙_, subst}
+use mathlib.Core.Path.{_≡_, ap, _∙_, subst}
 use lib.Dec.{eqb}
 use Rattle.entries.specs.declared.IdentifierId.{IdentifierId}
 use Rattle.entries.specs.declared.NodeId.{NodeId}
 use Rattle.entries.specs.declared.PropertyLiteral.{PropertyLiteral}
 use Rattle.entries.specs.declared.PropertyLiteral.the-variants.{String, Number}
 use Rattle.entries.specs.declared.DependencyPathEntry.{DependencyPathEntry}
-use Rattle.model.specs.Tests.{eqb-apart}
+use Rattle.model.specs.Tests.{eqb-apart, flag-is}
 use Rattle.model.specs.Registry.{rootMark}
 use Rattle.entries.specs.Property.{propertyOf, isNumber, valueOf, property-back}
 use Rattle.model.specs.Answer.{flag}
 use Rattle.registry.specs.declared.Node.{Node}
 use Rattle.registry.specs.declared.Node.the-variants.{Root, Child}
 use Rattle.registry.specs.Words.{ParentFits, parentUnit, linkUnit, unpackBy, unpack}
-
-flag-back : (b : Bool) → eqb (flag b) 1 ≡ b
-flag-back true = refl
-flag-back false = refl
 
 -- The fields of a word: 32 bits, 16 bits, and flags.
 module _ (i p o k r : ℕ) (i< : i < 4294967296) (p< : p < 65536) (o< : o < 2) (k< : k < 2) (r< : r < 2) where
@@ -53,7 +49,7 @@ packed-root i reactive span r i< e r< =
       at-identifier (i .0) 65535 0 0 r i< p< z< z< r<,
       at-reactive (i .0) 65535 0 0 r i< p< z< z< r<,
       e,
-      flag-back,
+      flag-is,
     )
 
 pub packed-child : (p : NodeId) (e : DependencyPathEntry) (o k : ℕ) → p .0 < rootMark → o ≡ flag (e .optional) → o < 2 → k ≡ flag (isNumber (e .property))
@@ -75,8 +71,8 @@ packed-child p e o k p< eo o< ek k< =
       at-number 0 (p .0) o k 0 i< q< o< k< z<,
       eo,
       ek,
-      flag-back,
-      flag-back,
+      flag-is,
+      flag-is,
       property-back,
     )
 

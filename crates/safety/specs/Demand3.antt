@@ -118,7 +118,7 @@ verdict-meets head spanBytes Hypothesis rule meets job out answer bytes e = go
 
     go : Written rule (answerBytes spanBytes) x answer → AnswerMeetsDemand3 head spanBytes Hypothesis job answer
     go w =
-        let fit = holds-got _ x (w .j) (w .end) (w .reads) (job-fits job bytes head spanBytes) in
+        let fit = holds-got _ (w .reads) (job-fits job bytes head spanBytes) in
         record {
           j = w .j;
           end = w .end;
@@ -126,8 +126,7 @@ verdict-meets head spanBytes Hypothesis rule meets job out answer bytes e = go
           answered = answered rule (w .j);
           readsAnswer = subst (λ b. readAnswer spanBytes b 0 ≡ got (answered rule (w .j)) (length b)) (sym (w .written))
               (answer-holds rule spanBytes (w .j) (fit .0) (fit .1));
-          holds = meets (w .j) (holds-got (λ (j : Job). ProperBlocks (j .blocks)) x (w .j) (w .end) (w .reads)
-              (job-proper head spanBytes job));
+          holds = meets (w .j) (holds-got (λ (j : Job). ProperBlocks (j .blocks)) (w .reads) (job-proper head spanBytes job));
         }
 
 -- The theorem.

@@ -2,14 +2,14 @@
 -- the ids noted are its blocks'.
 use Prim.Native.Nat.{ℕ, _*_, _≤_, _<_}
 use native.Mathlib.Omega.{arith}
-use mathlib.Core.Path.{_≡_, refl, sym, ap, subst, _∙_}
-use mathlib.Core.Bool.{Bool, true, false, not}
+use mathlib.Core.Path.{_≡_, sym, ap, subst, _∙_}
+use mathlib.Core.Bool.{false, not}
 use mathlib.Core.List.{List, [], _∷_, map, _++_}
 use lib.ListN.{length, getD, length-append}
+use borrow.Author.Tests.{not-false}
 use Rattle.entries.specs.Path.{ReactiveScopeDependency}
 use Rattle.model.specs.Lists.{concatMap, anyOf}
 use Rattle.model.specs.ListLaws.{All, all-getD}
-use Rattle.model.specs.Tests.{decide, never}
 use Rattle.model.specs.Sets.{NodeSet}
 use Rattle.model.specs.ReadingBytes.{got, readMany}
 use Rattle.model.specs.Job.{HD, CA, Block, Job, readPath, readJob, containsId, idsOf, hasUnknown}
@@ -48,10 +48,6 @@ use Rattle.stage.specs.Jobs.{AcceptedJob, Standing, PutsJob}
 -- bytes stand in the buffer from its start on, and have their room there
 abbrev Stand : List ℕ → List ℕ → List ℕ → ℕ → Type 0
 Stand before after bytes next = Writes before after 0 bytes next × (length bytes ≤ length before)
-
-not-false : (b : Bool) → not b ≡ false → b ≡ true
-not-false true e = refl
-not-false false e = never refl e
 
 -- The scope block is a block of the job, since 8 did not turn it back.
 scope-known : (j : Job) → hasUnknown j ≡ false → Member (j .scope) (idsOf (j .blocks))

@@ -9,7 +9,7 @@ use mathlib.Core.Option.{Option}
 use lib.ListN.{length, length-append}
 use Rattle.entries.specs.declared.DependencyPathEntry.{DependencyPathEntry}
 use Rattle.entries.specs.Path.{ReactiveScopeDependency}
-use Rattle.model.specs.Lists.{concatMap, firstFlag}
+use Rattle.model.specs.Lists.{concatMap, firstFlag, restFlags}
 use Rattle.model.specs.ReadingBytes.{got, readMany}
 use Rattle.model.specs.Job.{readEntry, readPath}
 use Rattle.model.specs.Answer.{DE, flag, entryBytes, pathBytes}
@@ -33,7 +33,7 @@ use Rattle.job.proofs.RecordParts.{path-parts}
 use Rattle.writer.specs.Writes.{pathHeadBytes}
 use Rattle.writer.proofs.Bytes.{entry-length, path-head-length}
 use Rattle.tree.specs.Words.{headAt, entryAt}
-use Rattle.tree.specs.Walk.{restFlags, walkBy, bitsOf, entriesFrom, pathAt}
+use Rattle.tree.specs.Walk.{walkBy, bitsOf, entriesFrom, pathAt}
 use Rattle.tree.specs.Tree.{forestOf, height, Held, returnedOf}
 use Rattle.tree.proofs.Adding.{children-lower, others-lower}
 use Rattle.tree.proofs.Putting.{map-length}

@@ -11,7 +11,7 @@ use Rattle.entries.specs.declared.PropertyAccessType.the-variants.{OptionalAcce
 use Rattle.entries.specs.Access.{isOptionalAccess, isDependencyAccess, accessOf, mergeAccess}
 use Rattle.entries.specs.Path.{sameProperty}
 use Rattle.model.specs.Answer.{flag}
-use Rattle.model.specs.Tests.{decide, eqb-same, eqb-apart}
+use Rattle.model.specs.Tests.{decide, eqb-same, eqb-apart, flag-is}
 use Rattle.model.specs.Forest.{sameKey}
 use Rattle.model.specs.Tree.{DependencyPosition, withMerged, mergePosition}
 use Rattle.job.specs.declared.PathHead.{PathHead}
@@ -36,10 +36,6 @@ flag-small : (b : Bool) → flag b < 2
 flag-small true = omega arith
 flag-small false = omega arith
 
-flag-back : (b : Bool) → eqb (flag b) 1 ≡ b
-flag-back true = refl
-flag-back false = refl
-
 access-back : (a : PropertyAccessType) → accessOf (isOptionalAccess a) (isDependencyAccess a) ≡ a
 access-back OptionalAccess = refl
 access-back UnconditionalAccess = refl
@@ -61,8 +57,8 @@ module _ (p q : ℕ) (a : PropertyAccessType) (p< : p < 65536) (q< : q < 65536) 
       rw (
         at-optional p q _ _ p< q< (flag-small (isOptionalAccess a)) (flag-small (isDependencyAccess a)),
         at-dependency p q _ _ p< q< (flag-small (isOptionalAccess a)) (flag-small (isDependencyAccess a)),
-        flag-back (isOptionalAccess a),
-        flag-back (isDependencyAccess a),
+        flag-is (isOptionalAccess a),
+        flag-is (isDependencyAccess a),
       )
       (access-back a)
 

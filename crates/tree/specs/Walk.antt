@@ -8,16 +8,11 @@ use lib.Dec.{eqb}
 use Rattle.entries.specs.declared.DependencyPathEntry.{DependencyPathEntry}
 use Rattle.entries.specs.declared.PropertyAccessType.{PropertyAccessType}
 use Rattle.entries.specs.Path.{ReactiveScopeDependency}
-use Rattle.model.specs.Lists.{firstFlag}
+use Rattle.model.specs.Lists.{firstFlag, restFlags}
 use Rattle.model.specs.Tree.{DependencyPosition, ended, stepTo, stepAccess}
 use Rattle.model.specs.Answer.{spanWidth}
 use Rattle.tree.specs.declared.Way.{Way}
 use Rattle.tree.specs.Words.{headAt, entryAt, parentIn, pack, positionsFrom}
-
--- the flags of the levels behind it
-abbrev pub restFlags : List Bool → List Bool
-restFlags [] = []
-restFlags (f ∷ fs) = fs
 
 -- `walkEntries` with a flag for each level in the place of the hoistable tree
 abbrev pub walkBy : List Bool → DependencyPosition → List DependencyPathEntry → List DependencyPosition

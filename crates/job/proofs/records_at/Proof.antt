@@ -4,11 +4,12 @@ use borrow.Author.Needs.{needs}
 use Prim.Native.Nat.{_≤_}
 use mathlib.Core.Path.{sym}
 use Rattle.model.specs.Job.{HD, Header}
+use Rattle.laws.specs.Fits.{holds-got}
 use Rattle.fields.specs.Answer.{gotPlace}
 use Rattle.fields.proofs.Reading.{seen}
 use Rattle.job.specs.Kept.{blockNotes}
 use Rattle.job.specs.Answer.{gotHeader}
-use Rattle.job.proofs.Bounds.{held, blocks-most}
+use Rattle.job.proofs.Bounds.{blocks-most}
 use Rattle.job.proofs.Records.{behind, records-fields, blocks-refused, candidates-refused, byte-extra, all-read}
 use Rattle.job.proofs.records_at.Statement.{statement}
 use Rattle.job.proofs.records_at.Tie as tie
@@ -33,7 +34,7 @@ note-blocks-requires : tie.Need-note-blocks-requires
 note-blocks-requires c κs =
     let header = c .before .before .before in
     let head = behind _ _ (header .before .before .before .pre) (header .header .given .1) in
-    held (λ (h : Header). h .blocks ≤ 128) head (blocks-most HD _ 0)
+    holds-got (λ (h : Header). h .blocks ≤ 128) head (blocks-most HD _ 0)
 
 enum-known-past-blocks : tie.Need-enum-known-past-blocks
 enum-known-past-blocks c = search needs

@@ -3,11 +3,12 @@
 use borrow.Author.Needs.{needs}
 use Prim.Native.Nat.{_≤_}
 use mathlib.Core.Path.{sym}
+use Rattle.laws.specs.Fits.{holds-got}
 use Rattle.fields.proofs.Reading.{seen}
 use Rattle.job.specs.Ids.{predecessorsAt}
 use Rattle.job.specs.Answer.{gotBlockHead}
 use Rattle.job.specs.declared.BlockHead.{BlockHead}
-use Rattle.job.proofs.Bounds.{held, predecessors-most}
+use Rattle.job.proofs.Bounds.{predecessors-most}
 use Rattle.job.proofs.ReadAgain.{head-again, ids-again, count-again}
 use Rattle.job.proofs.ids.predecessors_at.Statement.{statement}
 use Rattle.job.proofs.ids.predecessors_at.Tie as tie
@@ -28,7 +29,7 @@ ids-into-requires : tie.Need-ids-into-requires
 ids-into-requires c κs =
     let field = c .before .before in
     let head = seen gotBlockHead (field .before .before .block-head-at .ensures) (field .head-field .given .1) in
-    (held (λ (h : BlockHead). h .predecessors ≤ 64) head (predecessors-most _ _), ids-again _ _ (field .before .before .before .before .pre) head)
+    (holds-got (λ (h : BlockHead). h .predecessors ≤ 64) head (predecessors-most _ _), ids-again _ _ (field .before .before .before .before .pre) head)
 
 cast-result : tie.Need-cast-result
 cast-result c = search needs
