@@ -12,3 +12,4 @@ pub mod TreeLaws
 -- what is written and read
 pub mod ReadBack
 pub mod Fits
+pub mod Verdicts
