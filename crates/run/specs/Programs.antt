@@ -33,7 +33,7 @@ abbrev pub bytesRead : ℕ
 bytesRead = 65536
 
 -- What the operation's program writes of some job, of no more bytes than it reads, has n bytes.
-pub record Runs (op : Operation) (n : ℕ) : Type 0 where
+pub record GivesToWrite (op : Operation) (n : ℕ) : Type 0 where
   pub job : List ℕ
   pub few : length job ≤ bytesRead
   pub size : n ≡ length (programOf op job)

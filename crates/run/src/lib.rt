@@ -4,7 +4,7 @@ ghost use mathlib.Core.Path.{_≡_};
 ghost use Prim.Native.Nat.{_≤_};
 ghost use lib.ListN.{length, take};
 ghost use Rattle.model.specs.Answer.{leastBuffer};
-ghost use Rattle.run.specs.Programs.{bytesRead, Responds, Runs};
+ghost use Rattle.run.specs.Programs.{bytesRead, Responds, GivesToWrite};
 use stage::Operation;
 use stage::Outcome;
 
@@ -30,7 +30,7 @@ fn respond(operation: Operation, space: &[u8], got: usize, out: &mut [u8]) -> us
 // writes the same of its first bytes (`first-bytes`). How many bytes were given to be written: as
 // many as there are of the job that was read, of which no contract of input and output says more.
 pub fn run(operation: Operation) -> usize
-    ensures { λ r. ⌜ Runs operation r ⌝ }
+    ensures { λ r. ⌜ GivesToWrite operation r ⌝ }
 {
     let mut space = io::large_buffer();
     let got = io::read_full(0, &mut space);

@@ -8,7 +8,7 @@ use lib.ListN.{length, take, length-take}
 use lib.Seq.{length-take-le}
 use borrow.Author.Needs.{needs}
 use Rattle.stage.specs.declared.Operation.{Operation}
-use Rattle.run.specs.Programs.{bytesRead, Responds, Runs}
+use Rattle.run.specs.Programs.{bytesRead, Responds, GivesToWrite}
 use Rattle.run.proofs.Responding.{within}
 use Rattle.run.proofs.run.Statement.{statement}
 use Rattle.run.proofs.run.Tie as tie
@@ -21,7 +21,7 @@ slice-aggregate-write-all c = let r = c .before .before .respond in sym (length-
 
 -- The job is what was read.
 responded : {op : Operation} (got : ℕ) (space : List ℕ) {before after : List ℕ} {n : ℕ} → Responds op (take got space) before after n
-    → length space ≡ bytesRead → Runs op n
+    → length space ≡ bytesRead → GivesToWrite op n
 responded got space r e =
     record { job = take got space; few = let size = length-take got space in omega arith; size = r .size }
 
