@@ -1,24 +1,14 @@
 -- Demand 3 of the bytes that `answer` writes, for any job and any buffer: where an outcome is a
 -- length, that many bytes from the buffer's start on are an answer that meets it. The theorem over
 -- the definitions is `demand-3` of the crate `safety`.
-use Prim.Native.Nat.{ℕ, _<_}
+use Prim.Native.Nat.{ℕ, zero, suc, _<_}
 use native.Mathlib.Omega.{arith}
 use mathlib.Core.Path.{_≡_, refl, sym, ap, subst, _∙_}
 use mathlib.Core.List.{List, _++_}
 use lib.ListN.{length, take, drop, replicate}
 use lib.Seq.{take-append-seam}
-use lib.IntN.{ℤ, pos}
-use Rattle.entries.specs.declared.Refusal.the-variants.{
-  ShortBuffer,
-  LongJob,
-  MissingByte,
-  WrongMark,
-  OutOfRange,
-  ExtraByte,
-  RepeatedId,
-  UnknownBlock,
-  ManyNodes,
-}
+use lib.IntN.{ℤ, pos, negℤ}
+use Rattle.entries.specs.Refusals.{refusalNumber, number-positive}
 use Rattle.model.specs.ListLaws.{All}
 use Rattle.model.specs.Answer.{
   Verdict,
@@ -50,17 +40,14 @@ length-written : (v : Verdict) (n : ℕ) → Written n ≡ outcomeOf v → (byte
 length-written (writes bytes) n e = (bytes, refl, cc)
 length-written (turnsBack r) n e = absurd (let z : _≡_ {A = ℕ} 0 1 = cc in omega arith)
 
+-- the negative of a positive number is no natural number
+never-negative : (n k : ℕ) → 0 < k → pos n ≡ negℤ (pos k) → ⊥
+never-negative n zero l e = omega arith
+never-negative n (suc k) l e = let z : _≡_ {A = ℕ} 0 1 = cc in omega arith
+
 number-written : (v : Verdict) (n : ℕ) → pos n ≡ numberReturned v → (bytes : List ℕ) × (v ≡ writes bytes) × (n ≡ length bytes)
 number-written (writes bytes) n e = (bytes, refl, cc)
-number-written (turnsBack ShortBuffer) n e = absurd (let z : _≡_ {A = ℕ} 0 1 = cc in omega arith)
-number-written (turnsBack LongJob) n e = absurd (let z : _≡_ {A = ℕ} 0 1 = cc in omega arith)
-number-written (turnsBack MissingByte) n e = absurd (let z : _≡_ {A = ℕ} 0 1 = cc in omega arith)
-number-written (turnsBack WrongMark) n e = absurd (let z : _≡_ {A = ℕ} 0 1 = cc in omega arith)
-number-written (turnsBack OutOfRange) n e = absurd (let z : _≡_ {A = ℕ} 0 1 = cc in omega arith)
-number-written (turnsBack ExtraByte) n e = absurd (let z : _≡_ {A = ℕ} 0 1 = cc in omega arith)
-number-written (turnsBack RepeatedId) n e = absurd (let z : _≡_ {A = ℕ} 0 1 = cc in omega arith)
-number-written (turnsBack UnknownBlock) n e = absurd (let z : _≡_ {A = ℕ} 0 1 = cc in omega arith)
-number-written (turnsBack ManyNodes) n e = absurd (let z : _≡_ {A = ℕ} 0 1 = cc in omega arith)
+number-written (turnsBack r) n e = absurd (never-negative n (refusalNumber r) (number-positive r) e)
 
 module _ (job before after : List ℕ) (n : ℕ) (bytes : All (λ b. b < 256) job) where
   by-verdict : (written : List ℕ) × (answerOf job before ≡ writes written) × (n ≡ length written) → after ≡ bufferAfter

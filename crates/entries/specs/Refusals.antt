@@ -1,5 +1,6 @@
 -- Document 01, "Turning a job back": the number of each refusal.
-use Prim.Native.Nat.{ℕ}
+use Prim.Native.Nat.{ℕ, _<_}
+use native.Mathlib.Omega.{arith}
 use Rattle.entries.specs.declared.Refusal.{Refusal}
 use Rattle.entries.specs.declared.Refusal.the-variants.{
   ShortBuffer,
@@ -24,3 +25,14 @@ refusalNumber ExtraByte = 6
 refusalNumber RepeatedId = 7
 refusalNumber UnknownBlock = 8
 refusalNumber ManyNodes = 9
+
+pub number-positive : (r : Refusal) → 0 < refusalNumber r
+number-positive ShortBuffer = omega arith
+number-positive LongJob = omega arith
+number-positive MissingByte = omega arith
+number-positive WrongMark = omega arith
+number-positive OutOfRange = omega arith
+number-positive ExtraByte = omega arith
+number-positive RepeatedId = omega arith
+number-positive UnknownBlock = omega arith
+number-positive ManyNodes = omega arith
