@@ -139,7 +139,7 @@ originBytes root = u8 0 ++ u8 0 ++ u64 0
 originBytes (childOf p e) = stepBytes e
 
 -- "Per node NO, parent u16 .., identifier u32, optional u8, kind u8, value u64 .., span u32, the
--- root's reactive u8."
+-- root's reactive u8".
 unfoldable pub nodeBytes : ℕ → PropertyPathNode → List ℕ
 unfolding numberBytes
 nodeBytes spanBytes n =
