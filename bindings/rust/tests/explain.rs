@@ -107,7 +107,7 @@ fn a_block_that_was_left_out_and_does_not_have_the_path_is_told_in_short() {
     let job = std::fs::read_to_string(repository("examples/loop.job")).unwrap();
     let told = "
     .rate  stays plain: beat is known to be there in block 3; it comes from block 2, which assumes it
-           block 3 left out block 1, which does not have it: control comes from there too, but the two are on a loop\n";
+           block 3 left out block 1, which does not have beat: control comes from there too, but the two are on a loop\n";
     assert!(short(&job).ends_with(told), "{}", short(&job));
     // The same with all arrows turned.
     let turned = short(
@@ -115,8 +115,19 @@ fn a_block_that_was_left_out_and_does_not_have_the_path_is_told_in_short() {
          candidate 5.10",
     );
     let told = "
-         block 3 left out block 1, which does not have it: control goes on there too, but the two are on a loop\n";
+         block 3 left out block 1, which does not have 5: control goes on there too, but the two are on a loop\n";
     assert!(turned.ends_with(told), "{turned}");
+}
+
+/// Block 1 lacks 5.6, by which the scope block knows 5, but assumes 5 itself.
+#[test]
+fn a_block_that_was_left_out_and_has_the_base_by_another_path_is_not_told_to_lack_it() {
+    let said = short(
+        "scope 3 block 0 block 1 after 0, 3 assumes 5 block 2 after 1 assumes 5.6 block 3 after 1, 2 \
+         block 4 after 1 block 6 after 3 candidate 5.10",
+    );
+    assert!(said.contains("5 is known to be there in block 3, since 5.6 is"), "{said}");
+    assert!(!said.contains("does not have"), "{said}");
 }
 
 #[test]

@@ -27,13 +27,13 @@ pub struct Known {
     pub path: Path,
     /// How the scope block came to have that path.
     pub step: usize,
-    /// A block that does not have the path, from which control comes or to which it goes on, and
+    /// A block that does not have the base, from which control comes or to which it goes on, and
     /// which was left out.
     pub left_out: Option<LeftOut>,
 }
 
 /// A block that was left out on the way of a path, since it was being visited, and does not have
-/// the path in the end.
+/// the base in the end.
 #[derive(Clone, Copy, Debug, PartialEq, Eq)]
 pub struct LeftOut {
     /// The step in which it was left out.
@@ -89,7 +89,7 @@ impl<'a> Bases<'a> {
     fn known(&mut self, base: &Path) -> Result<Known, Mismatch> {
         let (node, path) = self.deciding(base).cloned().ok_or(Mismatch)?;
         let step = self.steps.held(self.blocks.scope, node);
-        let left_out = self.left_out(step, &path);
+        let left_out = self.left_out(step, base);
         Ok(Known { path, step, left_out })
     }
 
@@ -100,9 +100,9 @@ impl<'a> Bases<'a> {
         unknown::unknown(&self.blocks, &mut self.steps, base, open, here)
     }
 
-    /// Of the blocks that were left out on the way and do not have the path in the end, the last.
-    fn left_out(&self, step: usize, path: &Path) -> Option<LeftOut> {
-        let (steps, has) = (&self.steps.found, self.blocks.having(path));
+    /// Of the blocks that were left out on the way and do not have the base in the end, the last.
+    fn left_out(&self, step: usize, base: &Path) -> Option<LeftOut> {
+        let (steps, has) = (&self.steps.found, self.blocks.having(base));
         let lacking = on_the_way(steps, step).into_iter().filter_map(|step| {
             let How::TookOver { left_out, .. } = &steps[step].how else {
                 return None;

@@ -32,18 +32,19 @@ pub fn check_known(world: &World, base: &Path, said: &str, sections: &[Path]) ->
     held
 }
 
-/// `block 3 left out block 1, which does not have it: control comes from there too, but the two are
-/// on a loop`.
-pub fn check_left_out(world: &World, held: &Path, said: &str) {
-    let found = holes("{} left out {}, which does not have it: {}, but the two are on a loop", said);
-    let found = found.unwrap_or_else(|| panic!("no sentence: {said}"));
+/// `block 3 left out block 1, which does not have 5: control comes from there too, but the two are
+/// on a loop`, of the base 5 and the path that shows it.
+pub fn check_left_out(world: &World, base: &Path, held: &Path, said: &str) {
+    let pattern =
+        format!("{{}} left out {{}}, which does not have {}: {{}}, but the two are on a loop", show(base));
+    let found = holes(&pattern, said).unwrap_or_else(|| panic!("no sentence: {said}"));
     let (by, out) = (block(found[0]), block(found[1]));
     let side = match found[2] {
         "control comes from there too" => Side::Predecessors,
         "control goes on there too" => Side::Successors,
         other => panic!("no side: {other}"),
     };
-    assert!(!world.has(out, held) && world.on_a_loop(by, out), "{said}");
+    assert!(!world.has(out, base) && world.on_a_loop(by, out), "{said}");
     assert!(world.neighbours(by, side).contains(&out), "{said}");
     let place = world.place(out);
     let forms = world.paths().iter().filter(|path| path.same_names(held));

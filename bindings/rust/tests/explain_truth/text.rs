@@ -115,7 +115,7 @@ fn check_entry(
     }
     if returned.entries().len() > level && plain(returned) {
         let held = check_known(world, &base, why, sections);
-        said[1..].iter().for_each(|said| check_left_out(world, &held, said));
+        said[1..].iter().for_each(|said| check_left_out(world, &base, &held, said));
         count("known");
         return said[1..].iter().for_each(|_| count("one left out that lacks it"));
     }

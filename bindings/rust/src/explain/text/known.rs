@@ -23,7 +23,7 @@ pub(super) fn known(text: &Text, base: &Path, by: &Known) -> Vec<String> {
         Some(sections) => format!("{known} {}", sections.refer(&[by.step])),
         None => format!("{known}; {}", origin(text, by.step)),
     };
-    let left_out = by.left_out.map(|left_out| self::left_out(text, left_out));
+    let left_out = by.left_out.map(|left_out| self::left_out(text, base, left_out));
     std::iter::once(first).chain(left_out).collect()
 }
 
@@ -83,13 +83,13 @@ fn forms<'a>(text: &'a Text, step: usize) -> Vec<(&'a Path, Vec<BlockId>)> {
     forms
 }
 
-/// That a block which does not have the path was left out on its way.
-fn left_out(text: &Text, LeftOut { step, block }: LeftOut) -> String {
+/// That a block which does not have the base was left out on the way of the path that shows it.
+fn left_out(text: &Text, base: &Path, LeftOut { step, block }: LeftOut) -> String {
     let step = &text.explanation.steps[step];
-    let (by, block) = (show_block(step.block), show_block(block));
+    let (by, block, base) = (show_block(step.block), show_block(block), text.path(base));
     let control = match step.how {
         How::TookOver { side: Side::Successors, .. } => "control goes on there too",
         _ => "control comes from there too",
     };
-    format!("{by} left out {block}, which does not have it: {control}, but the two are on a loop")
+    format!("{by} left out {block}, which does not have {base}: {control}, but the two are on a loop")
 }
