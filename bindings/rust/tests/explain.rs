@@ -167,6 +167,29 @@ fn a_block_that_has_the_base_from_others() {
 }
 
 #[test]
+fn all_blocks_that_have_the_base_are_told_and_in_full_how_each_came_to_have_it() {
+    let job =
+        "scope 5 block 0 block 1 after 0 assumes 7 block 2 after 0 assumes 7 block 3 after 0 assumes 7 \
+               block 4 after 0 block 5 after 1, 2, 3, 4 candidate 7.1";
+    let lacking = "control can also come to block 5 from block 4, which does not have it";
+    assert_eq!(cut(job), [format!("blocks 1, 2 and 3 assume 7, but {lacking}")]);
+    let section = "[1] how 7 came there
+    block 1 assumes 7
+    block 2 assumes 7
+    block 3 assumes 7\n";
+    assert!(full(job).ends_with(section), "{}", full(job));
+    assert_eq!(
+        cut("scope 4 block 0 assumes 5.6 block 1 after 0 block 2 after 0 block 3 block 4 after 1, 2, 3 candidate 5.10"),
+        ["blocks 1 and 2 have 5.6 from block 0, which assumes it, and so have 5, \
+          but control can also come to block 4 from block 3, which does not have it"]
+    );
+    assert_eq!(
+        cut("scope 2 block 1 assumes 5 block 2 block 3 assumes 5 candidate 5.10"),
+        ["blocks 1 and 3 assume 5, but none of them is connected with block 2"]
+    );
+}
+
+#[test]
 fn different_paths_of_the_same_base() {
     assert_eq!(
         cut("scope 3 block 1 assumes 5.6 block 2 assumes 5.7 block 3 after 1, 2 candidate 5.10"),
@@ -341,8 +364,9 @@ fn a_base_that_stopped_has_all_its_stops() {
          block 5 after 3 candidate 5.10",
     );
     let End::Cut { why, .. } = &explanation.reasons[0].end else { panic!("{explanation}") };
-    let Elsewhere::Stopped { blocks, stops } = &why.elsewhere else { panic!("{explanation}") };
-    assert_eq!(blocks, &[BlockId(1), BlockId(4)]);
+    let Elsewhere::Stopped { holders, stops } = &why.elsewhere else { panic!("{explanation}") };
+    let blocks: Vec<BlockId> = holders.iter().map(|holder| holder.block).collect();
+    assert_eq!(blocks, [BlockId(1), BlockId(4)]);
     let at: Vec<(u32, u32)> = stops.iter().map(|stop| (stop.at.0, stop.holder.block.0)).collect();
     assert_eq!(at, [(3, 1), (3, 4), (0, 1)]);
 }

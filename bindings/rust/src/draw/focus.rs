@@ -7,13 +7,14 @@ use std::collections::BTreeSet;
 
 /// The scope block; the blocks by way of which the known paths came there; and of each base that is
 /// not known there the nearest block at which it stopped, with the neighbours that have it and
-/// those that do not, and the blocks by way of which one of them came to have it.
+/// those that do not, and the blocks by way of which one of them came to have it; or those that
+/// assume it, where they are not connected with the scope block.
 pub(super) fn blocks_in_focus(explanation: &Explanation) -> BTreeSet<BlockId> {
     let mut blocks = BTreeSet::from([explanation.scope]);
     let mut steps = Vec::new();
     for reason in &explanation.reasons {
         steps.extend(known_by(reason));
-        unknown(reason).for_each(|why| stopped(why, &mut blocks, &mut steps));
+        unknown(reason).for_each(|why| stopped(explanation, why, &mut blocks, &mut steps));
     }
     blocks.extend(along(explanation, steps));
     blocks
@@ -41,11 +42,14 @@ fn unknown(reason: &Reason) -> impl Iterator<Item = &Unknown> {
 }
 
 /// Adds the blocks that keep the scope block from having a base, and how another came to have it.
-fn stopped(why: &Unknown, blocks: &mut BTreeSet<BlockId>, steps: &mut Vec<usize>) {
+fn stopped(explanation: &Explanation, why: &Unknown, blocks: &mut BTreeSet<BlockId>, steps: &mut Vec<usize>) {
+    let is_assumed = |step: &usize| explanation.steps[*step].how == How::Assumed;
     match &why.elsewhere {
         Elsewhere::Here(_) => {}
         Elsewhere::Nowhere(open) => blocks.extend(open.first().map(|(block, _)| block)),
-        Elsewhere::Apart { holder, .. } => steps.push(holder.step),
+        Elsewhere::Apart { holders, .. } => {
+            steps.extend(holders.iter().map(|holder| holder.step).filter(is_assumed));
+        }
         Elsewhere::Stopped { stops, .. } => {
             blocks.extend(stops.first().into_iter().flat_map(at_stop));
             steps.extend(stops.first().map(|stop| stop.holder.step));
@@ -57,7 +61,7 @@ fn stopped(why: &Unknown, blocks: &mut BTreeSet<BlockId>, steps: &mut Vec<usize>
 fn at_stop(stop: &Stop) -> Vec<BlockId> {
     let others = match &stop.why {
         Why::Lacking(lacking) => lacking.clone(),
-        Why::Different { one, other } => vec![one.0, other.0],
+        Why::Different { one, other } => vec![one.block, other.block],
         Why::Unfinished | Why::TooLate => Vec::new(),
     };
     [vec![stop.at], stop.holders.clone(), others].concat()

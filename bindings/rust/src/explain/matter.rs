@@ -46,11 +46,9 @@ fn of_unknown(why: &Unknown, blocks: &mut BTreeSet<BlockId>) {
     match &why.elsewhere {
         Elsewhere::Here(_) => {}
         Elsewhere::Nowhere(open) => blocks.extend(open.iter().map(|(block, _)| block)),
-        Elsewhere::Apart { blocks: having, .. } => blocks.extend(having),
-        Elsewhere::Stopped { blocks: having, stops } => {
-            blocks.extend(having);
-            stops.iter().for_each(|stop| of_stop(stop, blocks));
-        }
+        // The blocks that have the base have steps.
+        Elsewhere::Apart { .. } => {}
+        Elsewhere::Stopped { stops, .. } => stops.iter().for_each(|stop| of_stop(stop, blocks)),
     }
 }
 

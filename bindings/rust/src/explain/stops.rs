@@ -62,10 +62,10 @@ pub enum Why {
     Lacking(Vec<BlockId>),
     /// All that were joined have it, but no path of it is the same in all.
     Different {
-        /// A neighbour that was joined, and the path by which it has the base.
-        one: (BlockId, Path),
-        /// Another, which does not have that path, and the path by which it has the base.
-        other: (BlockId, Path),
+        /// A neighbour that was joined.
+        one: Holder,
+        /// Another, which does not have the path of the first.
+        other: Holder,
     },
     /// None was joined, since all were being visited.
     Unfinished,
@@ -127,7 +127,7 @@ fn stop(
     let holders: Vec<usize> = near.filter(|&near| has[near]).collect();
     let holder = holder(blocks, steps, base, &holders)?;
     let (visit, event) = blocks.last_visit(block, side);
-    let why = why(blocks, base, has, &event.joined);
+    let why = why(blocks, steps, base, has, &event.joined);
     Some(Stop { at: blocks.id(block), side, way, visit, holder, holders: blocks.ids(&holders), why })
 }
 
@@ -136,14 +136,19 @@ fn stop(
 pub(super) fn holder(blocks: &Blocks, steps: &mut Steps, base: &Path, holders: &[usize]) -> Option<Holder> {
     let assuming = holders.iter().copied().find(|&holder| assumed(blocks, holder, base).is_some());
     let block = assuming.or(holders.first().copied())?;
-    let (node, step) = match assumed(blocks, block, base) {
-        Some(node) => (node, steps.assumed(block, node)),
-        None => {
-            let node = blocks.showing(block, base).first().copied()?;
-            (node, steps.held(block, node))
+    match assumed(blocks, block, base) {
+        Some(node) => {
+            let step = steps.assumed(block, node);
+            Some(Holder { block: blocks.id(block), path: blocks.path(node).clone(), step })
         }
-    };
-    Some(Holder { block: blocks.id(block), path: blocks.path(node).clone(), step })
+        None => Some(held(blocks, steps, block, blocks.showing(block, base).first().copied()?)),
+    }
+}
+
+/// A block that holds a path in the end.
+pub(super) fn held(blocks: &Blocks, steps: &mut Steps, block: usize, node: NodeId) -> Holder {
+    let step = steps.held(block, node);
+    Holder { block: blocks.id(block), path: blocks.path(node).clone(), step }
 }
 
 fn assumed(blocks: &Blocks, block: usize, base: &Path) -> Option<NodeId> {
@@ -151,7 +156,7 @@ fn assumed(blocks: &Blocks, block: usize, base: &Path) -> Option<NodeId> {
 }
 
 /// Why nothing that shows the base came from these neighbours, which were joined.
-fn why(blocks: &Blocks, base: &Path, has: &[bool], joined: &[usize]) -> Why {
+fn why(blocks: &Blocks, steps: &mut Steps, base: &Path, has: &[bool], joined: &[usize]) -> Why {
     let lacking: Vec<usize> = joined.iter().copied().filter(|&near| !has[near]).collect();
     let Some(&first) = joined.first() else {
         return Why::Unfinished;
@@ -164,7 +169,7 @@ fn why(blocks: &Blocks, base: &Path, has: &[bool], joined: &[usize]) -> Why {
     if of_first.iter().any(|&node| lacks(node).is_none()) {
         return Why::TooLate;
     }
-    let by = |block: usize| (blocks.id(block), blocks.path(blocks.showing(block, base)[0]).clone());
+    let mut by = |block: usize| held(blocks, steps, block, blocks.showing(block, base)[0]);
     let other = lacks(of_first[0]).expect("no path of the first is the same in all");
     Why::Different { one: by(first), other: by(other) }
 }

@@ -31,14 +31,14 @@ pub enum Elsewhere {
     /// No arrows connect the blocks that have it with the scope block.
     Apart {
         /// The blocks that have it.
-        blocks: Vec<BlockId>,
+        holders: Vec<Holder>,
         /// One of them.
         holder: Holder,
     },
     /// Others have it, and it stopped on the way.
     Stopped {
         /// The blocks that have it.
-        blocks: Vec<BlockId>,
+        holders: Vec<Holder>,
         /// Where it stopped, the nearest to the scope block first.
         stops: Vec<Stop>,
     },
@@ -61,11 +61,12 @@ fn elsewhere(blocks: &Blocks, steps: &mut Steps, base: &Path) -> Elsewhere {
     let has = blocks.having(base);
     let having: Vec<usize> = (0..blocks.len()).filter(|&block| has[block]).collect();
     let stops = stops(blocks, steps, base, &has);
+    let holders = having.iter().filter_map(|&block| holder(blocks, steps, base, &[block])).collect();
     if !stops.is_empty() {
-        return Elsewhere::Stopped { blocks: blocks.ids(&having), stops };
+        return Elsewhere::Stopped { holders, stops };
     }
     match holder(blocks, steps, base, &having) {
-        Some(holder) => Elsewhere::Apart { blocks: blocks.ids(&having), holder },
+        Some(holder) => Elsewhere::Apart { holders, holder },
         None => Elsewhere::Nowhere(leaving_open(blocks, base)),
     }
 }

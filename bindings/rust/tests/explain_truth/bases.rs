@@ -3,13 +3,14 @@
 use crate::parse::{block, blocks, holes, path};
 use crate::sources::check_sources;
 use crate::stops::{check_stopped, check_stopped_in_full};
+use crate::text::{told_in, Section};
 use crate::world::{leaves_open, show, shows, World};
 use scope_deps::replay::Side;
-use scope_deps::Path;
+use scope_deps::{BlockId, Path};
 
 /// `1 is known to be there in block 2, since 1.10 is; SOURCES` or with a section's number. The path
 /// that shows it.
-pub fn check_known(world: &World, base: &Path, said: &str, sections: &[Path]) -> Path {
+pub fn check_known(world: &World, base: &Path, said: &str, sections: &[Section]) -> Path {
     let scope = world.job.scope();
     let start = format!("{} is known to be there in block {scope}", show(base));
     let rest = said.strip_prefix(&start).unwrap_or_else(|| panic!("not of {}: {said}", show(base)));
@@ -20,7 +21,8 @@ pub fn check_known(world: &World, base: &Path, said: &str, sections: &[Path]) ->
     assert!(world.is_known(base), "{said}");
     assert!(world.holds(scope, &held) && shows(&held, base), "{said}");
     if let Some(found) = holes(" [{}]", rest) {
-        assert!(sections[found[0].parse::<usize>().unwrap() - 1].same_names(&held), "{said}");
+        let told = told_in(sections, found[0]);
+        assert!(told.iter().any(|(block, path)| *block == scope && path.same_entries(&held)), "{said}");
     } else if let Some(found) = holes(&format!("; block {scope} assumes {{}}"), rest) {
         let form = if found[0] == "it" { held.clone() } else { path(found[0]) };
         assert!(world.assumes(scope, &form), "{said}");
@@ -53,7 +55,7 @@ pub fn check_left_out(world: &World, base: &Path, held: &Path, said: &str) {
 }
 
 /// A sentence on why a base is not known; what kind of sentence it is.
-pub fn check_unknown(world: &World, base: &Path, said: &str, sections: &[Path]) -> &'static str {
+pub fn check_unknown(world: &World, base: &Path, said: &str, sections: &[Section]) -> &'static str {
     let (scope, shown) = (world.job.scope(), show(base));
     if said == "the stage stopped after 100 rounds, before it had settled" {
         assert!(!world.sheet.is_settled() && world.sheet.rounds() == 100, "{said}");
@@ -75,13 +77,14 @@ pub fn check_unknown(world: &World, base: &Path, said: &str, sections: &[Path]) 
     if let Some(found) = holes(&format!("{shown} is there in {{}} [{{}}]"), said) {
         assert_eq!(blocks(found[0]), world.having(base), "{said}");
         assert!(!world.has(scope, base), "{said}");
-        for number in found[1].split(", ") {
-            assert!(base.names_start(&sections[number.parse::<usize>().unwrap() - 1]), "{said}");
-        }
+        let told = told_in(sections, found[1]);
+        assert!(told.iter().all(|(_, path)| base.names_start(path)), "{said}");
+        let is_told = |at: &BlockId| told.iter().any(|(block, path)| block == at && shows(path, base));
+        assert!(blocks(found[0]).iter().all(is_told), "{said}");
         return "the blocks that have it";
     }
     if said.starts_with("it stops at ") {
-        return check_stopped_in_full(world, base, said);
+        return check_stopped_in_full(world, base, said, sections);
     }
     check_stopped(world, base, said)
 }

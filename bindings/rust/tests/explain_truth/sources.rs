@@ -1,6 +1,6 @@
 //! Sentences on the blocks that assume a path, and from which others have it.
 
-use crate::parse::{block, holes, path, some_blocks};
+use crate::parse::{holes, path, some_blocks};
 use crate::world::{show, shows, World};
 use scope_deps::{BlockId, Path};
 use std::collections::BTreeSet;
@@ -30,28 +30,52 @@ pub fn check_sources(world: &World, of: BlockId, held: &Path, said: &str) {
     assert!(if others { forms.len() < all.len() } else { forms == all }, "{said} but {sources:?}");
 }
 
-/// `block 1 assumes 1.10` or `block 3 has 1.10 from block 1, which assumes it`, with `and so has 1`
-/// where it is longer. The block is given.
-pub fn check_holder(world: &World, base: &Path, said: &str) -> BlockId {
-    let (said, longer) = match said.strip_suffix(&format!(", and so has {}", show(base))) {
+/// Blocks of which it is said that they have a base, all in the same way.
+pub struct Holders {
+    pub named: Vec<BlockId>,
+    /// How many there are besides.
+    more: usize,
+    path: Path,
+    /// Whether they assume the path; else they have it from others.
+    assume: bool,
+}
+
+impl Holders {
+    /// Whether those that are named are among these blocks, and the others can be.
+    pub fn are_among(&self, world: &World, blocks: &[BlockId]) -> bool {
+        let alike = |&&block: &&BlockId| {
+            if self.assume {
+                return world.assumes(block, &self.path);
+            }
+            let sources = |block| world.sources(block, &self.path);
+            world.holds(block, &self.path) && sources(block) == sources(self.named[0])
+        };
+        let enough = blocks.iter().filter(alike).count() >= self.named.len() + self.more;
+        enough && self.named.iter().all(|block| blocks.contains(block))
+    }
+}
+
+/// `block 1 assumes 1.10` or `blocks 3 and 4 have 1.10 from block 1, which assumes it`, with `and so
+/// have 1` where it is longer.
+pub fn check_holders(world: &World, base: &Path, said: &str) -> Holders {
+    let one = said.starts_with("block ");
+    let (assume, have) = if one { ("assumes", "has") } else { ("assume", "have") };
+    let (said, longer) = match said.strip_suffix(&format!(", and so {have} {}", show(base))) {
         Some(said) => (said, true),
         None => (said, false),
     };
-    let (holder, held) = match holes("{} has {} from {}", said) {
-        Some(found) => {
-            let (holder, held) = (block(found[0]), path(found[1]));
-            assert!(world.holds(holder, &held), "{said}");
-            check_sources(world, holder, &held, found[2]);
-            (holder, held)
+    let from = holes(&format!("{{}} {have} {{}} from {{}}"), said);
+    let found = from.clone().or_else(|| holes(&format!("{{}} {assume} {{}}"), said));
+    let found = found.unwrap_or_else(|| panic!("no holder: {said}"));
+    let ((named, more), path) = (some_blocks(found[0]), path(found[1]));
+    for &holder in &named {
+        match &from {
+            Some(found) => check_sources(world, holder, &path, found[2]),
+            None => assert!(world.assumes(holder, &path), "{said}"),
         }
-        None => {
-            let found = holes("{} assumes {}", said).unwrap_or_else(|| panic!("no holder: {said}"));
-            let (holder, held) = (block(found[0]), path(found[1]));
-            assert!(world.assumes(holder, &held), "{said}");
-            (holder, held)
-        }
-    };
-    assert!(shows(&held, base) && held.same_names(base) != longer, "{said}");
-    assert!(world.has(holder, base), "{said}");
-    holder
+        assert!(world.has(holder, base) && (from.is_none() || world.holds(holder, &path)), "{said}");
+    }
+    assert_eq!(named.len() == 1, one, "{said}");
+    assert!(shows(&path, base) && path.same_names(base) != longer, "{said}");
+    Holders { named, more, path, assume: from.is_none() }
 }

@@ -1,7 +1,8 @@
 //! Sentences on the block at which a base stopped.
 
 use crate::parse::{block, blocks, holes, path};
-use crate::sources::check_holder;
+use crate::sources::check_holders;
+use crate::text::{told_in, Section};
 use crate::world::{shows, World};
 use scope_deps::replay::Side;
 use scope_deps::{BlockId, NodeId, Path};
@@ -9,14 +10,18 @@ use std::collections::BTreeSet;
 
 const SIDES: [Side; 2] = [Side::Predecessors, Side::Successors];
 
-/// `HOLDER, but on the way to block 5 it stops at block 3: REASON`, and the shorter forms of it.
+/// `HOLDERS, but on the way to block 5 it stops at block 3: REASON`, and the shorter forms of it.
 pub fn check_stopped(world: &World, base: &Path, said: &str) -> &'static str {
     let scope = world.job.scope();
-    let (holder, rest) = said.split_once(", but ").unwrap_or_else(|| panic!("no sentence: {said}"));
-    let holder = check_holder(world, base, holder);
-    if let Some(found) = holes("{} and {} are not connected", rest) {
-        assert_eq!((block(found[0]), block(found[1])), (holder, scope), "{said}");
-        assert!(holder != scope && !world.connected(holder, scope), "{said}");
+    let (holders, rest) = said.split_once(", but ").unwrap_or_else(|| panic!("no sentence: {said}"));
+    let holders = check_holders(world, base, holders);
+    let apart = match holders.named[..] {
+        [holder] => format!("block {holder} and block {scope} are not connected"),
+        _ => format!("none of them is connected with block {scope}"),
+    };
+    if rest == apart {
+        let apart = world.ids().filter(|&id| id != scope && !world.connected(id, scope));
+        assert!(holders.are_among(world, &apart.collect::<Vec<_>>()), "{said}");
         return "not connected";
     }
     if let Some(found) = holes("on the way to {} it stops at {}: {}", rest) {
@@ -26,7 +31,7 @@ pub fn check_stopped(world: &World, base: &Path, said: &str) -> &'static str {
         let (side, kind) = check_reason(world, base, at, "there", "from there", found[2]);
         let (first, then) = if side == Side::Predecessors { (at, scope) } else { (scope, at) };
         assert!(world.leads(first, then), "{said}");
-        assert!(world.neighbours(at, side).contains(&holder), "{said}");
+        assert!(holders.are_among(world, &world.neighbours(at, side)), "{said}");
         return kind;
     }
     let (at, there, from, reason) = match holes("it stops at {}: {}", rest) {
@@ -34,13 +39,13 @@ pub fn check_stopped(world: &World, base: &Path, said: &str) -> &'static str {
         None => (scope, format!("to block {scope}"), format!("from block {scope}"), rest),
     };
     let (side, kind) = check_reason(world, base, at, &there, &from, reason);
-    assert!(world.neighbours(at, side).contains(&holder), "{said}");
+    assert!(holders.are_among(world, &world.neighbours(at, side)), "{said}");
     assert!(at == scope || world.connected(at, scope), "{said}");
     kind
 }
 
-/// `it stops at block 3: REASON`, in full.
-pub fn check_stopped_in_full(world: &World, base: &Path, said: &str) -> &'static str {
+/// `it stops at block 3: REASON`, in full. The sections follow where different paths are spoken of.
+pub fn check_stopped_in_full(world: &World, base: &Path, said: &str, sections: &[Section]) -> &'static str {
     let found = holes("it stops at {}: {}", said).unwrap_or_else(|| panic!("no stop: {said}"));
     let (at, reason) = (block(found[0]), found[1]);
     let scope = world.job.scope();
@@ -55,7 +60,16 @@ pub fn check_stopped_in_full(world: &World, base: &Path, said: &str) -> &'static
             return "all that lack it";
         }
     }
-    check_reason(world, base, at, "there", "from there", reason).1
+    let (reason, told) = match holes("{}; only a path that is the same in all is passed on [{}]", reason) {
+        Some(found) => (reason.rsplit_once(" [").unwrap().0, told_in(sections, found[1])),
+        None => (reason, Vec::new()),
+    };
+    let kind = check_reason(world, base, at, "there", "from there", reason).1;
+    for by in reason.split(", which has it by ").skip(1).map(|after| after.split([',', ';']).next().unwrap())
+    {
+        assert!(told.iter().any(|(_, path)| path.same_entries(&self::path(by))), "{said}");
+    }
+    kind
 }
 
 /// That these are all neighbours that have the base, and all that were joined and lack it.

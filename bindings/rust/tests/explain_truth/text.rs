@@ -11,7 +11,13 @@ use std::collections::BTreeMap;
 pub type Kinds = BTreeMap<&'static str, usize>;
 
 /// A section: the path, and its sentences.
-type Section<'t> = (Path, Vec<&'t str>);
+pub type Section<'t> = (Path, Vec<&'t str>);
+
+/// What the sections of these numbers (`1, 3`) tell.
+pub fn told_in(sections: &[Section], numbers: &str) -> Vec<Told> {
+    let numbers = numbers.split(", ").map(|number| number.parse::<usize>().unwrap());
+    numbers.flat_map(|number| sections[number - 1].1.iter().map(|line| told_by(line))).collect()
+}
 
 /// Checks every sentence of an explanation.
 pub fn check_text(world: &World, text: &str, kinds: &mut Kinds) {
@@ -23,7 +29,6 @@ pub fn check_text(world: &World, text: &str, kinds: &mut Kinds) {
         .map(|(number, lines)| section(number + 1, lines))
         .collect();
     parts.truncate(parts.len() - sections.len());
-    let headings: Vec<Path> = sections.iter().map(|(path, _)| path.clone()).collect();
     check_sections(world, &sections, kinds);
     if world.job.candidates().is_empty() {
         assert_eq!(parts, [["the job has no candidate, so no path is returned"]]);
@@ -31,7 +36,7 @@ pub fn check_text(world: &World, text: &str, kinds: &mut Kinds) {
     }
     assert_eq!(parts.len(), world.job.candidates().len());
     for (candidate, lines) in world.job.candidates().iter().zip(&parts) {
-        check_candidate(world, candidate, lines, &headings, kinds);
+        check_candidate(world, candidate, lines, &sections, kinds);
     }
 }
 
@@ -54,7 +59,7 @@ fn check_sections(world: &World, sections: &[Section], kinds: &mut Kinds) {
 }
 
 /// What an explanation says of one candidate.
-fn check_candidate(world: &World, candidate: &Path, lines: &[&str], sections: &[Path], kinds: &mut Kinds) {
+fn check_candidate(world: &World, candidate: &Path, lines: &[&str], sections: &[Section], kinds: &mut Kinds) {
     let mut fitting = world.answer.iter().filter(|path| path.names_start(candidate));
     let returned = fitting.next().unwrap();
     assert_eq!(lines[0], format!("candidate {}", show(candidate)));
@@ -94,7 +99,7 @@ fn check_entry(
     world: &World,
     (candidate, returned, level): (&Path, &Path, usize),
     said: &[&str],
-    sections: &[Path],
+    sections: &[Section],
     kinds: &mut Kinds,
 ) {
     let base = returned.prefix(level);

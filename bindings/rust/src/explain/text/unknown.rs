@@ -1,8 +1,8 @@
 //! Why a base is not known, in words.
 
 use super::known::sources;
-use super::show::{for_count, show_block, show_blocks};
-use super::Text;
+use super::show::{for_count, show_block, show_blocks, show_some_blocks};
+use super::{Sections, Text};
 use crate::explain::{Elsewhere, Holder, How, Stop, Unknown, Way, Why};
 use crate::ids::BlockId;
 use crate::path::Path;
@@ -33,24 +33,20 @@ fn leaves_open(text: &Text, base: &Path) -> String {
 
 fn elsewhere(text: &Text, why: &Unknown) -> Vec<String> {
     let base = &why.base;
-    let scope = text.explanation.scope;
     match (&why.elsewhere, &text.sections) {
         (Elsewhere::Here(_), _) => Vec::new(),
         (Elsewhere::Nowhere(open), _) => nowhere(text, why, open),
-        (Elsewhere::Apart { blocks, holder }, sections) => {
-            let apart = format!("{} and {} are not connected", show_block(holder.block), show_block(scope));
-            let refer = sections.as_ref().map(|sections| sections.refer(&[holder.step]));
-            let there = refer.map(|refer| there(text, base, blocks, &refer));
-            let last = format!("{}, but {apart}", has(text, base, holder));
-            there.into_iter().chain([last]).collect()
+        (Elsewhere::Apart { holders, holder }, sections) => {
+            let there = sections.as_ref().map(|sections| there(text, base, holders, sections));
+            there.into_iter().chain([apart(text, base, holder, holders)]).collect()
         }
-        (Elsewhere::Stopped { stops, .. }, None) => {
-            stops.first().map(|stop| stopped(text, base, stop)).into_iter().collect()
+        (Elsewhere::Stopped { holders, stops }, None) => {
+            stops.first().map(|stop| stopped(text, base, stop, holders)).into_iter().collect()
         }
-        (Elsewhere::Stopped { blocks, stops }, Some(sections)) => {
-            let steps: Vec<usize> = stops.iter().map(|stop| stop.holder.step).collect();
-            let first = there(text, base, blocks, &sections.refer(&steps));
-            std::iter::once(first).chain(stops.iter().map(|stop| stopped_in_full(text, stop))).collect()
+        (Elsewhere::Stopped { holders, stops }, Some(sections)) => {
+            let first = there(text, base, holders, sections);
+            let each = stops.iter().map(|stop| stopped_in_full(text, stop, sections));
+            std::iter::once(first).chain(each).collect()
         }
     }
 }
@@ -69,28 +65,59 @@ fn nowhere(text: &Text, why: &Unknown, open: &[(BlockId, Path)]) -> Vec<String> 
     }
 }
 
-fn there(text: &Text, base: &Path, blocks: &[BlockId], refer: &str) -> String {
-    format!("{} is there in {} {refer}", text.path(base), show_blocks(blocks))
+fn there(text: &Text, base: &Path, holders: &[Holder], sections: &Sections) -> String {
+    let blocks: Vec<BlockId> = holders.iter().map(|holder| holder.block).collect();
+    let steps: Vec<usize> = holders.iter().map(|holder| holder.step).collect();
+    format!("{} is there in {} {}", text.path(base), show_blocks(&blocks), sections.refer(&steps))
 }
 
-/// That a block has the base, and from where.
-fn has(text: &Text, base: &Path, holder: &Holder) -> String {
-    let (block, path) = (show_block(holder.block), text.path(&holder.path));
-    let so = if holder.path.same_names(base) {
+/// That no arrows connect the blocks that have the base with the scope block.
+fn apart(text: &Text, base: &Path, holder: &Holder, holders: &[Holder]) -> String {
+    let scope = show_block(text.explanation.scope);
+    let blocks = alike(text, holder, holders);
+    let apart = match blocks[..] {
+        [block] => format!("{} and {scope} are not connected", show_block(block)),
+        _ => format!("none of them is connected with {scope}"),
+    };
+    format!("{}, but {apart}", has(text, base, holder, &blocks))
+}
+
+/// That these blocks have the base, and from where, as one of them has it.
+fn has(text: &Text, base: &Path, one: &Holder, blocks: &[BlockId]) -> String {
+    let have = for_count(blocks.len(), "has", "have");
+    let verb = match text.explanation.steps[one.step].how {
+        How::Assumed => for_count(blocks.len(), "assumes", "assume"),
+        _ => have,
+    };
+    let so = if one.path.same_names(base) {
         String::new()
     } else {
-        format!(", and so has {}", text.path(base))
+        format!(", and so {have} {}", text.path(base))
     };
+    format!("{} {verb} {}{so}", show_some_blocks(blocks), whence(text, one))
+}
+
+/// The path by which a block has the base, and from where if not by itself.
+fn whence(text: &Text, holder: &Holder) -> String {
+    let path = text.path(&holder.path);
     match text.explanation.steps[holder.step].how {
-        How::Assumed => format!("{block} assumes {path}{so}"),
-        _ => format!("{block} has {path} from {}{so}", sources(text, holder.step)),
+        How::Assumed => path,
+        _ => format!("{path} from {}", sources(text, holder.step)),
     }
 }
 
+/// The blocks of which the same is to be said as of one of them.
+fn alike<'a>(text: &Text, one: &Holder, holders: impl IntoIterator<Item = &'a Holder>) -> Vec<BlockId> {
+    let said = whence(text, one);
+    let same = holders.into_iter().filter(|holder| whence(text, holder) == said);
+    same.map(|holder| holder.block).collect()
+}
+
 /// Where the base stopped and why, in short.
-fn stopped(text: &Text, base: &Path, stop: &Stop) -> String {
+fn stopped(text: &Text, base: &Path, stop: &Stop, holders: &[Holder]) -> String {
     let (scope, at) = (show_block(text.explanation.scope), show_block(stop.at));
-    let has = has(text, base, &stop.holder);
+    let beside = holders.iter().filter(|holder| stop.holders.contains(&holder.block));
+    let has = has(text, base, &stop.holder, &alike(text, &stop.holder, beside));
     if stop.at == text.explanation.scope {
         return format!(
             "{has}, but {}",
@@ -130,8 +157,8 @@ fn other_reason(text: &Text, stop: &Stop, at: At) -> String {
     let joint = if stop.side == Side::Predecessors { "from" } else { "to" };
     match &stop.why {
         Why::Different { one, other } => {
-            let has = |(block, path): &(BlockId, Path)| {
-                format!("{}, which has it by {}", show_block(*block), text.path(path))
+            let has = |holder: &Holder| {
+                format!("{}, which has it by {}", show_block(holder.block), text.path(&holder.path))
             };
             let (one, other) = (has(one), has(other));
             format!("{comes} {one}, and {joint} {other}; only a path that is the same in all is passed on")
@@ -145,7 +172,7 @@ fn other_reason(text: &Text, stop: &Stop, at: At) -> String {
 }
 
 /// Where the base stopped and why, with all blocks that are beside.
-fn stopped_in_full(text: &Text, stop: &Stop) -> String {
+fn stopped_in_full(text: &Text, stop: &Stop, sections: &Sections) -> String {
     let at = show_block(stop.at);
     let (control, joint) = match stop.side {
         Side::Predecessors => ("control comes there from", "from"),
@@ -163,5 +190,9 @@ fn stopped_in_full(text: &Text, stop: &Stop) -> String {
         }
         _ => other_reason(text, stop, At { to: "there", from: "from there", it: &at }),
     };
-    format!("it stops at {at}: {reason}")
+    let refer = match &stop.why {
+        Why::Different { one, other } => format!(" {}", sections.refer(&[one.step, other.step])),
+        _ => String::new(),
+    };
+    format!("it stops at {at}: {reason}{refer}")
 }
