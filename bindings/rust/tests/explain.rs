@@ -221,12 +221,50 @@ fn a_base_that_no_block_assumes() {
 fn a_path_of_the_scope_block_that_leaves_the_base_open() {
     assert_eq!(
         cut("scope 7 block 7 assumes 1?.10 candidate 1.10"),
-        ["block 7 has 1?.10, which leaves open whether 1 is there", "no block assumes 1"]
+        ["block 7 assumes 1?.10; that leaves open whether 1 is there", "no block assumes 1"]
     );
     assert_eq!(
         cut("scope 7 block 7 assumes 1.11, 1?.10 candidate 1.10"),
-        ["block 7 has 1?.10, which leaves open whether 1 is there; \
-          it has 1.11 too, but the path that comes first counts"]
+        [
+            "block 7 assumes 1?.10; that leaves open whether 1 is there",
+            "block 7 assumes 1.11, too, but a path that has `?.` right after its variable decides before others"
+        ]
+    );
+    assert_eq!(
+        cut("scope 7 block 7 assumes 1, 1.10?.11, 1.10.12 candidate 1.10.13"),
+        [
+            "block 7 assumes 1.10?.11; that leaves open whether 1.10 is there",
+            "block 7 assumes 1.10.12, too, but of two such paths the one that the stage met first decides"
+        ]
+    );
+}
+
+#[test]
+fn a_path_that_leaves_the_base_open_is_told_with_the_block_that_it_comes_from() {
+    let job = "scope 2 block 1 assumes 1?.10 block 2 after 1 assumes 1.11 candidate 1.12";
+    assert_eq!(
+        cut(job),
+        [
+            "block 2 has 1?.10 from block 1, which assumes it; that leaves open whether 1 is there",
+            "block 2 assumes 1.11, too, but a path that has `?.` right after its variable decides before others"
+        ]
+    );
+    assert_eq!(
+        full(job),
+        "\
+candidate 1.12
+ returned 1
+    .12  is cut: 1 is not known to be there in block 2
+         block 2 has 1?.10 [1]; that leaves open whether 1 is there
+         block 2 has 1.11 [2], too, but a path that has `?.` right after its variable decides before others
+
+[1] how 1?.10 came there
+    block 1 assumes 1?.10
+    block 2 took 1?.10 over from block 1, the only block that control comes from
+
+[2] how 1.11 came there
+    block 2 assumes 1.11
+"
     );
 }
 
@@ -242,14 +280,14 @@ candidate 1?.10
 candidate 2?.10?.11
  returned 2?.10.11
     ?.10  stays optional: 2 is not known to be there in block 7
-          block 7 has 2?.10, which leaves open whether 2 is there
+          block 7 assumes 2?.10; that leaves open whether 2 is there
           no block assumes 2
     ?.11  becomes .11: 2?.10 is known to be there in block 7; block 7 assumes it
 
 candidate 2?.10?.11.12
  returned 2?.10.11
     ?.10  stays optional: 2 is not known to be there in block 7
-          block 7 has 2?.10, which leaves open whether 2 is there
+          block 7 assumes 2?.10; that leaves open whether 2 is there
           no block assumes 2
     ?.11  becomes .11: 2?.10 is known to be there in block 7; block 7 assumes it
     .12   is cut: 2?.10.11 is not known to be there in block 7

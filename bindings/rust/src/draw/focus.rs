@@ -5,10 +5,10 @@ use crate::explain::{Base, Elsewhere, End, Explanation, How, Reason, Stop, Unkno
 use crate::ids::BlockId;
 use std::collections::BTreeSet;
 
-/// The scope block; the blocks by way of which the known paths came there; and of each base that is
-/// not known there the nearest block at which it stopped, with the neighbours that have it and
-/// those that do not, and the blocks by way of which one of them came to have it; or those that
-/// assume it, where they are not connected with the scope block.
+/// The scope block; the blocks by way of which the paths came there that decide about bases; and of
+/// each base that is not known there the nearest block at which it stopped, with the neighbours
+/// that have it and those that do not, and the blocks by way of which one of them came to have it;
+/// or those that assume it, where they are not connected with the scope block.
 pub(super) fn blocks_in_focus(explanation: &Explanation) -> BTreeSet<BlockId> {
     let mut blocks = BTreeSet::from([explanation.scope]);
     let mut steps = Vec::new();
@@ -44,8 +44,9 @@ fn unknown(reason: &Reason) -> impl Iterator<Item = &Unknown> {
 /// Adds the blocks that keep the scope block from having a base, and how another came to have it.
 fn stopped(explanation: &Explanation, why: &Unknown, blocks: &mut BTreeSet<BlockId>, steps: &mut Vec<usize>) {
     let is_assumed = |step: &usize| explanation.steps[*step].how == How::Assumed;
+    steps.extend(why.open.as_ref().map(|open| open.step));
     match &why.elsewhere {
-        Elsewhere::Here(_) => {}
+        Elsewhere::Here { holder, .. } => steps.push(holder.step),
         Elsewhere::Nowhere(open) => blocks.extend(open.first().map(|(block, _)| block)),
         Elsewhere::Apart { holders, .. } => {
             steps.extend(holders.iter().map(|holder| holder.step).filter(is_assumed));

@@ -1,7 +1,7 @@
 //! Which bases are known in the scope block, and by which of its paths.
 
 use super::blocks::Blocks;
-use super::paths::shows;
+use super::paths::{shows, starts_optional};
 use super::steps::{How, Step, Steps};
 use super::unknown::{self, Unknown};
 use super::Mismatch;
@@ -55,7 +55,7 @@ impl<'a> Bases<'a> {
         let scope = job.place_of(job.scope()).ok_or(Mismatch)?;
         let mut paths: Vec<(NodeId, Path)> =
             replay.held(scope).map(|node| (node, replay.path(node))).collect();
-        paths.sort_by_key(|(_, path)| !path.entries().first().is_some_and(|entry| entry.optional));
+        paths.sort_by_key(|(_, path)| !starts_optional(path));
         Ok(Self { blocks: Blocks::new(job, replay, scope), steps: Steps::new(job, replay), paths })
     }
 
@@ -95,8 +95,8 @@ impl<'a> Bases<'a> {
 
     /// Why the base is not known.
     pub(super) fn unknown(&mut self, base: &Path) -> Unknown {
-        let open = self.deciding(base).map(|(_, path)| path.clone());
-        let here = self.paths.iter().find(|(_, path)| shows(path, base)).map(|(_, path)| path.clone());
+        let open = self.deciding(base).map(|(node, _)| *node);
+        let here = self.paths.iter().find(|(_, path)| shows(path, base)).map(|(node, _)| *node);
         unknown::unknown(&self.blocks, &mut self.steps, base, open, here)
     }
 

@@ -44,10 +44,9 @@ fn unknowns(reason: &Reason) -> impl Iterator<Item = &Unknown> {
 
 fn of_unknown(why: &Unknown, blocks: &mut BTreeSet<BlockId>) {
     match &why.elsewhere {
-        Elsewhere::Here(_) => {}
+        // The blocks that have a path of the base have steps.
+        Elsewhere::Here { .. } | Elsewhere::Apart { .. } => {}
         Elsewhere::Nowhere(open) => blocks.extend(open.iter().map(|(block, _)| block)),
-        // The blocks that have the base have steps.
-        Elsewhere::Apart { .. } => {}
         Elsewhere::Stopped { stops, .. } => stops.iter().for_each(|stop| of_stop(stop, blocks)),
     }
 }

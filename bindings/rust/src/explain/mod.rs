@@ -45,7 +45,7 @@ pub use matter::blocks_that_matter;
 pub use steps::{How, Step};
 pub use stops::{Holder, Stop, Way, Why};
 pub use text::InFull;
-pub use unknown::{Elsewhere, Unknown};
+pub use unknown::{Before, Elsewhere, Unknown};
 
 use crate::answer::Answer;
 use crate::ids::BlockId;

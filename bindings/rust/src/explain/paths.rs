@@ -13,6 +13,11 @@ pub(super) fn leaves_open(path: &Path, base: &Path) -> bool {
     base.names_start(path) && goes_on_optional(path, base)
 }
 
+/// Whether the path's first entry is optional.
+pub(super) fn starts_optional(path: &Path) -> bool {
+    path.entries().first().is_some_and(|entry| entry.optional)
+}
+
 fn goes_on_optional(path: &Path, base: &Path) -> bool {
     path.entries().get(base.entries().len()).is_some_and(|entry| entry.optional)
 }

@@ -44,12 +44,13 @@ pub enum Way {
     Aside,
 }
 
-/// A block that has a base.
+/// A block with a path of a base.
 #[derive(Clone, Debug, PartialEq, Eq)]
 pub struct Holder {
     /// The block.
     pub block: BlockId,
-    /// The path by which it has the base: the base itself, or one that goes on from it plainly.
+    /// The path. By it the block has the base, where it is the base itself or goes on from it
+    /// plainly.
     pub path: Path,
     /// How the block came to have that path.
     pub step: usize,

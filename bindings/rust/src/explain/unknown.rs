@@ -1,10 +1,10 @@
 //! Why a base is not known in the scope block.
 
 use super::blocks::Blocks;
-use super::paths::leaves_open;
+use super::paths::{leaves_open, starts_optional};
 use super::steps::Steps;
-use super::stops::{holder, stops, Holder, Stop};
-use crate::ids::BlockId;
+use super::stops::{held, holder, stops, Holder, Stop};
+use crate::ids::{BlockId, NodeId};
 use crate::job::Block;
 use crate::path::Path;
 
@@ -13,9 +13,9 @@ use crate::path::Path;
 pub struct Unknown {
     /// The base.
     pub base: Path,
-    /// The scope block's own path that decides about the base and goes on from it by `?.`, if there
-    /// is one.
-    pub open: Option<Path>,
+    /// The scope block with its own path that decides about the base and goes on from it by `?.`,
+    /// if there is one.
+    pub open: Option<Holder>,
     /// What other blocks know of it.
     pub elsewhere: Elsewhere,
 }
@@ -23,9 +23,13 @@ pub struct Unknown {
 /// Which blocks have a base that is not known in the scope block.
 #[derive(Clone, Debug, PartialEq, Eq)]
 pub enum Elsewhere {
-    /// The scope block itself has this path, which shows it; but the one that leaves it open comes
-    /// first.
-    Here(Path),
+    /// The scope block itself has a path that shows it; but the one that leaves it open decides.
+    Here {
+        /// The scope block with that path.
+        holder: Holder,
+        /// Why the other decides.
+        before: Before,
+    },
     /// None has it, since none assumes it. These assume paths that go on from it by `?.`.
     Nowhere(Vec<(BlockId, Path)>),
     /// No arrows connect the blocks that have it with the scope block.
@@ -44,17 +48,43 @@ pub enum Elsewhere {
     },
 }
 
+/// Why of two paths of the scope block one decides about a base and not the other.
+#[derive(Clone, Copy, Debug, PartialEq, Eq)]
+pub enum Before {
+    /// Its first entry is optional, and that of the other is not.
+    Optional,
+    /// The stage met it first.
+    Met,
+}
+
 /// Why a base is not known, where the scope block has these paths of it: one that leaves it open,
 /// one that shows it.
 pub(super) fn unknown(
     blocks: &Blocks,
     steps: &mut Steps,
     base: &Path,
-    open: Option<Path>,
-    here: Option<Path>,
+    open: Option<NodeId>,
+    here: Option<NodeId>,
 ) -> Unknown {
-    let elsewhere = here.map_or_else(|| elsewhere(blocks, steps, base), Elsewhere::Here);
+    let open = open.map(|node| held(blocks, steps, blocks.scope, node));
+    let elsewhere = match (here, &open) {
+        (Some(node), Some(open)) => {
+            let holder = held(blocks, steps, blocks.scope, node);
+            let before = before(&open.path, &holder.path);
+            Elsewhere::Here { holder, before }
+        }
+        _ => elsewhere(blocks, steps, base),
+    };
     Unknown { base: base.clone(), open, elsewhere }
+}
+
+/// Why the first of these paths decides, and not the second.
+fn before(first: &Path, second: &Path) -> Before {
+    if starts_optional(first) && !starts_optional(second) {
+        Before::Optional
+    } else {
+        Before::Met
+    }
 }
 
 fn elsewhere(blocks: &Blocks, steps: &mut Steps, base: &Path) -> Elsewhere {

@@ -1,7 +1,7 @@
 //! Sentences on the base of an entry.
 
 use crate::parse::{block, blocks, holes, path};
-use crate::sources::check_sources;
+use crate::sources::{check_holders, check_sources};
 use crate::stops::{check_stopped, check_stopped_in_full};
 use crate::text::{told_in, Section};
 use crate::world::{leaves_open, show, shows, World};
@@ -71,8 +71,14 @@ pub fn check_unknown(world: &World, base: &Path, said: &str, sections: &[Section
         assert!(!assumed.any(|path| shows(path, base)) && world.having(base).is_empty(), "{said}");
         return "no block";
     }
-    if let Some(found) = holes(&format!("{{}}, which leaves open whether {shown} is there{{}}"), said) {
-        return check_open(world, base, found[0], found[1]);
+    if let Some(found) = holes(&format!("{{}}, which leaves open whether {shown} is there"), said) {
+        return check_assumed_open(world, base, found[0]);
+    }
+    if let Some(found) = holes(&format!("{{}}; that leaves open whether {shown} is there"), said) {
+        return check_open(world, base, found[0], sections);
+    }
+    if let Some(found) = holes("{}, too, but {}", said) {
+        return check_here(world, base, (found[0], found[1]), sections);
     }
     if let Some(found) = holes(&format!("{shown} is there in {{}} [{{}}]"), said) {
         assert_eq!(blocks(found[0]), world.having(base), "{said}");
@@ -89,28 +95,53 @@ pub fn check_unknown(world: &World, base: &Path, said: &str, sections: &[Section
     check_stopped(world, base, said)
 }
 
-/// `block 7 has 1?.10`, or `block 4 assumes 1?.10`, and what comes after the part on what is left
-/// open.
-fn check_open(world: &World, base: &Path, said: &str, rest: &str) -> &'static str {
-    let scope = world.job.scope();
-    if let Some(found) = holes("{} assumes {}", said) {
-        let open = path(found[1]);
-        assert!(world.assumes(block(found[0]), &open) && leaves_open(&open, base), "{said}");
-        assert_eq!(rest, "");
-        return "assumed, and left open";
-    }
-    let found = holes("{} has {}", said).unwrap_or_else(|| panic!("no sentence: {said}"));
+/// `block 4 assumes 1?.10`, which leaves the base open.
+fn check_assumed_open(world: &World, base: &Path, said: &str) -> &'static str {
+    let found = holes("{} assumes {}", said).unwrap_or_else(|| panic!("no sentence: {said}"));
     let open = path(found[1]);
-    assert!(block(found[0]) == scope && world.holds(scope, &open) && leaves_open(&open, base), "{said}");
-    let deciding = world.deciding();
-    let first = deciding.iter().find(|path| base.names_start(path)).unwrap();
-    assert!(first.same_entries(&open), "{said}");
-    if rest.is_empty() {
-        assert!(!world.has(scope, base), "{said}");
-        return "left open";
+    assert!(world.assumes(block(found[0]), &open) && leaves_open(&open, base), "{said}");
+    "assumed, and left open"
+}
+
+/// `block 7 has 1?.10 from block 1, which assumes it`, of the path that decides.
+fn check_open(world: &World, base: &Path, said: &str, sections: &[Section]) -> &'static str {
+    let open = check_own(world, said, sections);
+    assert!(leaves_open(&open, base) && world.deciding_about(base).same_entries(&open), "{said}");
+    "left open"
+}
+
+/// `block 7 assumes 1.11`, and why the path that leaves the base open decides.
+fn check_here(world: &World, base: &Path, (said, why): (&str, &str), sections: &[Section]) -> &'static str {
+    let also = check_own(world, said, sections);
+    assert!(shows(&also, base), "{said}");
+    let open = world.deciding_about(base);
+    let starts_optional = |path: &Path| path.entries()[0].optional;
+    match why {
+        "a path that has `?.` right after its variable decides before others" => {
+            assert!(starts_optional(open) && !also.entries().first().is_some_and(|entry| entry.optional));
+            "shown, but open by the first entry"
+        }
+        "of two such paths the one that the stage met first decides" => {
+            let optional = also.entries().first().is_some_and(|entry| entry.optional);
+            assert!(starts_optional(open) == optional && world.met_before(open, &also), "{said}");
+            "shown, but open by a path met before"
+        }
+        other => panic!("no reason: {other}"),
     }
-    let also = holes("; it has {} too, but the path that comes first counts", rest);
-    let also = path(also.unwrap_or_else(|| panic!("no sentence: {rest}"))[0]);
-    assert!(world.holds(scope, &also) && shows(&also, base), "{said}{rest}");
-    "left open, and shown too late"
+}
+
+/// That the scope block has a path, with its sources or the section that tells of it.
+fn check_own(world: &World, said: &str, sections: &[Section]) -> Path {
+    let scope = world.job.scope();
+    let Some(found) = holes(&format!("block {scope} has {{}} [{{}}]"), said) else {
+        let holders = check_holders(world, None, said);
+        assert_eq!(holders.named, [scope], "{said}");
+        assert!(world.holds(scope, &holders.path), "{said}");
+        return holders.path;
+    };
+    let own = path(found[0]);
+    let told = told_in(sections, found[1]);
+    assert!(told.iter().any(|(block, path)| *block == scope && path.same_entries(&own)), "{said}");
+    assert!(world.holds(scope, &own), "{said}");
+    own
 }

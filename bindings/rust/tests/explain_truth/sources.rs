@@ -35,7 +35,7 @@ pub struct Holders {
     pub named: Vec<BlockId>,
     /// How many there are besides.
     more: usize,
-    path: Path,
+    pub path: Path,
     /// Whether they assume the path; else they have it from others.
     assume: bool,
 }
@@ -55,12 +55,13 @@ impl Holders {
     }
 }
 
-/// `block 1 assumes 1.10` or `blocks 3 and 4 have 1.10 from block 1, which assumes it`, with `and so
-/// have 1` where it is longer.
-pub fn check_holders(world: &World, base: &Path, said: &str) -> Holders {
+/// `block 1 assumes 1.10` or `blocks 3 and 4 have 1.10 from block 1, which assumes it`, with `and
+/// so have 1` where it is longer than the base, if one is spoken of.
+pub fn check_holders(world: &World, base: Option<&Path>, said: &str) -> Holders {
     let one = said.starts_with("block ");
     let (assume, have) = if one { ("assumes", "has") } else { ("assume", "have") };
-    let (said, longer) = match said.strip_suffix(&format!(", and so {have} {}", show(base))) {
+    let so = base.map(|base| format!(", and so {have} {}", show(base))).unwrap_or_default();
+    let (said, longer) = match said.strip_suffix(&so).filter(|_| !so.is_empty()) {
         Some(said) => (said, true),
         None => (said, false),
     };
@@ -73,9 +74,10 @@ pub fn check_holders(world: &World, base: &Path, said: &str) -> Holders {
             Some(found) => check_sources(world, holder, &path, found[2]),
             None => assert!(world.assumes(holder, &path), "{said}"),
         }
-        assert!(world.has(holder, base) && (from.is_none() || world.holds(holder, &path)), "{said}");
+        assert!(base.is_none_or(|base| world.has(holder, base)), "{said}");
+        assert!(from.is_none() || world.holds(holder, &path), "{said}");
     }
     assert_eq!(named.len() == 1, one, "{said}");
-    assert!(shows(&path, base) && path.same_names(base) != longer, "{said}");
+    assert!(base.is_none_or(|base| shows(&path, base) && path.same_names(base) != longer), "{said}");
     Holders { named, more, path, assume: from.is_none() }
 }

@@ -14,7 +14,7 @@ const SIDES: [Side; 2] = [Side::Predecessors, Side::Successors];
 pub fn check_stopped(world: &World, base: &Path, said: &str) -> &'static str {
     let scope = world.job.scope();
     let (holders, rest) = said.split_once(", but ").unwrap_or_else(|| panic!("no sentence: {said}"));
-    let holders = check_holders(world, base, holders);
+    let holders = check_holders(world, Some(base), holders);
     let apart = match holders.named[..] {
         [holder] => format!("block {holder} and block {scope} are not connected"),
         _ => format!("none of them is connected with block {scope}"),

@@ -136,11 +136,15 @@ fn check_entry(
 /// not settle.
 fn check_complete(world: &World, base: &Path, said: &[&str]) {
     let scope = world.job.scope();
-    let own = |line: &&&str| line.starts_with(&format!("block {scope} has ")) && line.contains("leaves open");
+    let starts = [format!("block {scope} has "), format!("block {scope} assumes ")];
+    let is_own = |line: &str| starts.iter().any(|start| line.starts_with(start));
+    let own = |line: &&&str| is_own(line) && line.contains("; that leaves open");
     let is_open = world.deciding().iter().any(|path| base.names_start(path));
     assert_eq!(said.iter().filter(own).count(), usize::from(is_open), "{said:?}");
     let unsettled = said.iter().filter(|line| line.contains("before it had settled")).count();
     assert_eq!(unsettled, usize::from(!world.sheet.is_settled()));
+    let here = said.iter().filter(|line| line.contains(", too, but ")).count();
+    assert_eq!(here, usize::from(world.has(scope, base)), "{said:?}");
     let nowhere = said.iter().filter(|line| line.starts_with("no block assumes ")).count();
     assert_eq!(nowhere, usize::from(world.having(base).is_empty()), "{said:?}");
 }

@@ -146,10 +146,33 @@ impl<'j> World<'j> {
         ahead.into_iter().chain(others).collect()
     }
 
+    /// The first of them with the base's names.
+    pub fn deciding_about(&self, base: &Path) -> &Path {
+        self.deciding().into_iter().find(|path| base.names_start(path)).unwrap()
+    }
+
     /// Whether the stage takes the base to be there in the scope block.
     pub fn is_known(&self, base: &Path) -> bool {
         let deciding = self.deciding();
         deciding.iter().find(|path| base.names_start(path)).is_some_and(|path| shows(path, base))
+    }
+
+    /// Whether the stage met the first path before the second. It goes through the assumed paths in
+    /// the job's order, each from its start; what it makes later it has not met before.
+    pub fn met_before(&self, first: &Path, second: &Path) -> bool {
+        let assumed = self.job.blocks().iter().flat_map(|block| block.assumed());
+        let starts =
+            |path: &Path| (0..=path.entries().len()).map(|length| path.prefix(length)).collect::<Vec<_>>();
+        let in_job: Vec<Path> = assumed.flat_map(starts).collect();
+        let met = |path: &Path| in_job.iter().position(|other| other.same_entries(path));
+        match (met(first), met(second)) {
+            (Some(first), Some(second)) => first < second,
+            (None, None) => {
+                let made = |path: &Path| self.paths.iter().position(|other| other.same_entries(path));
+                made(first) < made(second)
+            }
+            (first, _) => first.is_some(),
+        }
     }
 
     pub fn neighbours(&self, id: BlockId, side: Side) -> Vec<BlockId> {

@@ -3,7 +3,7 @@
 use super::known::sources;
 use super::show::{for_count, show_block, show_blocks, show_some_blocks};
 use super::{Sections, Text};
-use crate::explain::{Elsewhere, Holder, How, Stop, Unknown, Way, Why};
+use crate::explain::{Before, Elsewhere, Holder, How, Stop, Unknown, Way, Why};
 use crate::ids::BlockId;
 use crate::path::Path;
 use crate::replay::Side;
@@ -11,15 +11,7 @@ use crate::replay::Side;
 pub(super) fn unknown(text: &Text, why: &Unknown) -> Vec<String> {
     let (base, scope) = (text.path(&why.base), show_block(text.explanation.scope));
     let mut lines = vec![format!("{base} is not known to be there in {scope}")];
-    if let Some(open) = &why.open {
-        let also = match &why.elsewhere {
-            Elsewhere::Here(path) => {
-                format!("; it has {} too, but the path that comes first counts", text.path(path))
-            }
-            _ => String::new(),
-        };
-        lines.push(format!("{scope} has {}, {}{also}", text.path(open), leaves_open(text, &why.base)));
-    }
+    lines.extend(why.open.as_ref().map(|open| own(text, open) + "; that " + &leaves_open(text, &why.base)));
     lines.extend(elsewhere(text, why));
     if !text.explanation.settled {
         lines.push("the stage stopped after 100 rounds, before it had settled".to_string());
@@ -28,13 +20,33 @@ pub(super) fn unknown(text: &Text, why: &Unknown) -> Vec<String> {
 }
 
 fn leaves_open(text: &Text, base: &Path) -> String {
-    format!("which leaves open whether {} is there", text.path(base))
+    format!("leaves open whether {} is there", text.path(base))
+}
+
+/// That the scope block has a path: from where, or where it is told.
+fn own(text: &Text, holder: &Holder) -> String {
+    match &text.sections {
+        Some(sections) => {
+            let (block, path) = (show_block(holder.block), text.path(&holder.path));
+            format!("{block} has {path} {}", sections.refer(&[holder.step]))
+        }
+        None => has(text, &holder.path, holder, &[holder.block]),
+    }
+}
+
+/// That the scope block has a path that shows the base, and why the other decides.
+fn here(text: &Text, holder: &Holder, before: Before) -> String {
+    let first = match before {
+        Before::Optional => "a path that has `?.` right after its variable decides before others",
+        Before::Met => "of two such paths the one that the stage met first decides",
+    };
+    format!("{}, too, but {first}", own(text, holder))
 }
 
 fn elsewhere(text: &Text, why: &Unknown) -> Vec<String> {
     let base = &why.base;
     match (&why.elsewhere, &text.sections) {
-        (Elsewhere::Here(_), _) => Vec::new(),
+        (Elsewhere::Here { holder, before }, _) => vec![here(text, holder, *before)],
         (Elsewhere::Nowhere(open), _) => nowhere(text, why, open),
         (Elsewhere::Apart { holders, holder }, sections) => {
             let there = sections.as_ref().map(|sections| there(text, base, holders, sections));
@@ -56,7 +68,8 @@ fn elsewhere(text: &Text, why: &Unknown) -> Vec<String> {
 fn nowhere(text: &Text, why: &Unknown, open: &[(BlockId, Path)]) -> Vec<String> {
     let nobody = format!("no block assumes {}", text.path(&why.base));
     let assumes = |(block, path): &(BlockId, Path)| {
-        format!("{} assumes {}, {}", show_block(*block), text.path(path), leaves_open(text, &why.base))
+        let (block, path) = (show_block(*block), text.path(path));
+        format!("{block} assumes {path}, which {}", leaves_open(text, &why.base))
     };
     match (&text.sections, &why.open, open) {
         (Some(_), ..) => std::iter::once(nobody).chain(open.iter().map(assumes)).collect(),
