@@ -109,14 +109,13 @@ lock() {
 }
 
 # Proves and makes it, unless another run has done so meanwhile.
-prove() {
-  local before why log=$place/target/$name.log
-  mkdir -p "$place/target" 2>/dev/null && [ -w "$place/target" ] || stop "$what $(why_stale), and $place/target cannot be written"
-  command -v rt >/dev/null || stop "$what $(why_stale), and rt, the toolchain's command, was not found"
+prove() { # WHY
+  local before log=$place/target/$name.log
+  mkdir -p "$place/target" 2>/dev/null && [ -w "$place/target" ] || stop "$what $1, and $place/target cannot be written"
+  command -v rt >/dev/null || stop "$what $1, and rt, the toolchain's command, was not found"
   lock
-  why=$(why_stale)
-  [ -n "$why" ] || return 0
-  say "$(announcement "$why")"
+  [ -n "$(why_stale)" ] || return 0
+  say "$(announcement "$1")"
   before=$(sources_digest)
   # shellcheck disable=SC2086  # words of rt
   if ! (cd "$place" && rt $words) </dev/null 2>&1 | tee "$log" | show_progress; then

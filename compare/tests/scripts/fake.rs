@@ -1,10 +1,10 @@
 //! A small repository with the real scripts, in which the toolchain and cargo only pretend.
 
 use std::collections::BTreeMap;
-use std::fs::{self, Permissions};
+use std::fs::{self, File, Permissions};
 use std::os::unix::fs::{PermissionsExt, symlink};
 use std::path::{Path, PathBuf};
-use std::process::{Command, Stdio};
+use std::process::Command;
 use std::time::SystemTime;
 
 /// The commands that the scripts may use beside the toolchain and cargo.
@@ -85,8 +85,9 @@ else
 fi
 "#;
 
-/// Builds programs that say how they were built, and their words. The tool without the library
-/// reads any file but one called `bad.job`, and ends with status 3 where a command asks the stage.
+/// Builds programs that say how they were built, and their words, and pass their input on. The tool
+/// without the library reads any file but one called `bad.job` and any input but `bad`, and ends
+/// with status 3 where a command asks the stage.
 const CARGO: &str = r#"#!/usr/bin/env bash
 echo "cargo $*" >>"$FAKE_CALLS"
 kind=whole
@@ -97,8 +98,10 @@ done
 mkdir -p "$target/release"
 printf '%s\n' '#!/usr/bin/env bash' "echo $kind: \$*" >"$target/release/$program"
 if [ $kind = light ]; then
-  printf '%s\n' 'case " $* " in *" bad.job "*) exit 1 ;; *" --help "*) exit ;; esac' \
+  printf '%s\n' 'case " $* $(cat) " in *" bad.job "* | *" bad "*) exit 1 ;; *" -- "*) ;; *" --help "*) exit ;; esac' \
     'case ${1:-} in answer | sheet | explain | draw) exit 3 ;; esac' >>"$target/release/$program"
+else
+  echo cat >>"$target/release/$program"
 fi
 chmod +x "$target/release/$program"
 "#;
@@ -185,13 +188,20 @@ impl Fake {
 
     /// Runs a script of the repository, by way of a link in another folder.
     pub fn run(&self, script: &str, words: &[&str]) -> Said {
+        self.run_on(script, words, "")
+    }
+
+    /// The same with this on standard input.
+    pub fn run_on(&self, script: &str, words: &[&str], input: &str) -> Said {
+        let input_file = self.folder.join("input");
+        fs::write(&input_file, input).unwrap();
         let link = self.folder.join("link");
         let _ = fs::remove_file(&link);
         symlink(self.root.join(script), &link).unwrap();
         let output = Command::new(&link)
             .args(words)
             .current_dir(&self.folder)
-            .stdin(Stdio::null())
+            .stdin(File::open(input_file).unwrap())
             .env_clear()
             .env("PATH", std::env::join_paths(&self.path).unwrap())
             .env("FAKE_CALLS", self.folder.join("calls"))

@@ -133,12 +133,23 @@ fn a_library_is_made_elsewhere_where_the_repositorys_cannot_be_used() {
         fake.run("bin/library", &[&["--check"][..], &words].concat()),
         &["is missing; ", "cargo's folder/target/"],
     );
+    assert!(!place.exists());
     let made = saying(fake.run("bin/library", &words), &["is missing; ", "proved stage, 2 of 2"]);
     assert_eq!(made, format!("{}\n", place.join(ARCHIVE).display()));
     assert_eq!(quiet(fake.run("bin/library", &words)), made);
     assert_eq!(fake.files(), files);
     saying(fake.run("bin/library", &[]), &["is missing; "]);
     assert_eq!(quiet(fake.run("bin/library", &words)), archive_of(&fake));
+    // Why the repository's own cannot be used is told, and not that the other is missing.
+    fake.write("crates/leaf/src/lib.rt", "edited\n");
+    let elsewhere = fake.root.with_file_name("another folder");
+    let words = ["--into", elsewhere.to_str().unwrap()];
+    let first = "library was made from other sources; ";
+    failing(
+        fake.run("bin/library", &[&["--check"][..], &words].concat()),
+        &[first, "another folder/target/"],
+    );
+    saying(fake.run("bin/library", &words), &[first, "another folder/target/", "proved stage, 2 of 2"]);
 }
 
 #[test]
@@ -179,6 +190,9 @@ fn words_that_make_no_sense_are_told_and_help_is_there() {
         assert!(said.status == 2 && said.messages.contains("`--bogus` is no option"), "{said:?}");
         assert!(quiet(fake.run(script, &["--help"])).starts_with(&format!("usage: {script} ")));
     }
+    let said = fake.run("demo", &["--bogus"]);
+    assert!(said.status == 2 && said.messages.contains("`--bogus` is no option"), "{said:?}");
+    assert!(quiet(fake.run("demo", &["--help"])).starts_with("usage: ./demo\n"));
     let said = fake.run("bin/library", &["--into"]);
     assert!(said.status == 2 && said.messages.contains("a directory is missing after --into"), "{said:?}");
     assert!(fake.calls().is_empty());
@@ -252,8 +266,14 @@ fn a_file_that_cannot_be_read_is_told_before_anything_is_proved() {
     let said = fake.run("bin/scope-deps", &["explain", "--all", "-o", "x", "bad.job"]).without_building();
     assert_eq!((said.status, said.messages.as_str()), (1, "light: explain --all -o x bad.job\n"));
     assert_eq!(fake.calls(), ["cargo build"]);
-    // Standard input is not read before it is needed.
-    saying(fake.run("bin/scope-deps", &["explain", "-o", "bad.job"]), &["library is missing"]);
+    let said = fake.run("bin/scope-deps", &["explain", "--", "bad.job"]);
+    assert_eq!((said.status, said.messages.as_str()), (1, "light: explain -- bad.job\n"));
+    let said = fake.run_on("bin/scope-deps", &["explain", "-o", "x"], "bad");
+    assert_eq!((said.status, said.messages.as_str()), (1, "light: explain -o x\n"));
+    assert!(fake.calls().is_empty());
+    // What was read to be checked is there for the whole tool too.
+    let said = saying(fake.run_on("bin/scope-deps", &["explain", "-"], "good"), &["library is missing"]);
+    assert_eq!(said, "whole: explain -\ngood");
 }
 
 #[test]
@@ -266,7 +286,7 @@ fn the_tool_is_built_anew_where_it_belongs_to_other_sources() {
     assert_eq!(fake.calls(), ["cargo build"]);
     fake.write("crates/leaf/src/lib.rt", "edited\n");
     saying(fake.run("bin/scope-deps", &["answer"]), &["was made from other sources", "building"]);
-    assert_eq!(fake.calls(), ["rt staticlib", "cargo build"]);
+    assert_eq!(fake.calls(), ["cargo build", "rt staticlib", "cargo build"]);
     // Something else than the script has built the program since.
     fake.write("bindings/rust/target/release/scope-deps", "#!/usr/bin/env bash\n");
     saying(fake.run("bin/scope-deps", &["answer"]), &["building"]);
