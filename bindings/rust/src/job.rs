@@ -128,6 +128,12 @@ impl Job {
         self.bytes
     }
 
+    /// The scope block's id, the blocks and the candidates, without a copy. Names are left behind.
+    #[must_use]
+    pub fn into_parts(self) -> (BlockId, Vec<Block>, Vec<Path>) {
+        (self.scope, self.blocks, self.candidates)
+    }
+
     /// The same job with these names in place of those that it has.
     #[must_use]
     pub fn named(self, names: Names) -> Self {

@@ -74,7 +74,7 @@ pub use builder::JobBuilder;
 pub use bytes::Malformed;
 pub use ids::{BlockId, IdentifierId, NodeId, Span};
 pub use job::{Block, Job};
-pub use names::{NameError, Named, Names};
+pub use names::{NameError, Named, Names, NamesIter};
 pub use node_set::{NodeSet, Nodes};
 pub use path::{Entry, Path, Property};
 pub use refusal::{ManyNodes, Place, Record, Refusal};

@@ -1,8 +1,9 @@
 //! Names by which people know variables and properties.
 
 use crate::ids::IdentifierId;
-use std::collections::BTreeMap;
+use std::collections::{btree_map, BTreeMap};
 use std::fmt;
+use std::iter::FusedIterator;
 
 /// Names for people: of variables, and of the properties whose key is a name.
 ///
@@ -57,16 +58,18 @@ impl Names {
         Self { names: BTreeMap::new(), variables: BTreeMap::new(), properties: BTreeMap::new() }
     }
 
-    /// Gives a name to a variable or a property.
+    /// Gives a name to a variable or a property. The name that it has already may be given again.
     ///
     /// # Errors
     ///
-    /// Where the text is no name, where what is named has one already, and where the name is that
-    /// of another variable or of another property.
+    /// Where the text is no name, where what is named has another one already, and where the name
+    /// is that of another variable or of another property.
     pub fn insert(&mut self, named: Named, name: &str) -> Result<(), NameError> {
         check(named, name)?;
-        if let Some(first) = self.names.get(&named) {
-            return Err(NameError::NamedAlready { named, first: first.clone() });
+        match self.names.get(&named) {
+            Some(first) if first == name => return Ok(()),
+            Some(first) => return Err(NameError::NamedAlready { named, first: first.clone() }),
+            None => {}
         }
         let first = match named {
             Named::Variable(_) => self.variable(name).map(Named::Variable),
@@ -102,9 +105,8 @@ impl Names {
     }
 
     /// All names: those of variables, then those of properties, each by number.
-    #[must_use]
-    pub fn iter(&self) -> impl ExactSizeIterator<Item = (Named, &str)> {
-        self.names.iter().map(|(named, name)| (*named, name.as_str()))
+    pub fn iter(&self) -> NamesIter<'_> {
+        NamesIter(self.names.iter())
     }
 
     /// How many names there are.
@@ -119,6 +121,36 @@ impl Names {
         self.names.is_empty()
     }
 }
+
+impl<'a> IntoIterator for &'a Names {
+    type Item = (Named, &'a str);
+    type IntoIter = NamesIter<'a>;
+
+    fn into_iter(self) -> NamesIter<'a> {
+        self.iter()
+    }
+}
+
+/// All names, as [`Names::iter`] gives them.
+#[derive(Clone, Debug)]
+#[must_use = "iterators do nothing unless they are used"]
+pub struct NamesIter<'a>(btree_map::Iter<'a, Named, String>);
+
+impl<'a> Iterator for NamesIter<'a> {
+    type Item = (Named, &'a str);
+
+    fn next(&mut self) -> Option<Self::Item> {
+        self.0.next().map(|(named, name)| (*named, name.as_str()))
+    }
+
+    fn size_hint(&self) -> (usize, Option<usize>) {
+        self.0.size_hint()
+    }
+}
+
+impl ExactSizeIterator for NamesIter<'_> {}
+
+impl FusedIterator for NamesIter<'_> {}
 
 /// The word that may stand before a path, so that no variable can have it as its name.
 pub(crate) const REACTIVE: &str = "reactive";
@@ -150,7 +182,7 @@ pub enum NameError {
     },
     /// No variable can be named `reactive`, which says in the notation that a variable is reactive.
     Reserved,
-    /// What is named has a name already.
+    /// What is named has another name already.
     NamedAlready {
         /// What is named.
         named: Named,

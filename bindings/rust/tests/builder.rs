@@ -153,3 +153,11 @@ fn paths_are_compared_by_names_or_by_entries() {
     assert_eq!(plain.prefix(1), parse("1@3.10"));
     assert_eq!(plain.prefix(9), plain);
 }
+
+#[test]
+fn a_job_can_be_taken_apart_and_built_again() {
+    let text = "scope 1 block 0 assumes 5 block 1 after 0 candidate 5.10";
+    let job: Job = text.parse().unwrap();
+    let (scope, blocks, candidates) = job.clone().into_parts();
+    assert_eq!(Job::builder(scope).blocks(blocks).candidates(candidates).build().unwrap(), job);
+}

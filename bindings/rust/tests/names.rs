@@ -90,7 +90,7 @@ fn names_that_clash_are_refused_where_they_stand() {
     wrong("name 1 a\nname 2 a", 2, 8, "`a` is the name of variable 1 already");
     wrong("name .1 a\nname .2 a", 2, 9, "`a` is the name of property 1 already");
     wrong("name 1 a\nname 1 b", 2, 6, "variable 1 has the name `a` already");
-    wrong("name .1 a\nname .1 a", 2, 6, "property 1 has the name `a` already");
+    wrong("name .1 a\nname .1 b", 2, 6, "property 1 has the name `a` already");
     assert!(
         "name 1 a name .1 a scope 7 block 7".parse::<Job>().is_ok(),
         "a variable and a property may share one"
@@ -136,4 +136,20 @@ fn names_from_elsewhere_are_joined_by_those_of_the_text() {
     assert_eq!(job.names().len(), 2);
     let clash = names.read_job("name 1 a scope 7 block 7").unwrap_err();
     assert_eq!(clash.message(), "variable 1 has the name `athlete` already");
+}
+
+#[test]
+fn a_name_may_be_given_again_to_what_has_it() {
+    let text = "name 1 athlete name .10 lastSession";
+    let names: Names = text.parse().unwrap();
+    let job =
+        names.read_job(&format!("{text} {text} scope 7 block 7 candidate athlete.lastSession")).unwrap();
+    assert_eq!(job.names(), &names);
+    let given: Vec<(Named, &str)> = names.iter().collect();
+    let mut walked = Vec::new();
+    for name in &names {
+        walked.push(name);
+    }
+    assert_eq!((given.len(), names.iter().len()), (2, 2));
+    assert_eq!(walked, given);
 }

@@ -199,3 +199,21 @@ fn a_block_that_is_being_visited_is_passed_over() {
     let visit = replay.visits().iter().find(of_0).unwrap();
     assert_eq!((&visit.joined[..], &visit.passed_over[..]), (&[place(3)][..], &[place(1)][..]));
 }
+
+#[test]
+fn debug_shows_nodes_and_not_the_bits_of_sets() {
+    let job: Job = "scope 1 block 0 assumes 1?.10 block 1 after 0 assumes 1".parse().unwrap();
+    let shown = format!("{:?}", Replay::new(&job).unwrap());
+    let nodes = r#"nodes: {NodeId(0): "1", NodeId(1): "1?.10", NodeId(2): "1.10"}"#;
+    assert!(shown.contains(nodes), "{shown}");
+    assert!(shown.contains("sets: [{NodeId(0), NodeId(2)}, {NodeId(0), NodeId(2)}]"), "{shown}");
+}
+
+#[test]
+fn a_job_with_too_many_nodes_is_refused_as_the_stage_refuses_it() {
+    let paths: Vec<String> = (0..=512).map(|id| id.to_string()).collect();
+    let blocks =
+        paths.chunks(64).enumerate().map(|(id, paths)| format!("block {id} assumes {}", paths.join(", ")));
+    let job: Job = format!("scope 0 {}", blocks.collect::<Vec<_>>().join(" ")).parse().unwrap();
+    assert_eq!(Replay::new(&job).unwrap_err(), sheet(&job).unwrap_err());
+}

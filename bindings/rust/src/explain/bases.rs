@@ -11,7 +11,7 @@ use crate::path::Path;
 use crate::replay::Replay;
 
 /// What the scope block knows of a base, the value from which an entry is read.
-#[derive(Clone, Debug, PartialEq, Eq)]
+#[derive(Clone, Debug, PartialEq, Eq, Hash)]
 pub enum Base {
     /// It is neither null nor undefined.
     Known(Known),
@@ -20,7 +20,7 @@ pub enum Base {
 }
 
 /// By what a base is known.
-#[derive(Clone, Debug, PartialEq, Eq)]
+#[derive(Clone, Debug, PartialEq, Eq, Hash)]
 pub struct Known {
     /// The path of the scope block that shows it: the base itself, or one that goes on from it
     /// plainly.
@@ -34,7 +34,7 @@ pub struct Known {
 
 /// A block that was left out on the way of a path, since it was being visited, and does not have
 /// the base in the end.
-#[derive(Clone, Copy, Debug, PartialEq, Eq)]
+#[derive(Clone, Copy, Debug, PartialEq, Eq, Hash)]
 pub struct LeftOut {
     /// The step in which it was left out.
     pub step: usize,

@@ -58,7 +58,7 @@ use bases::Bases;
 use std::fmt;
 
 /// Why each candidate's returned path is what it is.
-#[derive(Clone, Debug)]
+#[derive(Clone, Debug, PartialEq, Eq, Hash)]
 pub struct Explanation {
     /// The scope block.
     pub scope: BlockId,
@@ -74,7 +74,7 @@ pub struct Explanation {
 }
 
 /// Why one candidate's returned path is what it is.
-#[derive(Clone, Debug)]
+#[derive(Clone, Debug, PartialEq, Eq, Hash)]
 pub struct Reason {
     /// The candidate.
     pub candidate: Path,
@@ -87,7 +87,7 @@ pub struct Reason {
 }
 
 /// Why a returned path ends where it does.
-#[derive(Clone, Debug, PartialEq, Eq)]
+#[derive(Clone, Debug, PartialEq, Eq, Hash)]
 pub enum End {
     /// The candidate ends there.
     Whole,
@@ -106,7 +106,7 @@ pub enum End {
 }
 
 /// The replay of the job does not end with this sheet and this answer.
-#[derive(Clone, Copy, Debug, PartialEq, Eq)]
+#[derive(Clone, Copy, Debug, PartialEq, Eq, Hash)]
 pub struct Mismatch;
 
 impl fmt::Display for Mismatch {

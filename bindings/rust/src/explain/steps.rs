@@ -9,7 +9,7 @@ use crate::replay::{Replay, Side};
 use std::collections::HashMap;
 
 /// How a block came to have a path.
-#[derive(Clone, Debug, PartialEq, Eq)]
+#[derive(Clone, Debug, PartialEq, Eq, Hash)]
 pub struct Step {
     /// The block.
     pub block: BlockId,
@@ -21,7 +21,7 @@ pub struct Step {
 
 /// How a path came to a block. Steps that this rests on are given by their places in
 /// [`super::Explanation::steps`].
-#[derive(Clone, Debug, PartialEq, Eq)]
+#[derive(Clone, Debug, PartialEq, Eq, Hash)]
 pub enum How {
     /// The block assumes it.
     Assumed,

@@ -14,7 +14,7 @@ use crate::replay::Side;
 use std::collections::VecDeque;
 
 /// A block at which a base stopped.
-#[derive(Clone, Debug, PartialEq, Eq)]
+#[derive(Clone, Debug, PartialEq, Eq, Hash)]
 pub struct Stop {
     /// The block, which does not have the base.
     pub at: BlockId,
@@ -34,7 +34,7 @@ pub struct Stop {
 
 /// How the block at which a base stopped is connected with the scope block, by way of blocks
 /// without the base.
-#[derive(Clone, Copy, Debug, PartialEq, Eq, PartialOrd, Ord)]
+#[derive(Clone, Copy, Debug, PartialEq, Eq, Hash, PartialOrd, Ord)]
 pub enum Way {
     /// Control comes from the neighbours by way of the block to the scope block.
     Before,
@@ -45,7 +45,7 @@ pub enum Way {
 }
 
 /// A block with a path of a base.
-#[derive(Clone, Debug, PartialEq, Eq)]
+#[derive(Clone, Debug, PartialEq, Eq, Hash)]
 pub struct Holder {
     /// The block.
     pub block: BlockId,
@@ -57,7 +57,7 @@ pub struct Holder {
 }
 
 /// Why a block did not take a base over from the neighbours on one side.
-#[derive(Clone, Debug, PartialEq, Eq)]
+#[derive(Clone, Debug, PartialEq, Eq, Hash)]
 pub enum Why {
     /// These were joined too, and do not have it.
     Lacking(Vec<BlockId>),

@@ -9,7 +9,7 @@ use crate::job::Block;
 use crate::path::Path;
 
 /// Why a base is not known in the scope block.
-#[derive(Clone, Debug, PartialEq, Eq)]
+#[derive(Clone, Debug, PartialEq, Eq, Hash)]
 pub struct Unknown {
     /// The base.
     pub base: Path,
@@ -21,7 +21,7 @@ pub struct Unknown {
 }
 
 /// Which blocks have a base that is not known in the scope block.
-#[derive(Clone, Debug, PartialEq, Eq)]
+#[derive(Clone, Debug, PartialEq, Eq, Hash)]
 pub enum Elsewhere {
     /// The scope block itself has a path that shows it; but the one that leaves it open decides.
     Here {
@@ -49,7 +49,7 @@ pub enum Elsewhere {
 }
 
 /// Why of two paths of the scope block one decides about a base and not the other.
-#[derive(Clone, Copy, Debug, PartialEq, Eq)]
+#[derive(Clone, Copy, Debug, PartialEq, Eq, Hash)]
 pub enum Before {
     /// Its first entry is optional, and that of the other is not.
     Optional,

@@ -32,16 +32,17 @@ pub use trace::{Replaced, Side, Visit};
 
 use crate::ids::NodeId;
 use crate::job::{Block, Job};
-use crate::limits;
 use crate::path::Path;
+use crate::refusal::ManyNodes;
 use crate::sheet::{NodeSet, Sheet};
 use nodes::Nodes;
 use registry::Registry;
+use std::collections::BTreeMap;
 use std::fmt;
 use walk::{Neighbours, Walks};
 
 /// The propagation of a job, visit by visit. Blocks are given by their place in the job, from 0.
-#[derive(Clone, Debug)]
+#[derive(Clone)]
 pub struct Replay {
     registry: Registry,
     assumed: Vec<Vec<NodeId>>,
@@ -51,25 +52,13 @@ pub struct Replay {
     settled: bool,
 }
 
-/// The job has more nodes than the stage allows, which refuses it by 9.
-#[derive(Clone, Copy, Debug, PartialEq, Eq)]
-pub struct TooManyNodes;
-
-impl fmt::Display for TooManyNodes {
-    fn fmt(&self, f: &mut fmt::Formatter<'_>) -> fmt::Result {
-        write!(f, "the job has more than {} nodes", limits::NODES)
-    }
-}
-
-impl std::error::Error for TooManyNodes {}
-
 impl Replay {
     /// Propagates the job's assumed paths.
     ///
     /// # Errors
     ///
     /// Where the job has more than 512 nodes, which the stage refuses by 9.
-    pub fn new(job: &Job) -> Result<Self, TooManyNodes> {
+    pub fn new(job: &Job) -> Result<Self, ManyNodes> {
         let mut registry = Registry::default();
         let assumed = assumed(job, &mut registry)?;
         let sets = assumed.iter().map(|nodes| set_of(nodes)).collect();
@@ -145,8 +134,20 @@ impl Replay {
     }
 }
 
+/// The nodes by their paths, and what each block assumes and holds by its nodes.
+impl fmt::Debug for Replay {
+    fn fmt(&self, f: &mut fmt::Formatter<'_>) -> fmt::Result {
+        let nodes: BTreeMap<NodeId, String> =
+            self.nodes().map(|node| (node, format!("{:#}", self.path(node)))).collect();
+        let mut shown = f.debug_struct("Replay");
+        shown.field("nodes", &nodes).field("assumed", &self.assumed).field("sets", &self.sets);
+        shown.field("visits", &self.visits).field("rounds", &self.rounds).field("settled", &self.settled);
+        shown.finish()
+    }
+}
+
 /// The nodes of each block's assumed paths. All are entered first, in job order.
-fn assumed(job: &Job, registry: &mut Registry) -> Result<Vec<Vec<NodeId>>, TooManyNodes> {
+fn assumed(job: &Job, registry: &mut Registry) -> Result<Vec<Vec<NodeId>>, ManyNodes> {
     let mut of_block = |block: &Block| block.assumed().iter().map(|path| registry.enter(path)).collect();
     job.blocks().iter().map(&mut of_block).collect()
 }

@@ -2,10 +2,11 @@
 
 use crate::ids::NodeId;
 use crate::limits;
+use std::fmt;
 
 const WORDS: usize = limits::NODES / 64;
 
-#[derive(Clone, Copy, Debug, PartialEq, Eq)]
+#[derive(Clone, Copy, PartialEq, Eq)]
 pub(super) struct Nodes([u64; WORDS]);
 
 impl Nodes {
@@ -46,6 +47,12 @@ impl Nodes {
     /// The nodes, ascending.
     pub(super) fn iter(&self) -> impl Iterator<Item = NodeId> + '_ {
         (0..limits::NODES as u16).map(NodeId).filter(|&node| self.contains(node))
+    }
+}
+
+impl fmt::Debug for Nodes {
+    fn fmt(&self, f: &mut fmt::Formatter<'_>) -> fmt::Result {
+        f.debug_set().entries(self.iter()).finish()
     }
 }
 

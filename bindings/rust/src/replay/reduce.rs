@@ -3,13 +3,13 @@
 use super::nodes::Nodes;
 use super::registry::Registry;
 use super::trace::Replaced;
-use super::TooManyNodes;
 use crate::ids::NodeId;
 use crate::path::Entry;
+use crate::refusal::ManyNodes;
 
 /// Reduces the set: passes over its nodes with an optional entry, until one changes nothing. What
 /// was replaced, in order.
-pub(super) fn reduce(set: &mut Nodes, registry: &mut Registry) -> Result<Vec<Replaced>, TooManyNodes> {
+pub(super) fn reduce(set: &mut Nodes, registry: &mut Registry) -> Result<Vec<Replaced>, ManyNodes> {
     let mut replaced = Vec::new();
     loop {
         let made = pass(set, registry)?;
@@ -21,7 +21,7 @@ pub(super) fn reduce(set: &mut Nodes, registry: &mut Registry) -> Result<Vec<Rep
 }
 
 /// One pass, over a list that is taken at its start. A changed node is replaced at once.
-fn pass(set: &mut Nodes, registry: &mut Registry) -> Result<Vec<Replaced>, TooManyNodes> {
+fn pass(set: &mut Nodes, registry: &mut Registry) -> Result<Vec<Replaced>, ManyNodes> {
     let list: Vec<NodeId> = set.iter().filter(|&node| registry.has_optional(node)).collect();
     let mut replaced = Vec::new();
     for node in list {
@@ -37,7 +37,7 @@ fn pass(set: &mut Nodes, registry: &mut Registry) -> Result<Vec<Replaced>, TooMa
 
 /// Walks a node's path again from its root. An optional entry becomes plain where its base is in
 /// the set.
-fn walk_again(from: NodeId, set: &Nodes, registry: &mut Registry) -> Result<Replaced, TooManyNodes> {
+fn walk_again(from: NodeId, set: &Nodes, registry: &mut Registry) -> Result<Replaced, ManyNodes> {
     let (mut to, entries) = registry.root_and_entries(from);
     let mut bases = Vec::new();
     for entry in entries {

@@ -1,9 +1,9 @@
 //! The nodes of paths, numbered from 0 as they are made.
 
-use super::TooManyNodes;
 use crate::ids::{IdentifierId, NodeId, Span};
 use crate::limits;
 use crate::path::{Entry, Path, Property};
+use crate::refusal::ManyNodes;
 use crate::sheet::Node;
 use std::collections::HashMap;
 
@@ -26,7 +26,7 @@ impl Registry {
     }
 
     /// The node of a path. Those that are missing on the way are made.
-    pub(super) fn enter(&mut self, path: &Path) -> Result<NodeId, TooManyNodes> {
+    pub(super) fn enter(&mut self, path: &Path) -> Result<NodeId, ManyNodes> {
         let mut node = self.root(path.identifier(), path.is_reactive(), path.span());
         for &entry in path.entries() {
             node = self.child(node, entry);
@@ -35,11 +35,11 @@ impl Registry {
     }
 
     /// The node, as long as there are not more than the stage allows.
-    pub(super) fn within_limit(&self, node: NodeId) -> Result<NodeId, TooManyNodes> {
+    pub(super) fn within_limit(&self, node: NodeId) -> Result<NodeId, ManyNodes> {
         if self.nodes.len() <= limits::NODES {
             Ok(node)
         } else {
-            Err(TooManyNodes)
+            Err(ManyNodes)
         }
     }
 

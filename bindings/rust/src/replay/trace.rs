@@ -13,7 +13,7 @@ pub enum Side {
 }
 
 /// A visit of a block. Blocks are given by their place in the job, from 0.
-#[derive(Clone, Debug, PartialEq, Eq)]
+#[derive(Clone, Debug, PartialEq, Eq, Hash)]
 pub struct Visit {
     /// The round, from 1.
     pub round: u8,
@@ -32,7 +32,7 @@ pub struct Visit {
 }
 
 /// A node that reduction replaced in a block's set.
-#[derive(Clone, Debug, PartialEq, Eq)]
+#[derive(Clone, Debug, PartialEq, Eq, Hash)]
 pub struct Replaced {
     /// The node that was taken out.
     pub from: NodeId,

@@ -4,9 +4,9 @@ use super::nodes::Nodes;
 use super::reduce::reduce;
 use super::registry::Registry;
 use super::trace::{Side, Visit};
-use super::TooManyNodes;
 use crate::graph::Graph;
 use crate::job::Job;
+use crate::refusal::ManyNodes;
 
 /// The most rounds.
 const ROUNDS: u8 = 100;
@@ -61,7 +61,7 @@ impl<'g> Walks<'g> {
 
     /// Rounds of a forward and a backward walk, until one changes nothing. How many they were, and
     /// whether the last changed nothing.
-    pub(super) fn rounds(&mut self) -> Result<(u8, bool), TooManyNodes> {
+    pub(super) fn rounds(&mut self) -> Result<(u8, bool), ManyNodes> {
         for round in 1..=ROUNDS {
             let places = 0..self.sets.len();
             let forward = self.walk(round, Side::Predecessors, places.clone())?;
@@ -79,7 +79,7 @@ impl<'g> Walks<'g> {
         round: u8,
         side: Side,
         blocks: impl Iterator<Item = usize>,
-    ) -> Result<bool, TooManyNodes> {
+    ) -> Result<bool, ManyNodes> {
         self.marks.fill(Mark::Unmarked);
         let mut changed = false;
         for block in blocks {
@@ -90,7 +90,7 @@ impl<'g> Walks<'g> {
 
     /// Visits a block, and before it the neighbours that have no mark. A block that has a mark is
     /// left alone.
-    fn visit(&mut self, round: u8, side: Side, block: usize) -> Result<bool, TooManyNodes> {
+    fn visit(&mut self, round: u8, side: Side, block: usize) -> Result<bool, ManyNodes> {
         if self.marks[block] != Mark::Unmarked {
             return Ok(false);
         }
@@ -106,7 +106,7 @@ impl<'g> Walks<'g> {
     }
 
     /// Joins what the Done neighbours have in common, reduces the set, and notes both.
-    fn leave(&mut self, round: u8, side: Side, block: usize) -> Result<bool, TooManyNodes> {
+    fn leave(&mut self, round: u8, side: Side, block: usize) -> Result<bool, ManyNodes> {
         let neighbours = self.neighbours.of(block, side).iter().copied();
         let (joined, passed_over): (Vec<usize>, Vec<usize>) =
             neighbours.partition(|&near| self.marks[near] == Mark::Done);

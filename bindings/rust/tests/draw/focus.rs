@@ -125,9 +125,10 @@ fn blocks_that_bring_a_path_or_stop_one_are_drawn_and_no_others() {
 
 #[test]
 fn a_block_that_brings_a_path_which_leaves_a_base_open_is_drawn() {
-    let job: Job = "scope 2 block 0 block 1 after 0 assumes 1?.10 block 2 after 1 assumes 1.11 candidate 1.12"
-        .parse()
-        .unwrap();
+    let job: Job =
+        "scope 2 block 0 block 1 after 0 assumes 1?.10 block 2 after 1 assumes 1.11 candidate 1.12"
+            .parse()
+            .unwrap();
     assert_eq!(drawn(&focused(&job).unwrap(), &job), ids(&[1, 2]));
 }
 
