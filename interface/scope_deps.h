@@ -25,15 +25,15 @@ extern "C" {
 
 /* The refusals, named as in the stage's own code. Each is returned as its negative. */
 enum scope_deps_refusal {
-  SCOPE_DEPS_SHORT_BUFFER = 1,  /* the out buffer is shorter than 24,576 bytes */
-  SCOPE_DEPS_LONG_JOB = 2,      /* the job is longer than 32,768 bytes */
+  SCOPE_DEPS_SHORT_BUFFER = 1,  /* the out buffer has fewer than 24,576 bytes */
+  SCOPE_DEPS_LONG_JOB = 2,      /* the job has more than 32,768 bytes */
   SCOPE_DEPS_MISSING_BYTE = 3,  /* a field needs a byte past the job's end */
-  SCOPE_DEPS_WRONG_MARK = 4,    /* a mark is not the one due */
-  SCOPE_DEPS_OUT_OF_RANGE = 5,  /* a field lies outside its range */
+  SCOPE_DEPS_WRONG_MARK = 4,    /* another mark stands where one is due */
+  SCOPE_DEPS_OUT_OF_RANGE = 5,  /* a field's value is outside its range */
   SCOPE_DEPS_EXTRA_BYTE = 6,    /* a byte follows the last candidate */
-  SCOPE_DEPS_REPEATED_ID = 7,   /* a block id, or a predecessor within one block, stands twice */
-  SCOPE_DEPS_UNKNOWN_BLOCK = 8, /* a predecessor or the scope block is no block of the job */
-  SCOPE_DEPS_MANY_NODES = 9     /* the registry would pass 512 nodes by the end of propagation */
+  SCOPE_DEPS_REPEATED_ID = 7,   /* two blocks have one id, or one block names a predecessor twice */
+  SCOPE_DEPS_UNKNOWN_BLOCK = 8, /* a predecessor, or the scope block, is no block of the job */
+  SCOPE_DEPS_MANY_NODES = 9     /* the registry has more than 512 nodes when propagation ends */
 };
 
 /*

@@ -35,6 +35,15 @@ fn the_document_lists_number_name_and_meaning() {
 }
 
 #[test]
+fn the_c_header_has_the_same_words() {
+    let header = read("interface/scope_deps.h");
+    let (_, cases) = header.split_once("enum scope_deps_refusal {").unwrap();
+    let comments = cases.split_once("};").unwrap().0.lines().filter_map(|line| line.split_once("/* "));
+    let words = comments.filter_map(|(_, comment)| comment.strip_suffix(" */"));
+    assert!(words.eq(refusals().map(|refusal| refusal.meaning())));
+}
+
+#[test]
 fn a_refusal_is_shown_with_number_name_and_meaning() {
     for refusal in refusals() {
         let (number, name, meaning) = (refusal.number(), refusal.name(), refusal.meaning());

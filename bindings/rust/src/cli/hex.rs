@@ -19,6 +19,11 @@ pub fn bytes(text: &str) -> Result<Vec<u8>, String> {
         lines.try_for_each(|(number, line)| dump.take(number, line, xxd))?;
     } else if hexdump(first).is_some() {
         lines.try_for_each(|(number, line)| dump.take(number, line, hexdump_or_end))?;
+    } else if is_other_dump(first) {
+        return Err(
+            "this dump starts with an offset as `hexdump` and `od` print it; use `hexdump -C` or `xxd`"
+                .into(),
+        );
     } else {
         let mut plain = lines.map(|(number, digits)| Line { number, offset: None, digits });
         plain.try_for_each(|line| dump.push(&line))?;
@@ -43,6 +48,13 @@ fn hexdump(line: &str) -> Option<(&str, &str)> {
 /// The same of a line that may be the last, which is an offset alone.
 fn hexdump_or_end(line: &str) -> Option<(&str, &str)> {
     hexdump(line).or_else(|| is_hexadecimal(line).then_some((line, "")))
+}
+
+/// Whether the first line is `0000000 4448 0001`, of a dump whose numbers need not be bytes in
+/// order. No job's bytes start with zeros.
+fn is_other_dump(first: &str) -> bool {
+    let (offset, digits) = first.trim_end().split_once(' ').unwrap_or_default();
+    offset.len() >= 6 && offset.bytes().all(|byte| byte == b'0') && !digits.is_empty()
 }
 
 fn is_hexadecimal(text: &str) -> bool {

@@ -8,7 +8,7 @@ pub(super) const HEIGHT: f64 = 90.0;
 
 const LINES: [&[(&str, &str)]; 4] = [
     &[("assumed", "assumes"), ("label", ": paths taken as given in the block")],
-    &[("", "holds"), ("label", ": paths that count as known there, its propagated set")],
+    &[("", "holds"), ("label", ": paths that count as known there in the end")],
     &[("", "1"), ("knife", "|"), ("cut", ".10"), ("label", ": cut, since 1 is not known there")],
     &[("", "1"), ("knife", "|"), ("covered", ".10"), ("label", ": not needed, since another ends at 1")],
 ];

@@ -69,6 +69,8 @@ fn a_dump_that_is_none_is_told_with_its_line() {
     );
     assert!(said(&"00".repeat(limits::JOB_BYTES + 1))
         .contains("refusal 2, LongJob: the job has more than 32,768"));
-    let octal = "0000000 110 104 001 000\n";
-    assert!(said(octal).contains("`0000000` has an odd number"));
+    for other in ["0000000 110 104 001 000\n0000004\n", "0000000 4448 0001\n", "000000 48 44 01 00\n000004\n"]
+    {
+        assert!(said(other).contains("use `hexdump -C` or `xxd`"), "{other}");
+    }
 }
