@@ -4,7 +4,7 @@ use std::collections::BTreeMap;
 use std::fs::{self, File, Permissions};
 use std::os::unix::fs::{PermissionsExt, symlink};
 use std::path::{Path, PathBuf};
-use std::process::Command;
+use std::process::{Command, Output};
 use std::time::SystemTime;
 
 /// The commands that the scripts may use beside the toolchain and cargo.
@@ -122,6 +122,17 @@ pub struct Said {
     pub status: i32,
 }
 
+impl Said {
+    fn of(output: Output) -> Self {
+        let text = |bytes| String::from_utf8(bytes).unwrap();
+        Self {
+            out: text(output.stdout),
+            messages: text(output.stderr),
+            status: output.status.code().unwrap(),
+        }
+    }
+}
+
 impl Fake {
     /// A new repository, in a folder of this name.
     pub fn new(name: &str) -> Self {
@@ -208,12 +219,36 @@ impl Fake {
             .envs(&self.environment)
             .output()
             .unwrap();
-        let text = |bytes| String::from_utf8(bytes).unwrap();
-        Said {
-            out: text(output.stdout),
-            messages: text(output.stderr),
-            status: output.status.code().unwrap(),
+        Said::of(output)
+    }
+
+    /// Has the real package for callers in Rust checked by the real cargo, with the toolchain that
+    /// only pretends.
+    pub fn check_package(&self) -> Said {
+        let real = Path::new(env!("CARGO_MANIFEST_DIR")).join("..");
+        for part in
+            ["Cargo.toml", "Cargo.lock", "build.rs", "src"].map(|part| format!("bindings/rust/{part}"))
+        {
+            self.copy(&real, &part);
         }
+        self.copy(&real, "compare/Cargo.toml");
+        let others = std::env::var_os("PATH").unwrap();
+        let path = [self.path[0].clone()].into_iter().chain(std::env::split_paths(&others));
+        let mut cargo = Command::new(env!("CARGO"));
+        cargo
+            .args(["check", "--lib", "--offline", "--manifest-path"])
+            .arg(self.root.join("bindings/rust/Cargo.toml"));
+        cargo.arg("--target-dir").arg(self.folder.join("cargo's target")).env_remove("SCOPE_DEPS_LIBRARY");
+        cargo.env("PATH", std::env::join_paths(path).unwrap()).env("FAKE_CALLS", self.folder.join("calls"));
+        Said::of(cargo.output().unwrap())
+    }
+
+    /// Copies a file or directory of the real repository, and what links in it name. Times of
+    /// change are kept, by which cargo sees what is new.
+    fn copy(&self, real: &Path, part: &str) {
+        let (from, to) = (real.join(part), self.root.join(part));
+        let status = Command::new("cp").args(["-RLTp"]).arg(from).arg(to).status().unwrap();
+        assert!(status.success(), "{part} cannot be copied");
     }
 
     /// The calls of toolchain and cargo since the last time, each by its first two words. That of

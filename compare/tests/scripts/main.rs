@@ -352,3 +352,27 @@ fn the_demo_holds_the_answer_to_the_specification() {
     assert_eq!(fake.files(), files);
     assert!(fake.has("target/bin/programs.digest"));
 }
+
+#[test]
+fn cargo_warns_of_a_proof_and_has_it_done_in_its_own_directory() {
+    let fake = Fake::new("package");
+    let said = fake.check_package();
+    let warning =
+        "warning: scope-deps@0.1.0: library: the stage's library is missing; proving it takes about ";
+    saying(said, &[warning, "/out/target/library.log"]);
+    assert_eq!(fake.calls(), ["rt staticlib"]);
+    assert!(!fake.has("target"));
+    // The same build once more has nothing to prove and nothing to say.
+    let again = fake.check_package();
+    assert!(again.status == 0 && !again.messages.contains("warning"), "{again:?}");
+    assert!(fake.calls().is_empty());
+    // The repository's own, once it is there, but of other sources.
+    saying(fake.run("bin/library", &[]), &["is missing"]);
+    fake.write("crates/leaf/src/lib.rt", "edited\n");
+    fake.calls();
+    saying(
+        fake.check_package(),
+        &["warning: scope-deps@0.1.0: library: the stage's library was made from other sources; "],
+    );
+    assert_eq!(fake.calls(), ["rt staticlib"]);
+}
