@@ -184,6 +184,11 @@ fn all_blocks_that_have_the_base_are_told_and_in_full_how_each_came_to_have_it()
           but control can also come to block 4 from block 3, which does not have it"]
     );
     assert_eq!(
+        cut("scope 4 block 0 assumes 5 block 1 after 0 block 2 assumes 5 block 3 block 4 after 1, 2, 3 candidate 5.10"),
+        ["block 2 assumes 5, and block 1 has it too, \
+          but control can also come to block 4 from block 3, which does not have it"]
+    );
+    assert_eq!(
         cut("scope 2 block 1 assumes 5 block 2 block 3 assumes 5 candidate 5.10"),
         ["blocks 1 and 3 assume 5, but none of them is connected with block 2"]
     );
@@ -193,8 +198,9 @@ fn all_blocks_that_have_the_base_are_told_and_in_full_how_each_came_to_have_it()
 fn different_paths_of_the_same_base() {
     assert_eq!(
         cut("scope 3 block 1 assumes 5.6 block 2 assumes 5.7 block 3 after 1, 2 candidate 5.10"),
-        ["block 1 assumes 5.6, and so has 5, but control comes to block 3 from block 1, which has it by 5.6, \
-          and from block 2, which has it by 5.7; only a path that is the same in all is passed on"]
+        ["block 1 assumes 5.6, and so has 5, and block 2 has it too, \
+          but control comes to block 3 from block 1, which has it by 5.6, and from block 2, \
+          which has it by 5.7; only a path that is the same in all is passed on"]
     );
 }
 

@@ -41,6 +41,10 @@ pub struct Holders {
 }
 
 impl Holders {
+    pub fn count(&self) -> usize {
+        self.named.len() + self.more
+    }
+
     /// Whether those that are named are among these blocks, and the others can be.
     pub fn are_among(&self, world: &World, blocks: &[BlockId]) -> bool {
         let alike = |&&block: &&BlockId| {
@@ -50,7 +54,7 @@ impl Holders {
             let sources = |block| world.sources(block, &self.path);
             world.holds(block, &self.path) && sources(block) == sources(self.named[0])
         };
-        let enough = blocks.iter().filter(alike).count() >= self.named.len() + self.more;
+        let enough = blocks.iter().filter(alike).count() >= self.count();
         enough && self.named.iter().all(|block| blocks.contains(block))
     }
 }

@@ -1,6 +1,6 @@
 //! Sentences on the block at which a base stopped.
 
-use crate::parse::{block, blocks, holes, path};
+use crate::parse::{block, blocks, holes, path, some_blocks};
 use crate::sources::check_holders;
 use crate::text::{told_in, Section};
 use crate::world::{shows, World};
@@ -14,12 +14,21 @@ const SIDES: [Side; 2] = [Side::Predecessors, Side::Successors];
 pub fn check_stopped(world: &World, base: &Path, said: &str) -> &'static str {
     let scope = world.job.scope();
     let (holders, rest) = said.split_once(", but ").unwrap_or_else(|| panic!("no sentence: {said}"));
+    let (holders, others) = others_said(holders);
     let holders = check_holders(world, Some(base), holders);
+    let are_beside = |at: BlockId, side: Side| {
+        let near = world.neighbours(at, side);
+        let having: Vec<BlockId> = near.iter().copied().filter(|&near| world.has(near, base)).collect();
+        let are_others = |other: &BlockId| having.contains(other) && !holders.named.contains(other);
+        let all = holders.count() + others.0.len() + others.1 == having.len();
+        all && others.0.iter().all(are_others) && holders.are_among(world, &near)
+    };
     let apart = match holders.named[..] {
         [holder] => format!("block {holder} and block {scope} are not connected"),
         _ => format!("none of them is connected with block {scope}"),
     };
     if rest == apart {
+        assert!(others.0.is_empty(), "{said}");
         let apart = world.ids().filter(|&id| id != scope && !world.connected(id, scope));
         assert!(holders.are_among(world, &apart.collect::<Vec<_>>()), "{said}");
         return "not connected";
@@ -31,7 +40,7 @@ pub fn check_stopped(world: &World, base: &Path, said: &str) -> &'static str {
         let (side, kind) = check_reason(world, base, at, "there", "from there", found[2]);
         let (first, then) = if side == Side::Predecessors { (at, scope) } else { (scope, at) };
         assert!(world.leads(first, then), "{said}");
-        assert!(holders.are_among(world, &world.neighbours(at, side)), "{said}");
+        assert!(are_beside(at, side), "{said}");
         return kind;
     }
     let (at, there, from, reason) = match holes("it stops at {}: {}", rest) {
@@ -39,9 +48,23 @@ pub fn check_stopped(world: &World, base: &Path, said: &str) -> &'static str {
         None => (scope, format!("to block {scope}"), format!("from block {scope}"), rest),
     };
     let (side, kind) = check_reason(world, base, at, &there, &from, reason);
-    assert!(holders.are_among(world, &world.neighbours(at, side)), "{said}");
+    assert!(are_beside(at, side), "{said}");
     assert!(at == scope || world.connected(at, scope), "{said}");
     kind
+}
+
+/// The blocks that have the base too (`, and block 2 has it too`), how many more, and what stands
+/// before.
+fn others_said(said: &str) -> (&str, (Vec<BlockId>, usize)) {
+    let Some((before, others)) =
+        said.strip_suffix(" it too").and_then(|said| said.rsplit_once(", and block"))
+    else {
+        return (said, (Vec::new(), 0));
+    };
+    let (others, have) = others.rsplit_once(' ').unwrap();
+    let (named, more) = some_blocks(&format!("block{others}"));
+    assert_eq!(have, if named.len() == 1 { "has" } else { "have" }, "{said}");
+    (before, (named, more))
 }
 
 /// `it stops at block 3: REASON`, in full. The sections follow where different paths are spoken of.

@@ -126,11 +126,22 @@ fn alike<'a>(text: &Text, one: &Holder, holders: impl IntoIterator<Item = &'a Ho
     same.map(|holder| holder.block).collect()
 }
 
+/// That the blocks beside a stop have the base, and from where those that have it like one of them.
+fn beside(text: &Text, base: &Path, stop: &Stop, holders: &[Holder]) -> String {
+    let beside = holders.iter().filter(|holder| stop.holders.contains(&holder.block));
+    let alike = alike(text, &stop.holder, beside);
+    let others: Vec<BlockId> = stop.holders.iter().copied().filter(|block| !alike.contains(block)).collect();
+    let too = match others.len() {
+        0 => String::new(),
+        count => format!(", and {} {} it too", show_some_blocks(&others), for_count(count, "has", "have")),
+    };
+    has(text, base, &stop.holder, &alike) + &too
+}
+
 /// Where the base stopped and why, in short.
 fn stopped(text: &Text, base: &Path, stop: &Stop, holders: &[Holder]) -> String {
     let (scope, at) = (show_block(text.explanation.scope), show_block(stop.at));
-    let beside = holders.iter().filter(|holder| stop.holders.contains(&holder.block));
-    let has = has(text, base, &stop.holder, &alike(text, &stop.holder, beside));
+    let has = beside(text, base, stop, holders);
     if stop.at == text.explanation.scope {
         return format!(
             "{has}, but {}",
