@@ -73,10 +73,10 @@ optional v = optionalAt (20 + v) v
 abbrev plain2 : ℕ → DependencyPathEntry
 plain2 v = plainAt (40 + v) v
 
-abbrev pub known : ℕ → DependencyPathEntry
+abbrev known : ℕ → DependencyPathEntry
 known v = plainAt (60 + v) v
 
-abbrev pub knownOptional : ℕ → DependencyPathEntry
+abbrev knownOptional : ℕ → DependencyPathEntry
 knownOptional v = optionalAt (60 + v) v
 
 abbrev pub pathOf : ℕ → Bool → ℕ → List DependencyPathEntry → ReactiveScopeDependency
@@ -87,7 +87,7 @@ pathOf identifier reactive span entries =
 abbrev hoistable : List DependencyPathEntry → ReactiveScopeDependency
 hoistable es = pathOf 1 false 3 es
 
-abbrev pub candidate : List DependencyPathEntry → ReactiveScopeDependency
+abbrev candidate : List DependencyPathEntry → ReactiveScopeDependency
 candidate es = pathOf 1 true 1 es
 
 abbrev candidate2 : List DependencyPathEntry → ReactiveScopeDependency

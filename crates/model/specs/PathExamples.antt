@@ -1,17 +1,13 @@
--- Examples of reading a path and of prefixes, in the notation of `Examples`, proved by computation.
+-- Examples of reading a path, in the notation of `Examples`, proved by computation.
 use Prim.Native.Nat.{ℕ}
 use mathlib.Core.Path.{_≡_, refl}
-use mathlib.Core.Bool.{Bool, true, false, cond}
+use mathlib.Core.Bool.{false, cond}
 use mathlib.Core.List.{List, [], _∷_}
 use lib.Dec.{eqb}
-use Rattle.entries.specs.declared.PropertyLiteral.the-variants.{Number}
 use Rattle.entries.specs.declared.DependencyPathEntry.{DependencyPathEntry}
-use Rattle.entries.specs.Path.{ReactiveScopeDependency, prefixOf}
 use Rattle.entries.specs.Property.{valueOf}
 use Rattle.model.specs.ReadingPaths.{Value, null, undefined, value, Store, Completion, throws, readsTo, read}
-use Rattle.model.specs.Examples.{plain, optional, known, knownOptional, pathOf, candidate}
-
--- Reading a path.
+use Rattle.model.specs.Examples.{plain, optional, pathOf}
 
 -- null for the first number, undefined for the second, a value for any other
 abbrev valueFor : ℕ → ℕ → ℕ → Value ℕ
@@ -44,25 +40,3 @@ pub null-is-not-undefined :
     (reading 3 (plain 10 ∷ []) ≡ readsTo null) × (reading 3 (plain 11 ∷ []) ≡ readsTo undefined)
     × (reading 3 (plain 12 ∷ []) ≡ readsTo (value 12))
 null-is-not-undefined = (refl, refl, refl)
-
--- Prefixes of the candidate 1.10?.11.
-
-abbrev isPrefix : ℕ → List DependencyPathEntry → Bool
-isPrefix i es = prefixOf (pathOf i false 0 es) (candidate (plain 10 ∷ optional 11 ∷ []))
-
--- 1 and 1.10?.11: "the empty and the whole list are prefixes too".
-pub empty-and-whole : (isPrefix 1 [] ≡ true) × (isPrefix 1 (plain 10 ∷ optional 11 ∷ []) ≡ true)
-empty-and-whole = (refl, refl)
-
--- 1?.10.11, with other spans: "optional marks and spans don't count".
-pub marks-do-not-count : isPrefix 1 (knownOptional 10 ∷ known 11 ∷ []) ≡ true
-marks-do-not-count = refl
-
--- 1.10?.11.12 and 1.11: "no more entries than the other", and equal "at each of its places".
-pub longer-or-other : (isPrefix 1 (plain 10 ∷ optional 11 ∷ plain 12 ∷ []) ≡ false) × (isPrefix 1 (plain 11 ∷ []) ≡ false)
-longer-or-other = (refl, refl)
-
--- 2.10, of another identifier, and 1[10], a number whose value is that of the name.
-pub identifier-and-kind-count :
-    (isPrefix 2 (plain 10 ∷ []) ≡ false) × (isPrefix 1 (record { property = Number 10; optional = false; span = 0 } ∷ []) ≡ false)
-identifier-and-kind-count = (refl, refl)
