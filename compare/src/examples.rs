@@ -27,7 +27,11 @@ type Named = Vec<(&'static str, Job)>;
 /// When a round has changed something, and in which order blocks and their neighbours are visited.
 fn walks() -> Named {
     let ascending = vec![block(2, &[0, 1], "5"), block(1, &[1, 2, 0], ""), block(0, &[0], "")];
+    let not_in_reverse = vec![block(0, &[2, 1], ""), block(2, &[0, 1], "5"), block(1, &[], "")];
     let recorded = vec![block(3, &[2, 1], ""), block(1, &[1, 2, 3], ""), block(2, &[1], "5")];
+    let not_descending = vec![block(0, &[1, 2], ""), block(1, &[2], "5"), block(2, &[1], "")];
+    let forward_first =
+        vec![block(1, &[], "5"), block(0, &[2, 0, 3], ""), block(2, &[1, 0], ""), block(3, &[], "")];
     let a_loop = vec![
         block(0, &[], ""),
         block(1, &[0, 3], ""),
@@ -37,9 +41,13 @@ fn walks() -> Named {
     ];
     vec![
         ("changed-by-set", job(7, vec![block(7, &[], "1, 1?.10")], "")),
+        ("forward-in-job-order", job(0, vec![block(0, &[1], ""), block(1, &[0], "5")], "")),
         ("backward-in-reverse", job(0, vec![block(0, &[1], "5"), block(1, &[0], "")], "")),
         ("successors-ascend", job(0, ascending, "")),
+        ("successors-not-in-reverse", job(0, not_in_reverse, "")),
         ("predecessors-as-recorded", job(2, recorded, "")),
+        ("predecessors-not-descending", job(1, not_descending, "")),
+        ("forward-first", job(1, forward_first, "")),
         // P3: block 3 holds 5, though 0, 1, 3, 1, 4 is a run of control that avoids block 2.
         ("avoided-in-a-loop", job(3, a_loop, "5.10")),
     ]

@@ -149,9 +149,13 @@ fn named_examples() {
     const MINUS_ZERO: &str = "1[0x8000000000000000]";
     let expected = [
         ("changed-by-set", "1, 1.10", 2, ""),
+        ("forward-in-job-order", "5; 5", 2, ""),
         ("backward-in-reverse", "5; 5", 2, ""),
         ("successors-ascend", "5; 5; 5", 2, ""),
+        ("successors-not-in-reverse", "5; 5; 5", 2, ""),
         ("predecessors-as-recorded", "; ; 5", 1, ""),
+        ("predecessors-not-descending", "; 5; ", 1, ""),
+        ("forward-first", "5; 5; 5; 5", 2, ""),
         ("avoided-in-a-loop", "; ; 5; 5; ", 2, "5.10"),
         ("optional-ahead", "1.11, 1?.10", 1, "1"),
         ("plain-order-kept", "1.10, 1.10.11", 2, "1.10.12"),

@@ -230,6 +230,13 @@ pub changed-by-set :
 unfolding propagated doneNeighbours
 changed-by-set = (refl, refl, refl)
 
+-- 0 (after 1), 1 (after 0) assumes 5: in both, 2 rounds. "Forward takes blocks in job order": 0 is
+-- visited first, and 1 is Done when 0 is joined.
+pub forward-in-job-order :
+    ExampleHolds (propagation (block 0 (1 ∷ []) [] ∷ block 1 (0 ∷ []) (five ∷ []) ∷ []) ((five ∷ []) ∷ (five ∷ []) ∷ []) 2)
+unfolding propagated doneNeighbours
+forward-in-job-order = (refl, refl, refl)
+
 -- 0 (after 1) assumes 5, 1 (after 0): in both, 2 rounds. "Backward takes reverse job order": 1 is
 -- visited first, and 0 is Done when 1 is joined.
 pub backward-in-reverse :
@@ -245,6 +252,14 @@ pub successors-ascend :
 unfolding propagated doneNeighbours
 successors-ascend = (refl, refl, refl)
 
+-- 0 (after 2, 1), 2 (after 0, 1) assumes 5, 1: in all three, 2 rounds. The successors of 1 are
+-- 0, 2, and not 2, 0 as in reverse job order.
+pub successors-not-in-reverse :
+    ExampleHolds (propagation (block 0 (2 ∷ 1 ∷ []) [] ∷ block 2 (0 ∷ 1 ∷ []) (five ∷ []) ∷ block 1 [] [] ∷ [])
+    ((five ∷ []) ∷ (five ∷ []) ∷ (five ∷ []) ∷ []) 2)
+unfolding propagated doneNeighbours
+successors-not-in-reverse = (refl, refl, refl)
+
 -- 3 (after 2, 1), 1 (after 1, 2, 3), 2 (after 1) assumes 5: only in 2, 1 round. "Predecessors in
 -- job order": those of 3 are 2, 1, as its record lists them.
 pub predecessors-as-recorded :
@@ -252,3 +267,20 @@ pub predecessors-as-recorded :
     ([] ∷ [] ∷ (five ∷ []) ∷ []) 1)
 unfolding propagated doneNeighbours
 predecessors-as-recorded = (refl, refl, refl)
+
+-- 0 (after 1, 2), 1 (after 2) assumes 5, 2 (after 1): only in 1, 1 round. The predecessors of 0 are
+-- 1, 2, and not 2, 1 as by descending id or in reverse job order.
+pub predecessors-not-descending :
+    ExampleHolds (propagation (block 0 (1 ∷ 2 ∷ []) [] ∷ block 1 (2 ∷ []) (five ∷ []) ∷ block 2 (1 ∷ []) [] ∷ [])
+    ([] ∷ (five ∷ []) ∷ [] ∷ []) 1)
+unfolding propagated doneNeighbours
+predecessors-not-descending = (refl, refl, refl)
+
+-- 1 assumes 5, 0 (after 2, 0, 3), 2 (after 1, 0), 3: in all four, 2 rounds. "A forward and a
+-- backward walk": forward takes 5 from 1 to 2, and backward from 2 to 0 and 3 in the same round.
+-- Backward first, there would be 3 rounds.
+pub forward-first :
+    ExampleHolds (propagation (block 1 [] (five ∷ []) ∷ block 0 (2 ∷ 0 ∷ 3 ∷ []) [] ∷ block 2 (1 ∷ 0 ∷ []) [] ∷ block 3 [] [] ∷ [])
+    ((five ∷ []) ∷ (five ∷ []) ∷ (five ∷ []) ∷ (five ∷ []) ∷ []) 2)
+unfolding propagated doneNeighbours
+forward-first = (refl, refl, refl)
