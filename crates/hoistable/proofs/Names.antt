@@ -21,6 +21,11 @@ pub candidate-read : {count : ℕ} {s : List ℕ} {at next : ℕ} {es : List Dep
 unfolding entriesAt
 candidate-read {next} few read = let same = ap entriesOf read in (record { few = few; reads = record { next = next; read = rw same read } }, same)
 
+-- the entries that are read at a place are those at that place
+pub reads-at : {count : ℕ} {s : List ℕ} {at : ℕ} {es : List DependencyPathEntry} → Reads count s at es → entriesAt count s at ≡ es
+unfolding entriesAt
+reads-at r = ap entriesOf (r .read)
+
 module _ (q : PropertyLiteral) {left : ℕ} {s : List ℕ} {at : ℕ} {es : List DependencyPathEntry} (r : Reads left s at es) where
   pub next-none : left ≡ 0 → nextSame q es ≡ false
   next-none e = go es (sym (ap (λ n. readMany n (readEntry 4) s at) e) ∙ r .read)

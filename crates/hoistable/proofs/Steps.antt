@@ -16,7 +16,8 @@ use Rattle.hoistable.specs.declared.Levels.{Levels}
 use Rattle.hoistable.specs.declared.Agreement.{Agreement}
 use Rattle.hoistable.specs.Levels.{numberOf, weightOf}
 use Rattle.hoistable.specs.Candidate.{Reads}
-use Rattle.hoistable.specs.Agreement.{agreed, levelsAlong, nextSame, HoldsLevels, Small, Agrees}
+use Rattle.hoistable.specs.Agreement.{agreed, levelsAlong, nextSame, HoldsLevels, Small, RestRead, Agrees}
+use Rattle.hoistable.proofs.Names.{reads-at}
 use Rattle.hoistable.proofs.Numbers.{holds-small, prefix-snoc, agreed-length, agreed-apart, agreed-number, agreed-weight}
 
 -- a test that was put the other way round
@@ -90,6 +91,10 @@ module _ {s : List ℕ} {i : IdentifierId} {es : List DependencyPathEntry} {d d�
 pub agrees-small : {s : List ℕ} {i : IdentifierId} {es : List DependencyPathEntry} {d : ReactiveScopeDependency} {r : Agreement} → Agrees s i es d r
     → Small (r .levels)
 agrees-small {i} {es} {d} a = holds-small {bs = levelsAlong i es d} (a .levels)
+
+pub agrees-rest : {s : List ℕ} {i : IdentifierId} {es : List DependencyPathEntry} {d : ReactiveScopeDependency} {r : Agreement} → Agrees s i es d r
+    → RestRead s r
+agrees-rest {s} {r} a whole = let rest = a .left whole in subst (Reads (r .left) s (r .at)) (sym (reads-at rest)) rest
 
 -- A root.
 

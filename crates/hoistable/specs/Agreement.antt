@@ -15,7 +15,7 @@ use Rattle.hoistable.specs.declared.Agreement.{Agreement}
 use Rattle.hoistable.specs.declared.NextName.{NextName}
 use Rattle.hoistable.specs.declared.NextName.the-variants.{Same, Other}
 use Rattle.hoistable.specs.Levels.{numberOf, weightOf}
-use Rattle.hoistable.specs.Candidate.{Reads}
+use Rattle.hoistable.specs.Candidate.{Reads, AreRead}
 
 -- for each position of a path that the names `es` reach, from one that they have reached on: the
 -- path's entry after it is optional
@@ -64,6 +64,10 @@ pub record Small (v : Levels) : Type 0 where
 abbrev pub NextIs : PropertyLiteral → List DependencyPathEntry → List ℕ → NextName → Type 0
 NextIs q es s (Same next left) = (nextSame q es ≡ true) × Reads left s next (drop 1 es)
 NextIs q es s Other = nextSame q es ≡ false
+
+-- where the candidate has all the path's names, its entries after them are read
+abbrev pub RestRead : List ℕ → Agreement → Type 0
+RestRead s r = r .whole ≡ true → AreRead (r .left) s (r .at)
 
 -- How far a path agrees with a candidate: the levels that it decides, whether the candidate has all
 -- its names, and if so, where the candidate's entries go on.

@@ -24,10 +24,14 @@ pub record Reads (count : ℕ) (s : List ℕ) (at : ℕ) (es : List DependencyPa
   pub next : ℕ
   pub read : readMany count (readEntry spanWidth) s at ≡ got es next
 
+-- so many entries are read from a place on
+abbrev pub AreRead : ℕ → List ℕ → ℕ → Type 0
+AreRead count s at = Reads count s at (entriesAt count s at)
+
 -- "Entry count u8 (0 to 16), then entries": they were read.
 pub record Candidate (count : ℕ) (s : List ℕ) (at : ℕ) : Type 0 where
   pub few : count ≤ 16
-  pub reads : Reads count s at (entriesAt count s at)
+  pub reads : AreRead count s at
 
 -- What is asked of the words and the bytes: a registry as its operations make it, and a candidate's
 -- entries.

@@ -16,8 +16,8 @@ ghost use Rattle.model.specs.Registry.{fullPathOf};
 ghost use Rattle.model.specs.RegistryLaws.{Child};
 ghost use Rattle.model.specs.ReductionLaws.{Members};
 ghost use Rattle.hoistable.specs.Levels.{numberOf, nonNullLevels};
-ghost use Rattle.hoistable.specs.Candidate.{entriesAt, Reads, Ready};
-ghost use Rattle.hoistable.specs.Agreement.{over, decided, HoldsLevels, Small, NextIs, Agrees};
+ghost use Rattle.hoistable.specs.Candidate.{entriesAt, Reads, AreRead, Ready};
+ghost use Rattle.hoistable.specs.Agreement.{over, decided, HoldsLevels, Small, NextIs, RestRead, Agrees};
 use entries::DependencyPathEntry;
 use entries::IdentifierId;
 use entries::NodeId;
@@ -106,7 +106,8 @@ enum NextName {
 }
 
 fn next_name(s: &[u8], at: usize, left: u8, e: DependencyPathEntry) -> NextName
-    ensures { λ r. ⌜ ((es : List DependencyPathEntry) → Reads left (now (s .entry)) at es → NextIs (e .property) es (now (s .entry)) r) ⌝ }
+    requires { ⌜ AreRead left (now s) at ⌝ }
+    ensures { λ r. ⌜ NextIs (e .property) (entriesAt left (now (s .entry)) at) (now (s .entry)) r ⌝ }
 {
     if left == 0 {
         return NextName::Other;
@@ -127,7 +128,7 @@ fn next_name(s: &[u8], at: usize, left: u8, e: DependencyPathEntry) -> NextName
 // A path that goes on by the entry e. Where its names parted from the candidate's before, nothing
 // changes.
 fn further(s: &[u8], r: Agreement, e: DependencyPathEntry) -> Agreement
-    requires { ⌜ Small (r .levels) ⌝ }
+    requires { ⌜ Small (r .levels) × RestRead (now s) r ⌝ }
     ensures { λ q. ⌜ ((i : IdentifierId) (es : List DependencyPathEntry) (d d′ : ReactiveScopeDependency) → length es ≤ 16
         → Child d e d′ → Agrees (now (s .entry)) i es d r → Agrees (now (s .entry)) i es d′ q) ⌝ }
 {

@@ -13,7 +13,7 @@ use Rattle.entries.specs.Path.{ReactiveScopeDependency}
 use Rattle.model.specs.Job.{readEntry}
 use Rattle.job.proofs.Many.{many-length}
 use Rattle.hoistable.specs.Candidate.{entriesAt}
-use Rattle.hoistable.proofs.Steps.{agrees-small}
+use Rattle.hoistable.proofs.Steps.{agrees-small, agrees-rest}
 use Rattle.hoistable.proofs.Nodes.{root-path, child-path}
 use Rattle.hoistable.proofs.follow.Reads as follow
 use Rattle.hoistable.proofs.follow.Kinds as follow-kinds
@@ -50,7 +50,7 @@ follow-requires t c κs =
     (subst (λ (j : ℕ). n .n2 .given .0 .0 .0 < j) (s .pre .0) after, (s .pre .1 .0, lt-trans after (s .pre .1 .1)))
 
 further-requires : (t : ℕ) → lts.Need-further-requires (claims t) (at t) follow.Post
-further-requires t c κs = agrees-small (c .follow .ensures)
+further-requires t c κs = (agrees-small (c .follow .ensures), agrees-rest (c .follow .ensures))
 
 returns : (t : ℕ) → lts.Need-returns (claims t) (at t) follow.Post
 returns t c =
