@@ -24,7 +24,8 @@ pub fn example(name: &str) -> Job {
 
 type Named = Vec<(&'static str, Job)>;
 
-/// When a round has changed something, and in which order blocks and their neighbours are visited.
+/// In which order paths are entered, when a round has changed something, and in which order blocks
+/// and their neighbours are visited.
 fn walks() -> Named {
     let ascending = vec![block(2, &[0, 1], "5"), block(1, &[1, 2, 0], ""), block(0, &[0], "")];
     let not_in_reverse = vec![block(0, &[2, 1], ""), block(2, &[0, 1], "5"), block(1, &[], "")];
@@ -40,6 +41,7 @@ fn walks() -> Named {
         block(4, &[1], ""),
     ];
     vec![
+        ("entered-in-job-order", job(1, vec![block(1, &[], "5"), block(0, &[1], "1")], "")),
         ("changed-by-set", job(7, vec![block(7, &[], "1, 1?.10")], "")),
         ("forward-in-job-order", job(0, vec![block(0, &[1], ""), block(1, &[0], "5")], "")),
         ("backward-in-reverse", job(0, vec![block(0, &[1], "5"), block(1, &[0], "")], "")),

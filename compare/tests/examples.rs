@@ -148,6 +148,7 @@ fn of_example(name: &str) -> (String, u8, String) {
 fn named_examples() {
     const MINUS_ZERO: &str = "1[0x8000000000000000]";
     let expected = [
+        ("entered-in-job-order", "5, 1; 5, 1", 2, ""),
         ("changed-by-set", "1, 1.10", 2, ""),
         ("forward-in-job-order", "5; 5", 2, ""),
         ("backward-in-reverse", "5; 5", 2, ""),

@@ -221,6 +221,16 @@ pub set-of-the-moment :
 unfolding reduceMaybeOptionalChains getOrCreateProperty
 set-of-the-moment = refl
 
+-- The order of entering.
+
+-- 1 assumes 5, 0 (after 1) assumes 1: both in both, 2 rounds. "All assumed paths are entered first,
+-- in job order": 5 has the first number, and stands first in each set.
+pub entered-in-job-order :
+    ExampleHolds (propagation (block 1 [] (five ∷ []) ∷ block 0 (1 ∷ []) (one [] ∷ []) ∷ [])
+    ((five ∷ one [] ∷ []) ∷ (five ∷ one [] ∷ []) ∷ []) 2)
+unfolding propagated doneNeighbours
+entered-in-job-order = (refl, refl, refl)
+
 -- Rounds and the orders of a walk.
 
 -- A block that assumes 1 and 1?.10 ends with {1, 1.10} after 2 rounds: the first changed the set,
