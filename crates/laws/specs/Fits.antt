@@ -1,17 +1,15 @@
 -- The numbers of a job that was read from bytes fit their widths, and so do those of the paths that
 -- it returns.
 use Prim.Native.Nat.{ℕ, zero, suc, _+_, _*_, _^_, _≤_, _<_}
-use native.Mathlib.Nat.{le-refl, le-trans, pow-suc}
+use native.Mathlib.Nat.{le-trans, pow-suc}
 use native.Mathlib.Omega.{arith}
-use mathlib.Core.Path.{_≡_, refl, sym, ap, subst, _∙_}
-use mathlib.Core.Bool.{Bool, true, false, _&&_, _||_, cond}
-use mathlib.Core.List.{List, [], _∷_, _++_, map}
+use mathlib.Core.Path.{_≡_, refl, ap}
+use mathlib.Core.Bool.{Bool, true, false, _&&_, _||_}
+use mathlib.Core.List.{List, [], _∷_, map}
 use mathlib.Core.Option.{Option}
-use mathlib.Core.Logic.{_⊎_, inl, inr}
-use lib.ListN.{length, getD, length-map}
-use lib.Dec.{T, eqb, ltb, leb, leb→le}
-use Rattle.entries.specs.declared.PropertyLiteral.{PropertyLiteral}
-use Rattle.entries.specs.declared.PropertyLiteral.the-variants.{String, Number}
+use mathlib.Core.Logic.{inl, inr}
+use lib.ListN.{length}
+use lib.Dec.{eqb, ltb, leb, leb→le}
 use Rattle.entries.specs.declared.DependencyPathEntry.{DependencyPathEntry}
 use Rattle.entries.specs.Path.{ReactiveScopeDependency, sameProperty, prefixOfNames, prefixOf}
 use Rattle.model.specs.Lists.{anyOf}
@@ -19,7 +17,7 @@ use Rattle.model.specs.RoundsLaws.{rounds-most}
 use Rattle.model.specs.Reduction.{reduceMaybeOptionalChains}
 use Rattle.model.specs.Propagation.{JoiningRule, hasChanged, roundStart, round, propagateWith, propagateNonNull}
 use Rattle.model.specs.Stage.{graphOf, enterBlocks, propagated}
-use Rattle.model.specs.Tests.{by-cond, decide, never, test-passes, and-first, and-second}
+use Rattle.model.specs.Tests.{by-cond, never, test-passes, and-first, and-second}
 use Rattle.model.specs.ListLaws.{All, all-map, all-both, all-getD}
 use Rattle.model.specs.ReadingBytes.{
   Read,
@@ -28,13 +26,11 @@ use Rattle.model.specs.ReadingBytes.{
   ByteReader,
   andThen,
   mapped,
-  both,
   readMany,
   readByte,
   readNumber,
   readU8,
   readU16,
-  readU32,
   readMark,
   readWithin,
   readFlag,
@@ -43,7 +39,6 @@ use Rattle.entries.specs.Property.{propertyOf, valueOf}
 use Rattle.model.specs.Job.{
   readEntry,
   readPath,
-  Block,
   readBlock,
   Header,
   readHeader,
@@ -52,11 +47,14 @@ use Rattle.model.specs.Job.{
   hasRepeat,
   hasUnknown,
   acceptIds,
+  BL,
+  PA,
   CA,
+  blockId,
   readBlockId,
   readJob,
 }
-use Rattle.model.specs.Forest.{Key, identifierKey, propertyKey, Forest, empty, Found, findKey, childByKey, addAll, firsts}
+use Rattle.model.specs.Forest.{Key, identifierKey, propertyKey, empty, Found, childByKey, firsts}
 use Rattle.model.specs.Tree.{
   HoistablePosition,
   hoistableKey,
@@ -65,7 +63,6 @@ use Rattle.model.specs.Tree.{
   dependencyKey,
   isDependency,
   mergePosition,
-  ended,
   atNonNull,
   stepAccess,
   stepTo,
@@ -80,26 +77,46 @@ use Rattle.model.specs.Tree.{
   dependencyOf,
   deriveMinimalDependencies,
 }
-use Rattle.laws.specs.Membership.{Some, any-some, all-of, all-of-map, all-at}
+use Rattle.laws.specs.Membership.{Some, any-some, all-of-map}
 use Rattle.laws.specs.CountLaws.{no-more}
-use Rattle.laws.specs.ForestLaws.{Along, WayAlong, firsts-along, along-addAll}
+use Rattle.laws.specs.ForestLaws.{WayAlong, firsts-along, along-addAll}
 use Rattle.laws.specs.TreeLaws.{returned-one, returned-some}
 use Rattle.laws.specs.ReadBack.{EntryFits, PathFits}
+use Rattle.laws.specs.JobBack.{IdFits, BlockFits, JobFits}
 
--- What holds of the value, where one is read.
+-- What holds of the value and of the place after it, where a value is read.
+abbrev pub HoldsAfter : {A : Type 0} → (A → ℕ → Type 0) → Read A → Type 0
+HoldsAfter P (got a next) = P a next
+HoldsAfter P (refused r) = Unit {0}
+
+pub after-then : {A B : Type 0} (P : A → ℕ → Type 0) (Q : B → ℕ → Type 0) (x : Read A) (k : A → ℕ → Read B) → HoldsAfter P x →
+    ((a : A) (next : ℕ) → P a next → HoldsAfter Q (k a next)) → HoldsAfter Q (andThen x k)
+after-then P Q (got a next) k h f = f a next h
+after-then P Q (refused r) k h f = tt
+
+pub after-mapped : {A B : Type 0} (P : A → ℕ → Type 0) (Q : B → ℕ → Type 0) (f : A → B) (x : Read A) → HoldsAfter P x →
+    ((a : A) (next : ℕ) → P a next → Q (f a) next) → HoldsAfter Q (mapped f x)
+after-mapped P Q f (got a next) h g = g a next h
+after-mapped P Q f (refused r) h g = tt
+
+pub after-got : {A : Type 0} (P : A → ℕ → Type 0) {x : Read A} {a : A} {next : ℕ} → HoldsAfter P x → x ≡ got a next → P a next
+after-got P h e = rw e at h
+
+-- What holds of the value.
 abbrev pub HoldsIfRead : {A : Type 0} → (A → Type 0) → Read A → Type 0
-HoldsIfRead P (got a next) = P a
-HoldsIfRead P (refused r) = Unit {0}
+HoldsIfRead P x = HoldsAfter (λ a next. P a) x
 
 pub holds-then : {A B : Type 0} (P : A → Type 0) (Q : B → Type 0) (x : Read A) (k : A → ℕ → Read B) → HoldsIfRead P x →
     ((a : A) (next : ℕ) → P a → HoldsIfRead Q (k a next)) → HoldsIfRead Q (andThen x k)
-holds-then P Q (got a next) k h f = f a next h
-holds-then P Q (refused r) k h f = tt
+holds-then P Q = after-then (λ a next. P a) (λ b next. Q b)
 
 holds-mapped : {A B : Type 0} (P : A → Type 0) (Q : B → Type 0) (f : A → B) (x : Read A) → HoldsIfRead P x →
     ((a : A) → P a → Q (f a)) → HoldsIfRead Q (mapped f x)
-holds-mapped P Q f (got a next) h g = g a h
-holds-mapped P Q f (refused r) h g = tt
+holds-mapped P Q f x h g = after-mapped (λ a next. P a) (λ b next. Q b) f x h (λ a next. g a)
+
+holds-weaker : {A : Type 0} (P Q : A → Type 0) (x : Read A) → HoldsIfRead P x → ((a : A) → P a → Q a) → HoldsIfRead Q x
+holds-weaker P Q (got a next) h f = f a h
+holds-weaker P Q (refused r) h f = tt
 
 pub holds-got : {A : Type 0} (P : A → Type 0) {x : Read A} {a : A} {next : ℕ} → x ≡ got a next → HoldsIfRead P x → P a
 holds-got P e h = rw e at h
@@ -117,6 +134,26 @@ many-holds P read s h (suc n) at =
     (λ first next. mapped (λ rest. first ∷ rest) (readMany n read s next)) (h at)
     (λ a next p. holds-mapped (λ xs. (length xs ≡ n) × All P xs) (λ xs. (length xs ≡ suc n) × All P xs) (λ rest. a ∷ rest)
     (readMany n read s next) (many-holds P read s h n next) (λ xs q. (ap suc (q .0), (p, q .1))))
+
+-- what the two tests of the ids let through
+pub ids-let-through : (P : Job → ℕ → Type 0) (j : Job) (next : ℕ) → (hasRepeat j ≡ false → hasUnknown j ≡ false → P j next)
+    → HoldsAfter P (acceptIds j next)
+unfolding acceptIds
+ids-let-through P j next f = by-cond (HoldsAfter P) (hasRepeat j) (λ e. tt)
+    (λ r. by-cond (HoldsAfter P) (hasUnknown j) (λ e. tt) (λ u. f r u))
+
+-- the numbers of a header
+record HeaderFits (h : Header) : Type 0 where
+  some : 1 ≤ h .blocks
+  few : h .blocks ≤ 128
+  few-candidates : h .candidates ≤ 64
+  scope : IdFits (h .scope)
+
+-- a job that refusals 3 to 8 let through
+pub record Acceptable (spanBytes : ℕ) (j : Job) : Type 0 where
+  pub fits : JobFits spanBytes j
+  pub no-repeat : hasRepeat j ≡ false
+  pub no-unknown : hasUnknown j ≡ false
 
 -- Fields.
 
@@ -136,14 +173,19 @@ module _ (s : List ℕ) (bytes : All (λ b. b < 256) s) where
       (number-fits n next)
       (λ high h. rw (pow-suc 256 n) (omega arith)))
 
-  within-fits : (least most : ℕ) (read : ByteReader ℕ) (at : ℕ) → HoldsIfRead (λ x. x ≤ most) (readWithin least most read s at)
+  within-fits : (least most : ℕ) (read : ByteReader ℕ) (at : ℕ)
+      → HoldsIfRead (λ x. (least ≤ x) × (x ≤ most)) (readWithin least most read s at)
   unfolding readWithin
   within-fits least most read at =
-      holds-then (λ x. Unit {0}) (λ x. x ≤ most) (read s at)
-      (λ found next. cond (leb least found && leb found most) (got found next)
-      (refused Rattle.entries.specs.declared.Refusal.the-variants.OutOfRange)) (any-value (read s at))
-      (λ x next u. by-cond (HoldsIfRead (λ y. y ≤ most)) (leb least x && leb x most)
-      (λ e. leb→le x most (test-passes (and-second (leb least x) (leb x most) e))) (λ e. tt))
+      holds-then (λ x. Unit {0}) _ (read s at) _ (any-value (read s at))
+      (λ x next u. by-cond (HoldsIfRead (λ y. (least ≤ y) × (y ≤ most))) (leb least x && leb x most)
+      (λ e. (
+        leb→le least x (test-passes (and-first (leb least x) (leb x most) e)),
+        leb→le x most (test-passes (and-second (leb least x) (leb x most) e)),
+      )) (λ e. tt))
+
+  id-fits : (at : ℕ) → HoldsIfRead IdFits (readBlockId s at)
+  id-fits at = holds-mapped (λ x. x < 256 ^ 4) IdFits blockId (readNumber 4 s at) (number-fits 4 at) (λ x h. h)
 
   -- Records.
 
@@ -167,45 +209,84 @@ module _ (s : List ℕ) (bytes : All (λ b. b < 256) s) where
       holds-then (λ x. x < 256 ^ 4) (PathFits w) (readNumber 4 s identifierAt) _ (number-fits 4 identifierAt) (λ identifier reactiveAt i.
       holds-then (λ x. Unit {0}) (PathFits w) (readFlag s reactiveAt) _ (any-value (readFlag s reactiveAt)) (λ reactive spanAt _.
       holds-then (λ x. x < 256 ^ w) (PathFits w) (readNumber w s spanAt) _ (number-fits w spanAt) (λ span countAt h.
-      holds-then (λ x. x ≤ 16) (PathFits w) (readWithin 0 16 readU8 s countAt) _ (within-fits 0 16 readU8 countAt) (λ count entriesAt c.
+      holds-then _ (PathFits w) (readWithin 0 16 readU8 s countAt) _ (within-fits 0 16 readU8 countAt) (λ count entriesAt c.
       holds-mapped (λ es. (length es ≡ count) × All (EntryFits w) es) (PathFits w)
       (λ entries. record { identifier = record { 0 = identifier }; reactive = reactive; path = entries; span = span })
       (readMany count (readEntry w) s entriesAt) (many-holds (EntryFits w) (readEntry w) s (entry-fits w) count entriesAt)
-      (λ es e. record { identifier = i; span = h; few = rw (e .0) c; entries = e .1 }))))))
+      (λ es e. record { identifier = i; span = h; few = rw (e .0) (c .1); entries = e .1 }))))))
+
+  block-fits : (w at : ℕ) → HoldsIfRead (BlockFits w) (readBlock w s at)
+  unfolding readBlock
+  block-fits w at =
+      holds-then (λ x. Unit {0}) (BlockFits w) (readMark BL s at) _ (any-value (readMark BL s at)) (λ _ idAt _.
+      holds-then IdFits (BlockFits w) (readBlockId s idAt) _ (id-fits idAt) (λ id countAt i.
+      holds-then _ (BlockFits w) (readWithin 0 64 readU8 s countAt) _ (within-fits 0 64 readU8 countAt) (λ count assumedAt c.
+      holds-then (λ x. x < 256 ^ 1) (BlockFits w) (readU8 s assumedAt) _ (number-fits 1 assumedAt) (λ assumed idsAt a.
+      holds-then _ (BlockFits w) (readMany count readBlockId s idsAt) _
+      (many-holds IdFits readBlockId s id-fits count idsAt) (λ ids pathsAt p.
+      holds-mapped _ (BlockFits w) _ (readMany assumed (readPath w PA) s pathsAt)
+      (many-holds (PathFits w) (readPath w PA) s (path-fits w PA) assumed pathsAt) (λ paths d. record {
+        id = i;
+        few = rw (p .0) (c .1);
+        predecessors = p .1;
+        few-assumed = rw (d .0) (omega arith);
+        assumed = d .1;
+      }))))))
+
+  header-fits : (mark at : ℕ) → HoldsIfRead HeaderFits (readHeader mark s at)
+  unfolding readHeader
+  header-fits mark at =
+      holds-then (λ x. Unit {0}) HeaderFits (readMark mark s at) _ (any-value (readMark mark s at)) (λ _ blocksAt _.
+      holds-then _ HeaderFits (readWithin 1 128 readU16 s blocksAt) _ (within-fits 1 128 readU16 blocksAt) (λ blocks candidatesAt b.
+      holds-then _ HeaderFits (readWithin 0 64 readU16 s candidatesAt) _ (within-fits 0 64 readU16 candidatesAt) (λ candidates scopeAt c.
+      holds-then IdFits HeaderFits (readBlockId s scopeAt) _ (id-fits scopeAt) (λ scope next i.
+      record { some = b .0; few = b .1; few-candidates = c .1; scope = i }))))
+
+  records-fit : (head w : ℕ) → HoldsIfRead (JobFits w) (readRecords head w s)
+  unfolding readRecords
+  records-fit head w =
+      holds-then HeaderFits (JobFits w) (readHeader head s 0) _ (header-fits head 0) (λ header blocksAt h.
+      holds-then _ (JobFits w) (readMany (header .blocks) (readBlock w) s blocksAt) _
+      (many-holds (BlockFits w) (readBlock w) s (block-fits w) (header .blocks) blocksAt) (λ blocks candidatesAt b.
+      holds-then _ (JobFits w) (readMany (header .candidates) (readPath w CA) s candidatesAt) _
+      (many-holds (PathFits w) (readPath w CA) s (path-fits w CA) (header .candidates) candidatesAt) (λ candidates next c.
+      by-cond (HoldsIfRead (JobFits w)) (eqb next (length s)) (λ e. record {
+        scope = h .scope;
+        some = rw (b .0) (h .some);
+        few = rw (b .0) (h .few);
+        blocks = b .1;
+        few-candidates = rw (c .0) (h .few-candidates);
+        candidates = c .1;
+      }) (λ e. tt))))
+
+  pub job-acceptable : (head w : ℕ) → HoldsIfRead (Acceptable w) (readJob head w s)
+  unfolding readJob
+  job-acceptable head w =
+      holds-then (JobFits w) (Acceptable w) (readRecords head w s) acceptIds (records-fit head w)
+      (λ j next f. ids-let-through (λ j next. Acceptable w j) j next (λ r u. record { fits = f; no-repeat = r; no-unknown = u }))
 
   -- the candidates of a job, and how many there are
   abbrev CandidatesFit : ℕ → Job → Type 0
   CandidatesFit w j = (length (j .candidates) ≤ 64) × All (PathFits w) (j .candidates)
 
-  header-fits : (mark at : ℕ) → HoldsIfRead (λ (h : Header). h .candidates ≤ 64) (readHeader mark s at)
-  unfolding readHeader
-  header-fits mark at =
-      holds-then (λ x. Unit {0}) (λ (h : Header). h .candidates ≤ 64) (readMark mark s at) _ (any-value (readMark mark s at))
-      (λ _ blocksAt _.
-      holds-then (λ x. Unit {0}) (λ (h : Header). h .candidates ≤ 64) (readWithin 1 128 readU16 s blocksAt) _
-      (any-value (readWithin 1 128 readU16 s blocksAt)) (λ blocks candidatesAt _.
-      holds-then (λ x. x ≤ 64) (λ (h : Header). h .candidates ≤ 64) (readWithin 0 64 readU16 s candidatesAt) _
-      (within-fits 0 64 readU16 candidatesAt) (λ candidates scopeAt c.
-      holds-then (λ x. Unit {0}) (λ (h : Header). h .candidates ≤ 64) (readBlockId s scopeAt) _ (any-value (readBlockId s scopeAt))
-      (λ scope next _. c))))
-
-  records-fit : (head w : ℕ) → HoldsIfRead (CandidatesFit w) (readRecords head w s)
-  unfolding readRecords
-  records-fit head w =
-      holds-then (λ (h : Header). h .candidates ≤ 64) (CandidatesFit w) (readHeader head s 0) _ (header-fits head 0) (λ header blocksAt h.
-      holds-then (λ x. Unit {0}) (CandidatesFit w) (readMany (header .blocks) (readBlock w) s blocksAt) _
-      (any-value (readMany (header .blocks) (readBlock w) s blocksAt)) (λ blocks candidatesAt _.
-      holds-then (λ cs. (length cs ≡ header .candidates) × All (PathFits w) cs) (CandidatesFit w)
-      (readMany (header .candidates) (readPath w CA) s candidatesAt) _
-      (many-holds (PathFits w) (readPath w CA) s (path-fits w CA) (header .candidates) candidatesAt) (λ candidates next c.
-      by-cond (HoldsIfRead (CandidatesFit w)) (eqb next (length s)) (λ e. (rw (c .0) h, c .1)) (λ e. tt))))
-
   pub job-fits : (head w : ℕ) → HoldsIfRead (CandidatesFit w) (readJob head w s)
-  unfolding readJob acceptIds
   job-fits head w =
-      holds-then (CandidatesFit w) (CandidatesFit w) (readRecords head w s) acceptIds (records-fit head w)
-      (λ j next c. by-cond (HoldsIfRead (CandidatesFit w)) (hasRepeat j) (λ e. tt)
-      (λ e. by-cond (HoldsIfRead (CandidatesFit w)) (hasUnknown j) (λ u. tt) (λ u. c)))
+      holds-weaker (Acceptable w) (CandidatesFit w) (readJob head w s) (job-acceptable head w)
+      (λ j a. (a .fits .few-candidates, a .fits .candidates))
+
+-- The same of a job that was read.
+module _ (head w : ℕ) (s : List ℕ) (bytes : All (λ b. b < 256) s) (j : Job) (end : ℕ) (reads : readJob head w s ≡ got j end) where
+  pub read-acceptable : Acceptable w j
+  read-acceptable = holds-got (Acceptable w) reads (job-acceptable s bytes head w)
+
+  pub job-fits-whole : JobFits w j
+  job-fits-whole = read-acceptable .fits
+
+  pub job-no-repeat : hasRepeat j ≡ false
+  job-no-repeat = read-acceptable .no-repeat
+
+  pub job-no-unknown : hasUnknown j ≡ false
+  job-no-unknown = read-acceptable .no-unknown
 
 -- The positions of the dependency tree come from the candidates' walks.
 

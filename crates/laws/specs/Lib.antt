@@ -9,7 +9,10 @@ pub mod GraphsAgree
 -- the trees
 pub mod ForestLaws
 pub mod TreeLaws
+pub mod AddedAgain
 -- what is written and read
 pub mod ReadBack
+pub mod JobBack
 pub mod Fits
+pub mod Written
 pub mod Verdicts

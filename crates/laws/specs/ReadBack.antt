@@ -105,7 +105,7 @@ number-back (suc n) x h =
     (mapped-back (readNumber n) (λ high. x % 256 + 256 * high) (x / 256) (numberBytes n (x / 256)) (number-back n (x / 256) less)))
 
 -- a flag, and a number in its range
-value-back : (n x : ℕ) (least most : ℕ) → x < 256 ^ n → least ≤ x → x ≤ most → ReadsBack (readWithin least most (readNumber n)) x
+pub value-back : (n x : ℕ) (least most : ℕ) → x < 256 ^ n → least ≤ x → x ≤ most → ReadsBack (readWithin least most (readNumber n)) x
     (numberBytes n x)
 unfolding readWithin
 value-back n x least most h low high = record {
@@ -124,7 +124,7 @@ flag-back true = mapped-back (readWithin 0 1 (readNumber 1)) (λ x. eqb x 1) 1 (
 flag-back false = mapped-back (readWithin 0 1 (readNumber 1)) (λ x. eqb x 1) 0 (numberBytes 1 0)
     (value-back 1 0 0 1 (omega arith) (omega arith) (omega arith))
 
-mark-back : (mark : ℕ) → mark < 256 ^ 2 → ReadsBack (readMark mark) tt (numberBytes 2 mark)
+pub mark-back : (mark : ℕ) → mark < 256 ^ 2 → ReadsBack (readMark mark) tt (numberBytes 2 mark)
 unfolding readMark
 mark-back mark h = record {
   back = λ front rest.
@@ -134,7 +134,7 @@ mark-back mark h = record {
 }
 
 -- many values of one form
-many-back : {A : Type 0} (read : ByteReader A) (bytes : A → List ℕ) (xs : List A) → All (λ x. ReadsBack read x (bytes x)) xs
+pub many-back : {A : Type 0} (read : ByteReader A) (bytes : A → List ℕ) (xs : List A) → All (λ x. ReadsBack read x (bytes x)) xs
     → ReadsBack (readMany (length xs) read) xs (concatMap bytes xs)
 many-back read bytes [] h = none-back []
 many-back read bytes (x ∷ xs) h =

@@ -263,7 +263,7 @@ pub record RootReached (i : IdentifierId) (reg : PropertyPathRegistry) (at : Rea
   pub identifier : fullPathOf (at .registry) (at .node) .identifier ≡ i
   pub path : fullPathOf (at .registry) (at .node) .path ≡ []
 
-root-own : (i : IdentifierId) (r : Bool) (s : ℕ) → isRootFor i (rootNode i r s) ≡ true
+pub root-own : (i : IdentifierId) (r : Bool) (s : ℕ) → isRootFor i (rootNode i r s) ≡ true
 root-own i r s = eqb-same (i .0)
 
 stands-root : (reg : PropertyPathRegistry) (k : ℕ) (o : Origin) (d : ReactiveScopeDependency) → isRoot o ≡ true → StandsAt reg k o d
@@ -299,7 +299,7 @@ pub record ChildReached (reg : PropertyPathRegistry) (p : NodeId) (e : Dependenc
   pub same : sameEntry entry e ≡ true
   pub child : Child (fullPathOf reg p) entry (fullPathOf (at .registry) (at .node))
 
-child-own : (p : NodeId) (d : ReactiveScopeDependency) (e : DependencyPathEntry) → isChildBy p e (childNode p d e) ≡ true
+pub child-own : (p : NodeId) (d : ReactiveScopeDependency) (e : DependencyPathEntry) → isChildBy p e (childNode p d e) ≡ true
 child-own p d e = rw (eqb-same (p .0), entry-same e)
 
 stands-child : (reg : PropertyPathRegistry) (k : ℕ) (p : NodeId) (e : DependencyPathEntry) (o : Origin)

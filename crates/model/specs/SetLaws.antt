@@ -19,6 +19,7 @@ use Rattle.model.specs.Tests.{
   eqb-apart,
   ltb-true,
   ltb-false,
+  ltb-not-less,
   or-swap,
   or-second,
   or-cases,
@@ -98,6 +99,15 @@ contains-insert k j (x ∷ xs) h =
     by-cond (λ r. contains r j ≡ true) (ltb (k .0) (x .0)) (λ e. or-second (sameNode k j) _ h)
     (λ e. or-cases (sameNode x j) (contains xs j) h (λ t. rw t refl)
     (λ t. or-second (sameNode x j) _ (by-cond (λ r. contains r j ≡ true) (sameNode x k) (λ u. t) (λ u. contains-insert k j xs t))))
+
+-- inserting a node that is in the set changes nothing
+pub insert-again : (b : ℕ) (k : NodeId) (s : NodeSet) → From b s → contains s k ≡ true → insert k s ≡ s
+insert-again b k [] f h = never h refl
+insert-again b k (x ∷ xs) f h =
+    or-cases (sameNode x k) (contains xs k) h (λ t. let same = eqb-true (x .0) (k .0) t in rw (ltb-not-less (k .0) (x .0) (omega arith), t))
+    (λ t. let above : suc (x .0) ≤ k .0 = contains-all (λ j. suc (x .0) ≤ j .0) xs k (from-above (suc (x .0)) xs (f .1)) t in
+    rw (ltb-not-less (k .0) (x .0) (omega arith), eqb-apart (x .0) (k .0) (λ e. absurd (omega arith)))
+    (ap (λ (r : NodeSet). x ∷ r) (insert-again (suc (x .0)) k xs (f .1) t)))
 
 -- inserting adds the node and nothing else
 pub contains-inserted : (k j : NodeId) (s : NodeSet) → contains (insert k s) j ≡ (sameNode k j || contains s j)
