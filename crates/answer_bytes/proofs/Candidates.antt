@@ -31,10 +31,9 @@ use Rattle.model.specs.Tree.{
 }
 use Rattle.job.specs.Head.{readPathHead}
 use Rattle.job.specs.declared.PathHead.{PathHead}
-use Rattle.job.proofs.Heads.{pathOf}
 use Rattle.job.proofs.Many.{many-first}
 use Rattle.job.proofs.Passing.{not-both}
-use Rattle.job.proofs.RecordParts.{PathParts, path-parts}
+use Rattle.job.proofs.RecordParts.{PathParts, path-parts, paths-onward}
 use Rattle.hoistable.specs.Levels.{levelsOf, nonNullLevels, numberOf}
 use Rattle.hoistable.specs.Candidate.{entriesAt, Candidate}
 use Rattle.hoistable.proofs.Names.{candidate-read}
@@ -65,17 +64,6 @@ unfolding nonNullLevels walkCandidate
 walk-levels reg set d l =
     let h = findKey hoistableKey (treeOf reg set) (identifierKey (d .identifier)) in
     walk-by-flags h (rootPosition d) (d .path) (bitsOf 17 (numberOf (levelsOf h (d .path)))) (flags-at 17 h (d .path) l)
-
--- Candidates end behind their start.
-onward : (s : List ℕ) (n at : ℕ) {cs : List ReactiveScopeDependency} {end : ℕ} → readMany n (readPath 4 CA) s at ≡ got cs end → at ≤ end
-onward s zero at {cs} {end} e = let same : at ≡ end = cc in omega arith
-onward s (suc n) at {cs} {end} e =
-    let first = many-first (readPath 4 CA) s (suc n) at (omega arith) e in
-    let parts = path-parts s CA at (first .3) in
-    let one : suc n - 1 ≡ n = omega arith in
-    let rest = onward s n (first .1) (subst (λ k. readMany k (readPath 4 CA) s (first .1) ≡ got (first .2) end) one (first .4)) in
-    let here = parts .end in
-    omega arith
 
 pub record Adding (s : List ℕ) (start count : ℕ) (reg : PropertyPathRegistry) (set : NodeSet) (tree : List ℕ) (at left : ℕ) : Type 0 where
   pub held : Held s tree
@@ -123,7 +111,7 @@ module _ {s : List ℕ} {start count : ℕ} {reg : PropertyPathRegistry} {set : 
 
     pub place-within : at + 2 ≤ 32768
     place-within =
-        let on = onward s (left - 1) (first .1) (first .4) in
+        let on = paths-onward s CA (left - 1) (first .1) (first .4) in
         let short = given .short in
         let here = parts .end in
         omega arith
@@ -133,7 +121,7 @@ module _ {s : List ℕ} {start count : ℕ} {reg : PropertyPathRegistry} {set : 
         let same = sym (parts .head-read) ∙ e in
         let place : at + 12 ≡ entriesAt′ = cc in
         let count : parts .head .entries ≡ head .entries = (let h : parts .head ≡ head = cc in ap (λ (h : PathHead). h .entries) h) in
-        let on = onward s (left - 1) (first .1) (first .4) in
+        let on = paths-onward s CA (left - 1) (first .1) (first .4) in
         let short = given .short in
         let here = parts .end in
         let few = parts .entries-few in

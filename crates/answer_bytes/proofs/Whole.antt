@@ -5,8 +5,7 @@ use mathlib.Core.Path.{_≡_, refl, sym, ap, subst, _∙_}
 use mathlib.Core.Bool.{Bool}
 use mathlib.Core.List.{List, [], _∷_, _++_, map}
 use native.Mathlib.Nat.{zero-add}
-use lib.ListN.{length, set, length-append}
-use lib.Seq.{sets}
+use lib.ListN.{length, length-append}
 use Rattle.entries.specs.Path.{ReactiveScopeDependency}
 use Rattle.model.specs.Lists.{concatMap}
 use Rattle.model.specs.ReadingBytes.{got, readMany}
@@ -19,7 +18,7 @@ use Rattle.model.specs.Answer.{numberBytes, u8, u16, flag, AN, DE, pathBytes}
 use Rattle.job.proofs.Many.{many-length}
 use Rattle.laws.specs.Fits.{returned-few}
 use Rattle.writer.specs.Writes.{Writes}
-use Rattle.writer.proofs.Bytes.{number-length, writes-then, writes-as}
+use Rattle.writer.proofs.Bytes.{number-length, writes-before, writes-as}
 use Rattle.tree.specs.Tree.{Held, forestOf, returnedOf, Derives}
 use Rattle.tree.specs.declared.Written.{Written}
 use Rattle.tree.proofs.Caller.{returned-short}
@@ -55,33 +54,6 @@ module _ {s : List ℕ} {start count : ℕ} {reg : PropertyPathRegistry} {nodes 
       let most = given .few in
       omega (arith, returned-short s tree (x .held), size, fewer, count-is, most)
 
--- Bytes written behind a place and then those before it are the two together.
-
-set-apart : (l : List ℕ) (i j x y : ℕ) → ¬ (i ≡ j) → set (set l i x) j y ≡ set (set l j y) i x
-set-apart [] i j x y n = refl
-set-apart (a ∷ l) zero zero x y n = absurd (n refl)
-set-apart (a ∷ l) zero (suc j) x y n = refl
-set-apart (a ∷ l) (suc i) zero x y n = refl
-set-apart (a ∷ l) (suc i) (suc j) x y n = ap (λ (t : List ℕ). a ∷ t) (set-apart l i j x y (λ e. n (ap suc e)))
-
-set-before : (vs l : List ℕ) (k i x : ℕ) → i < k → set (sets l k vs) i x ≡ sets (set l i x) k vs
-set-before [] l k i x h = refl
-set-before (v ∷ vs) l k i x h = set-before vs (set l k v) (suc k) i x (omega arith) ∙ ap (λ (t : List ℕ). sets t (suc k) vs)
-    (set-apart l k i v x (λ e. omega arith))
-
-sets-before : (us vs l : List ℕ) (k i : ℕ) → i + length us ≤ k → sets (sets l k vs) i us ≡ sets (sets l i us) k vs
-sets-before [] vs l k i h = refl
-sets-before (u ∷ us) vs l k i h = ap (λ (t : List ℕ). sets t (suc i) us) (set-before vs l k i u (omega arith)) ∙ sets-before us vs (set l i u) k (suc i)
-    (omega arith)
-
-pub head-before : {a b c : List ℕ} {head rest : List ℕ} {next end : ℕ} → length head ≡ 6 → Writes a b 6 rest end → Writes b c 0 head next → Writes a c 0
-    (head ++ rest) end
-head-before {a} {b} {c} {head} {rest} {next} {end} six w h =
-    let first : Writes a (sets a 0 head) 0 head 6 = record { is = refl; ends = sym six ∙ (let z : length head ≡ 0 + length head = omega arith in z) } in
-    let second : Writes (sets a 0 head) c 6 rest end = record
-    { is = h .is ∙ ap (λ (l : List ℕ). sets l 0 head) (w .is) ∙ sets-before head rest a 6 0 (omega arith); ends = w .ends } in
-    writes-then first second
-
 -- The whole.
 pub answer-written : {s : List ℕ} {start count : ℕ} {reg : PropertyPathRegistry} {nodes : NodeSet} {tree : List ℕ}
     → AddsCandidates s start count reg nodes tree → CandidatesAt s start count
@@ -98,6 +70,6 @@ answer-written {s} {reg = reg} {nodes = nodes} {tree = tree} x given {a} wide {d
     let six = head-length (length (returnedOf s tree)) rounds settled in
     let fits : length (answerOver (returnedOf s tree) rounds settled) ≤ length a = omega
     (arith, length-append (headBytes (length (returnedOf s tree)) rounds settled) bytes, six, paths-fit x given a wide) in (
-      writes-as (ap (λ (ds : List ReactiveScopeDependency). answerOver ds rounds settled) same) (head-before six (d .writes) head),
+      writes-as (ap (λ (ds : List ReactiveScopeDependency). answerOver ds rounds settled) same) (writes-before six (d .writes) head),
       subst (λ (ds : List ReactiveScopeDependency). length (answerOver ds rounds settled) ≤ length a) same fits,
     )

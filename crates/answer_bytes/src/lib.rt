@@ -44,7 +44,7 @@ fn add_candidates(
         let identifier = head.identifier;
         let levels = hoistable::nonnull_levels(ws, set, s, identifier, entries_at, head.entries);
         tree::add_candidate(tree, s, fields_at, levels);
-        at = entries_at + tree::ENTRY_SIZE * (head.entries as usize);
+        at = entries_at + job::ENTRY_SIZE * (head.entries as usize);
         left = left - 1;
     }
 }

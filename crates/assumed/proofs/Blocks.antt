@@ -1,5 +1,5 @@
--- A block's assumed paths by the parts of its record, and the blocks that are left: what starts
--- from them after those before starts the whole.
+-- A block's assumed paths, and the blocks that are left: what starts from them after those before
+-- starts the whole.
 use Prim.Native.Nat.{ℕ, zero, suc, _+_, _*_, _≤_, _<_}
 use native.Mathlib.Omega.{arith}
 use native.Mathlib.Nat.{zero-add}
@@ -8,10 +8,9 @@ use mathlib.Core.Bool.{true, false}
 use mathlib.Core.List.{List, [], _∷_, _++_, append-assoc, append-nil}
 use lib.ListN.{length, getD, set, drop, drop-of-length-le}
 use lib.Seq.{getD-set-same}
-use Rattle.entries.specs.declared.Refusal.{Refusal}
 use Rattle.entries.specs.Path.{ReactiveScopeDependency}
-use Rattle.model.specs.ReadingBytes.{Read, got, refused, readMany}
-use Rattle.model.specs.Job.{PA, Block, readBlockId, readPath, readBlock}
+use Rattle.model.specs.ReadingBytes.{Read, got}
+use Rattle.model.specs.Job.{Block, readBlock}
 use Rattle.model.specs.Sets.{NodeSet}
 use Rattle.model.specs.Registry.{nodeLimit, PropertyPathRegistry}
 use Rattle.model.specs.RegistryLaws.{Extends, extends-refl, extends-trans, extends-length}
@@ -20,51 +19,12 @@ use Rattle.registry.specs.Words.{registryOf, Held}
 use Rattle.rows.specs.Members.{membersOf}
 use Rattle.rows.specs.Rows.{Lent, RowSet, rowOf, rowsFrom, rowsOf}
 use Rattle.rows.proofs.Rows.{row-at, rows-count}
-use Rattle.job.specs.Head.{readBlockHead}
 use Rattle.job.specs.Kept.{blocksOf, PlacedJob}
-use Rattle.job.specs.Passing.{IsRead, passed, orNone}
-use Rattle.job.specs.declared.BlockHead.{BlockHead}
-use Rattle.job.proofs.Passing.{not-both}
-use Rattle.job.proofs.RecordParts.{BlockParts, block-parts}
+use Rattle.job.specs.Passing.{IsRead, orNone}
 use Rattle.job.proofs.BlocksAt.{blocks-read, block-there}
 use Rattle.assumed.specs.declared.EnteredSet.{EnteredSet}
 use Rattle.assumed.specs.Start.{assumedAt, FillsBy, Fills, StartHeld}
 use Rattle.assumed.proofs.Filling.{paths-extend}
-
--- The parts of a block's record.
-
-module _ (s : List ℕ) (at : ℕ) (b : Block) (end : ℕ) (read : readBlock 4 s at ≡ got b end) where
-  parts : BlockParts s at b end
-  parts = block-parts s at read
-
-  pub head-there : {r : Refusal} → readBlockHead s at ≡ refused r → ⊥
-  head-there e = not-both (parts .head-read) e
-
-  module _ {head : BlockHead} {idsAt : ℕ} (headed : readBlockHead s at ≡ got head idsAt) where
-    same-head : parts .head ≡ head
-    same-head = let e = sym (parts .head-read) ∙ headed in cc
-
-    same-place : at + 8 ≡ idsAt
-    same-place = let e = sym (parts .head-read) ∙ headed in cc
-
-    abbrev ids-end : ℕ
-    ids-end = at + 8 + 4 * parts .head .predecessors
-
-    ids-read : readMany (head .predecessors) readBlockId s idsAt ≡ got (b .predecessors) ids-end
-    ids-read =
-        subst (λ (h : BlockHead). readMany (h .predecessors) readBlockId s idsAt ≡ got (b .predecessors) ids-end) same-head
-        (subst (λ n. readMany (parts .head .predecessors) readBlockId s n ≡ got (b .predecessors) ids-end) same-place (parts .predecessors-read))
-
-    pub ids-there : {r : Refusal} → passed (readMany (head .predecessors) readBlockId s idsAt) ≡ refused r → ⊥
-    ids-there e = not-both (ap passed ids-read) e
-
-    pub paths-there : {pathsAt : ℕ} → passed (readMany (head .predecessors) readBlockId s idsAt) ≡ got tt pathsAt
-        → readMany (head .assumed) (readPath 4 PA) s pathsAt ≡ got (b .assumed) end
-    paths-there {pathsAt} e =
-        let both : got tt pathsAt ≡ got tt ids-end = sym e ∙ ap passed ids-read in
-        let there : ids-end ≡ pathsAt = cc in
-        subst (λ (h : BlockHead). readMany (h .assumed) (readPath 4 PA) s pathsAt ≡ got (b .assumed) end) same-head
-        (subst (λ n. readMany (parts .head .assumed) (readPath 4 PA) s n ≡ got (b .assumed) end) there (parts .assumed-read))
 
 -- the assumed paths of a block that was read
 pub assumed-are : (s : List ℕ) (at : ℕ) {b : Block} {end : ℕ} → readBlock 4 s at ≡ got b end → assumedAt s at ≡ b .assumed

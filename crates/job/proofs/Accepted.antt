@@ -40,6 +40,7 @@ pub record Accepted (s : List ℕ) (h : JobHead) : Type 0 where
   pub numbers-are : blockIds (blockNumbers s) ≡ idsOf (job .blocks)
   pub block-again : (k : ℕ) → k < h .blocks → Again (readBlock 4) s (blockPlaces s) (job .blocks) k
   pub candidates-read : readMany (h .candidates) (readPath 4 CA) s (h .«candidates_at») ≡ got (job .candidates) (length s)
+  pub parts : Parts s job
 
 -- what the tests let through is what was put in
 let-through : (p q : Bool) (j : Job) (end : ℕ) {j′ : Job} {end′ : ℕ} → cond p (refused RepeatedId) (cond q (refused UnknownBlock) (got j end)) ≡ got j′ end′
@@ -75,6 +76,7 @@ module _ (s : List ℕ) (j : Job) (p : Parts s j) where
     numbers-are = ids-are s j p;
     block-again = again;
     candidates-read = rw candidate-count (p .candidates-read);
+    parts = p;
   }
 
 joined : (s : List ℕ) (j j′ : Job) (end end′ : ℕ) {h : JobHead} → readRecords HD 4 s ≡ got j end → acceptIds j end ≡ got j′ end′

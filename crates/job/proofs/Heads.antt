@@ -8,17 +8,10 @@ use Rattle.entries.specs.declared.DependencyPathEntry.{DependencyPathEntry}
 use Rattle.entries.specs.Path.{ReactiveScopeDependency}
 use Rattle.model.specs.ReadingBytes.{Read, got, refused, andThen, mapped, both, readMany, readNumber, readMark, readWithin, readFlag}
 use Rattle.model.specs.Job.{BL, PA, Block, readBlockId, readEntry, readPath, readBlock}
-use Rattle.job.specs.Head.{readPathHead, readBlockHead}
+use Rattle.laws.specs.JobBack.{then-then}
+use Rattle.job.specs.Head.{readPathHead, pathOf, readBlockHead}
 use Rattle.job.specs.declared.PathHead.{PathHead}
 use Rattle.job.specs.declared.BlockHead.{BlockHead}
-
-then-then : {A B C : Type 0} (x : Read A) (k : A → ℕ → Read B) (l : B → ℕ → Read C)
-    → andThen (andThen x k) l ≡ andThen x (λ a next. andThen (k a next) l)
-then-then (got a n) k l = refl
-then-then (refused r) k l = refl
-
-abbrev pub pathOf : PathHead → List DependencyPathEntry → ReactiveScopeDependency
-pathOf head entries = record { identifier = head .identifier; reactive = head .reactive; path = entries; span = head .span }
 
 path-fields : (mark : ℕ) (s : List ℕ) (at : ℕ) → readPath 4 mark s at ≡
     andThen (readMark mark s at) (λ _ identifierAt.

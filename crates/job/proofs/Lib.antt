@@ -17,4 +17,5 @@ pub mod Answers
 -- what later stages go on from
 pub mod Accepted
 pub mod RecordParts
+pub mod BlockAgain
 pub mod BlocksAt

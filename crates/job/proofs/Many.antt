@@ -1,14 +1,14 @@
 -- Records one after the other: what holds of none, and of one more in front, holds of all that were
 -- read.
-use Prim.Native.Nat.{ℕ, zero, suc, _-_, _<_}
-use mathlib.Core.Path.{_≡_, refl, ap}
-use mathlib.Core.List.{List, [], _∷_}
+use Prim.Native.Nat.{ℕ, zero, suc, _-_, _≤_, _<_}
+use mathlib.Core.Path.{_≡_, refl, ap, subst, _∙_}
+use mathlib.Core.List.{List, [], _∷_, _++_}
 use native.Mathlib.Omega.{arith}
 use lib.ListN.{length, getD, drop}
 use Rattle.model.specs.ReadingBytes.{Read, got, refused, ByteReader, mapped, both, readMany}
 use Rattle.job.specs.Passing.{notes}
 use Rattle.laws.specs.Fits.{HoldsIfRead, holds-got}
-use Rattle.job.proofs.Passing.{both-got}
+use Rattle.job.proofs.Passing.{both-got, both-is}
 
 pub holds-mapped : {A B : Type 0} (P : A → Type 0) (Q : B → Type 0) (f : A → B) → ((a : A) → P a → Q (f a))
     → (x : Read A) → HoldsIfRead P x → HoldsIfRead Q (mapped f x)
@@ -41,6 +41,29 @@ module _ {A : Type 0} (read : ByteReader A) (s : List ℕ) where
 
   pub many-length : (n at : ℕ) {all : List A} {end : ℕ} → readMany n read s at ≡ got all end → length all ≡ n
   many-length = many-all (λ n at all. length all ≡ n) (λ at. refl) (λ n at next a rest e q. ap suc q)
+
+  -- records that end behind their start one by one do so together
+  pub many-ends-behind : ((at : ℕ) (a : A) (next : ℕ) → read s at ≡ got a next → at ≤ next) → (n at : ℕ) {all : List A} {end : ℕ}
+      → readMany n read s at ≡ got all end → at ≤ end
+  many-ends-behind h zero at {all} {end} e = let same : at ≡ end = cc in omega arith
+  many-ends-behind h (suc n) at {all} {end} e =
+      let t = both-got (λ first rest. first ∷ rest) (read s at) (readMany n read s) e in
+      let here = h at (t .0) (t .1) (t .3) in
+      let rest = many-ends-behind h n (t .1) (t .4) in
+      omega arith
+
+  -- one record more behind those that were read
+  pub many-last : (n at : ℕ) {xs : List A} {mid : ℕ} {y : A} {end : ℕ} → readMany n read s at ≡ got xs mid → read s mid ≡ got y end
+      → readMany (suc n) read s at ≡ got (xs ++ (y ∷ [])) end
+  many-last zero at {xs} {mid} {y} {end} e f =
+      let none : [] ≡ xs = cc in
+      let here : at ≡ mid = cc in
+      subst (λ l. readMany 1 read s at ≡ got (l ++ (y ∷ [])) end) none
+      (both-is (λ first rest. first ∷ rest) (read s at) (readMany 0 read s) (ap (read s) here ∙ f) refl)
+  many-last (suc n) at {xs} {mid} {y} {end} e f =
+      let t = both-got (λ first rest. first ∷ rest) (read s at) (readMany n read s) e in
+      subst (λ l. readMany (suc (suc n)) read s at ≡ got (l ++ (y ∷ [])) end) (t .5)
+      (both-is (λ first rest. first ∷ rest) (read s at) (readMany (suc n) read s) (t .3) (many-last n (t .1) (t .4) f))
 
   -- each record that was read is noted
   pub notes-length : {B : Type 0} (f : ℕ → A → B) (n at : ℕ) {all : List A} {end : ℕ} → readMany n read s at ≡ got all end

@@ -1,6 +1,6 @@
 -- Passing over records: what one step of a loop says of the place after all of them.
 use Prim.Native.Nat.{ℕ, zero, suc, _<_, _≤_, _-_, _+_}
-use mathlib.Core.Path.{_≡_, refl}
+use mathlib.Core.Path.{_≡_, refl, ap, _∙_}
 use mathlib.Core.List.{List}
 use native.Mathlib.Omega.{arith}
 use Rattle.entries.specs.declared.Refusal.{Refusal}
@@ -50,6 +50,11 @@ both-got f x rest e =
     let t = then-got x _ e in
     let m = mapped-got (f (t .0)) (rest (t .1)) (t .3) in
     (t .0, t .1, m .0, t .2, m .1, m .2)
+
+-- and back
+pub both-is : {A B C : Type 0} (f : A → B → C) (x : Read A) (rest : ℕ → Read B) {a : A} {n : ℕ} {b : B} {end : ℕ} → x ≡ got a n → rest n ≡ got b end
+    → both f x rest ≡ got (f a b) end
+both-is f x rest {a} e g = ap (λ y. both f y rest) e ∙ ap (mapped (f a)) g
 
 -- a view of two parts that needs the value of neither
 pub viewed-both : {A B C D : Type 0} (view : C → D) (f : A → B → C) (d : D) → ((a : A) (b : B) → view (f a b) ≡ d)

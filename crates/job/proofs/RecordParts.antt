@@ -11,13 +11,13 @@ use Rattle.entries.specs.Path.{ReactiveScopeDependency}
 use Rattle.model.specs.ReadingBytes.{got, readMany, readMark}
 use Rattle.model.specs.Job.{PA, Block, readBlockId, readEntry, readPath, readBlock}
 use Rattle.laws.specs.Fits.{holds-got}
-use Rattle.job.specs.Head.{readPathHead, readBlockHead}
+use Rattle.job.specs.Head.{readPathHead, pathOf, readBlockHead}
 use Rattle.job.specs.declared.PathHead.{PathHead}
 use Rattle.job.specs.declared.BlockHead.{BlockHead}
 use Rattle.job.proofs.Bounds.{predecessors-most, entries-most}
 use Rattle.job.proofs.Ends.{ended-at, mark-ends, id-ends, entry-ends, path-head-ends, block-head-ends, block-head-within, many-ends}
-use Rattle.job.proofs.Heads.{pathOf, path-by-head, blockOf, block-by-head}
-use Rattle.job.proofs.Many.{many-length}
+use Rattle.job.proofs.Heads.{path-by-head, blockOf, block-by-head}
+use Rattle.job.proofs.Many.{many-length, many-ends-behind}
 use Rattle.job.proofs.Passing.{mapped-got, then-got, both-got}
 
 -- the parts of a block b whose record starts at a place
@@ -98,3 +98,21 @@ path-parts s mark at {p} {next} e =
     let u = then-got (readPathHead s (t .1)) _ (t .3) in
     let m = mapped-got (pathOf (u .0)) (readMany (u .0 .entries) (readEntry 4) s (u .1)) (u .3) in
     path-made s mark at p next (t .1) (u .0) (u .1) (m .0) (t .2) (u .2) (m .1) (m .2)
+
+-- Paths end behind their start.
+pub path-onward : (s : List ℕ) (mark at : ℕ) {d : ReactiveScopeDependency} {next : ℕ} → readPath 4 mark s at ≡ got d next → at ≤ next
+path-onward s mark at e = let parts = path-parts s mark at e in let here = parts .end in omega arith
+
+pub paths-onward : (s : List ℕ) (mark n at : ℕ) {ds : List ReactiveScopeDependency} {end : ℕ} → readMany n (readPath 4 mark) s at ≡ got ds end → at ≤ end
+paths-onward s mark n at = many-ends-behind (readPath 4 mark) s (λ at d next e. path-onward s mark at e) n at
+
+-- And so do blocks.
+pub block-onward : (s : List ℕ) (at : ℕ) {b : Block} {next : ℕ} → readBlock 4 s at ≡ got b next → at ≤ next
+block-onward s at {b} {next} e =
+    let parts = block-parts s at e in
+    let here : at + 8 + 4 * parts .head .predecessors ≤ next = paths-onward s PA (parts .head .assumed) (at + 8 + 4 * parts .head .predecessors)
+    (parts .assumed-read) in
+    omega arith
+
+pub blocks-onward : (s : List ℕ) (n at : ℕ) {bs : List Block} {end : ℕ} → readMany n (readBlock 4) s at ≡ got bs end → at ≤ end
+blocks-onward s n at = many-ends-behind (readBlock 4) s (λ at b next e. block-onward s at e) n at

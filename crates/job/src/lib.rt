@@ -34,6 +34,9 @@ pub const CA: u16 = 0x4143;
 
 pub const HD: u16 = 0x4448;
 
+// How many bytes an entry has: optional, kind, value and span.
+pub const ENTRY_SIZE: usize = 14;
+
 // A record's value and the place after it, or the refusal.
 pub enum ReadEntry {
     Value(DependencyPathEntry, usize),

@@ -13,8 +13,8 @@ use Rattle.entries.specs.declared.DependencyPathEntry.{DependencyPathEntry}
 use Rattle.model.specs.ReadingBytes.{Read, got, refused, mapped, both, readMany, readMark}
 use Rattle.model.specs.Job.{PA, readEntry, readPath}
 use Rattle.job.specs.declared.PathHead.{PathHead}
-use Rattle.job.specs.Head.{readPathHead}
-use Rattle.job.proofs.Heads.{pathOf, path-by-head}
+use Rattle.job.specs.Head.{readPathHead, pathOf}
+use Rattle.job.proofs.Heads.{path-by-head}
 use Rattle.job.proofs.Many.{many-first}
 use Rattle.job.proofs.Passing.{not-both, mapped-got}
 use Rattle.model.specs.Registry.{nodeLimit, PropertyPathRegistry, Reached, fullPathOf, isRootFor, isChildBy, rootNode, childNode, walkFrom, ownMark}

@@ -39,10 +39,8 @@ use job::PathHead;
 use job::ReadEntry;
 use job::ReadPathHead;
 
-// How many bytes stand between a path's mark and its entries, and how many an entry has.
+// How many bytes stand between a path's mark and its entries.
 const HEAD_SIZE: usize = 10;
-
-pub const ENTRY_SIZE: usize = 14;
 
 // Positions on a way down, from a root on.
 struct Way {
@@ -225,7 +223,7 @@ fn walk_candidate(s: &[u8], at: usize, levels: u32) -> Way
             way = step_to(way, place, access);
             place = next;
             access = step_access(nonnull);
-            next = next + ENTRY_SIZE;
+            next = next + job::ENTRY_SIZE;
             left = left - 1;
             flags = flags / 2;
         } else {

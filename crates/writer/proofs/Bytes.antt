@@ -6,8 +6,8 @@ use native.Mathlib.Nat.{add-zero}
 use mathlib.Core.Path.{_≡_, refl, sym, ap, subst, _∙_}
 use mathlib.Core.Bool.{Bool}
 use mathlib.Core.List.{List, [], _∷_, _++_}
-use lib.ListN.{length, set, length-append}
-use lib.Seq.{sets, length-sets}
+use lib.ListN.{length, getD, set, length-append}
+use lib.Seq.{sets, length-sets, slice, slice-cons, length-slice, set-comm}
 use Rattle.entries.specs.declared.IdentifierId.{IdentifierId}
 use Rattle.entries.specs.declared.DependencyPathEntry.{DependencyPathEntry}
 use Rattle.entries.specs.Property.{isNumber, valueOf}
@@ -54,6 +54,26 @@ room-after n k x e h = let l = writes-length x in let f = x .ends in omega arith
 
 pub writes-as : {a b : List ℕ} {at m : ℕ} {xs ys : List ℕ} → xs ≡ ys → Writes a b at xs m → Writes a b at ys m
 writes-as {a} {b} {at} {m} e x = subst (λ (l : List ℕ). Writes a b at l m) e x
+
+-- Bytes written behind a place and then those before it are the two together.
+
+set-before : (vs l : List ℕ) (k i x : ℕ) → i < k → set (sets l k vs) i x ≡ sets (set l i x) k vs
+set-before [] l k i x h = refl
+set-before (v ∷ vs) l k i x h = set-before vs (set l k v) (suc k) i x (omega arith) ∙ ap (λ (t : List ℕ). sets t (suc k) vs)
+    (set-comm l k i v x (λ e. omega arith))
+
+sets-before : (us vs l : List ℕ) (k i : ℕ) → i + length us ≤ k → sets (sets l k vs) i us ≡ sets (sets l i us) k vs
+sets-before [] vs l k i h = refl
+sets-before (u ∷ us) vs l k i h = ap (λ (t : List ℕ). sets t (suc i) us) (set-before vs l k i u (omega arith)) ∙ sets-before us vs (set l i u) k (suc i)
+    (omega arith)
+
+pub writes-before : {a b c : List ℕ} {at size next end : ℕ} {front rest : List ℕ} → length front ≡ size → Writes a b (at + size) rest end
+    → Writes b c at front next → Writes a c at (front ++ rest) end
+writes-before {a} {b} {c} {at} {size} {next} {end} {front} {rest} e w h =
+    let first : Writes a (sets a at front) at front (at + size) = record { is = refl; ends = ap (λ (n : ℕ). at + n) (sym e) } in
+    let second : Writes (sets a at front) c (at + size) rest end = record
+    { is = h .is ∙ ap (λ (l : List ℕ). sets l at front) (w .is) ∙ sets-before front rest a (at + size) at (omega arith); ends = w .ends } in
+    writes-then first second
 
 -- the three numbers of an entry, as the code has them
 pub step-bytes : (e : DependencyPathEntry) (o n v : ℕ) → o ≡ flag (e .optional) → n ≡ flag (isNumber (e .property)) → v ≡ valueOf (e .property)
@@ -126,3 +146,14 @@ coming-room c h = let e = c .ends in let l = c .long in omega arith
 pub coming-as : {before out : List ℕ} {start at : ℕ} {whole xs ys : List ℕ} → xs ≡ ys → Coming before out start at whole xs
     → Coming before out start at whole ys
 coming-as {before} {out} {start} {at} {whole} e c = subst (λ (l : List ℕ). Coming before out start at whole l) e c
+
+-- Bytes of a slice, one by one: those from j on are the one at j and those from the next on.
+pub next-byte : (s : List ℕ) (j until : ℕ) → j < until → until ≤ length s → slice j until s ≡ (getD s j 0 ∷ []) ++ slice (j + 1) until s
+next-byte s j until h l = slice-cons j until s 0 h l ∙ ap (λ (k : ℕ). getD s j 0 ∷ slice k until s) (sym (add-one j))
+
+none-of : (l : List ℕ) → length l ≡ 0 → l ≡ []
+none-of [] e = refl
+none-of (x ∷ l) e = absurd (omega arith)
+
+pub slice-over : (s : List ℕ) (j until : ℕ) → until ≤ j → until ≤ length s → slice j until s ≡ []
+slice-over s j until h l = none-of (slice j until s) (let e = length-slice j until s l in omega arith)

@@ -1,7 +1,8 @@
-// Writes numbers and entries into a buffer, lowest byte first. Each writer gives the place after
-// what it wrote.
-ghost use Prim.Native.Nat.{_+_, _≤_, _<_};
+// Writes numbers, entries, heads of paths and copied bytes into a buffer, numbers lowest byte
+// first. Each writer gives the place after what it wrote.
+ghost use Prim.Native.Nat.{_+_, _-_, _≤_, _<_};
 ghost use lib.ListN.{length};
+ghost use lib.Seq.{slice};
 ghost use mathlib.Core.Path.{_≡_};
 ghost use Rattle.model.specs.Answer.{numberBytes, flag, stepBytes, entryBytes, spanWidth};
 ghost use Rattle.writer.specs.Writes.{Writes, pathHeadBytes};
@@ -22,6 +23,21 @@ pub fn put_number(out: &mut [u8], at: usize, bytes: usize, x: u64) -> usize
         i += 1;
     }
     end
+}
+
+// The bytes of a slice from one place up to another.
+pub fn put_bytes(out: &mut [u8], at: usize, s: &[u8], from: usize, until: usize) -> usize
+    requires { ⌜ (until ≤ length (now s)) × (at + (until - from) ≤ length (now out)) ⌝ }
+    ensures { λ r. ⌜ Writes (now (out .entry)) (now (out .exit)) at (slice from until (now (s .entry))) r ⌝ }
+{
+    let mut i = at;
+    let mut j = from;
+    while j < until {
+        out[i] = s[j];
+        i += 1;
+        j += 1;
+    }
+    i
 }
 
 // The number of a yes or no.

@@ -15,7 +15,8 @@ use Rattle.job.specs.Answer.{gotBlockHead}
 use Rattle.assumed.specs.declared.EnteredSet.{EnteredSet}
 use Rattle.assumed.specs.Start.{Fills}
 use Rattle.assumed.proofs.Filling.{paths-are}
-use Rattle.assumed.proofs.Blocks.{head-there, ids-there, paths-there, assumed-are}
+use Rattle.job.proofs.BlockAgain.{head-there, ids-there, paths-there}
+use Rattle.assumed.proofs.Blocks.{assumed-are}
 use Rattle.assumed.proofs.enter_block.Statement.{statement}
 use Rattle.assumed.proofs.enter_block.Tie as tie
 
