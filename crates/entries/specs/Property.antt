@@ -1,5 +1,5 @@
--- A property's kind and value, and back. Document 01, "The job": "kind u8 (0 name, 1 number), value
--- u64".
+-- A property's kind and value, and back. Document 01, "The job (added)": "kind u8 (0 name, 1
+-- number), value u64".
 use Prim.Native.Nat.{ℕ}
 use mathlib.Core.Path.{_≡_, refl}
 use mathlib.Core.Bool.{Bool, true, false}

@@ -181,7 +181,7 @@ pub data Verdict : Type 0 where
   turnsBack : Refusal → Verdict
 
 -- 1: "The out buffer is shorter than 24,576 bytes." 2: "The job is longer than 32,768 bytes." The
--- two limits are given.
+-- two limits are given, since the thin writer has another for 1.
 abbrev pub withinLengths : ℕ → ℕ → List ℕ → List ℕ → Verdict → Verdict
 withinLengths leastOut mostJob job out rest =
     cond (ltb (length out) leastOut) (turnsBack ShortBuffer) (cond (ltb mostJob (length job)) (turnsBack LongJob) rest)
@@ -241,8 +241,8 @@ abbrev pub programOutput : Verdict → List ℕ
 programOutput (writes bytes) = bytes
 programOutput (turnsBack r) = 0x52 ∷ 0x46 ∷ refusalNumber r ∷ []
 
--- "Program `answer`": its buffer has the least length, so that 1 does not occur, and its input is
--- the job.
+-- "Program `answer`": its input is the job. A buffer of the least length stands for the program's,
+-- which is longer; 1 does not occur, and what is written is the same.
 unfoldable pub answerProgram : List ℕ → List ℕ
 answerProgram input = programOutput (answerOf input (replicate leastBuffer 0))
 

@@ -1,5 +1,5 @@
--- Document 01, "The job": its records, field by field, and refusals 3 to 8. The width of a span, in
--- bytes, is a parameter of the records that hold one.
+-- Document 01, "The job (added)": its records, field by field, and refusals 3 to 8. The width of a
+-- span, in bytes, is a parameter of the records that hold one.
 use Prim.Native.Nat.{ℕ, zero, suc, _+_, _*_}
 use mathlib.Core.Bool.{Bool, true, false, _||_, not, cond}
 use mathlib.Core.List.{List, [], _∷_, map}

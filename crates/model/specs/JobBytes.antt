@@ -1,5 +1,6 @@
--- Document 01, "The job", written: the bytes of a job's records, field by field. The mark of the
--- header and the width of a span, in bytes, are parameters, as they are of the reader (`Job`).
+-- Document 01, "The job (added)", written: the bytes of a job's records, field by field. The mark
+-- of the header and the width of a span, in bytes, are parameters, as they are of the reader
+-- (`Job`).
 use Prim.Native.Nat.{ℕ}
 use mathlib.Core.List.{List, _++_}
 use lib.ListN.{length}

@@ -14,9 +14,11 @@ pub mod Job
 pub mod Stage
 pub mod Answer
 pub mod JobBytes
+pub mod Thin
 -- the examples of document 01, and others beside them
 pub mod PathExamples
 pub mod Examples
+pub mod ThinExamples
 -- laws
 pub mod Tests
 pub mod ListLaws
