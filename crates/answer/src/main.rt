@@ -1,6 +1,6 @@
 // Program `answer`: a job on standard input, its answer on standard output.
-use stage::Operation;
+use run::Program;
 
 fn main() {
-    run::run(Operation::Answer);
+    run::run(Program::Answer);
 }

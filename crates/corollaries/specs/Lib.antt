@@ -1,1 +1,3 @@
+pub mod Leaves
 pub mod Demand3
+pub mod Thin

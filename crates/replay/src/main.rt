@@ -1,4 +1,4 @@
-// Replays the stored list of jobs (compare/stored), which comes on standard input, through both
+// Replays the stored list of jobs (compare/stored), which comes on standard input, through all
 // operations: what they write, or by which number they refuse, is to be what the Rust's harness
 // stored, and the rest of the buffer is to be as it was.
 ghost use mathlib.Core.Path.{_≡_};
@@ -7,7 +7,7 @@ ghost use Prim.Native.Nat.{_≤_};
 ghost use lib.ListN.{length};
 ghost use Rattle.replay.specs.Parts.{Fits};
 use fields::ReadU32;
-use stage::Operation;
+use run::Program;
 use stage::Outcome;
 
 enum Length {
@@ -22,10 +22,19 @@ enum Compared {
     End,
 }
 
-// Whether the answer agreed, whether the sheet did, and the answer's refusal or 0. An end of the
-// list is no record.
+// Whether the answer, the sheet and the thin job agreed, and the refusals of the answer and of the
+// thin job, 0 for none.
+struct Agreement {
+    answer: bool,
+    sheet: bool,
+    thin: bool,
+    answer_refusal: u8,
+    thin_refusal: u8,
+}
+
+// An end of the list is no record.
 enum Record {
-    Of(bool, bool, u8),
+    Of(Agreement),
     End,
 }
 
@@ -101,19 +110,19 @@ fn untouched() -> [u8; 65536]
 }
 
 // The operation with the first bytes as its out buffer.
-fn perform(operation: Operation, job: &[u8], out: &mut [u8], room: usize) -> Outcome
+fn perform(program: Program, job: &[u8], out: &mut [u8], room: usize) -> Outcome
     requires { ⌜ room ≤ length (now out) ⌝ }
 {
-    stage::perform(operation, job, &mut out[..room])
+    run::perform(program, job, &mut out[..room])
 }
 
 // The operation with an out buffer of the given length, beside what the list says.
-fn compare(operation: Operation, job: &[u8], room: usize, told: &[u8]) -> Compared {
+fn compare(program: Program, job: &[u8], room: usize, told: &[u8]) -> Compared {
     if 65536 < room {
         return Compared::End;
     }
     let mut out = untouched();
-    let outcome = perform(operation, job, &mut out, room);
+    let outcome = perform(program, job, &mut out, room);
     match outcome {
         Outcome::Written(n) => Compared::Of(n == told.len() && holds(&out, told), 0),
         Outcome::Refused(refusal) => {
@@ -124,15 +133,16 @@ fn compare(operation: Operation, job: &[u8], room: usize, told: &[u8]) -> Compar
 }
 
 // The operation beside the next part of the list.
-fn compare_next(operation: Operation, job: &[u8], room: usize) -> Compared {
+fn compare_next(program: Program, job: &[u8], room: usize) -> Compared {
     let mut space = io::large_buffer();
     let Length::Of(n) = next_part(&mut space) else {
         return Compared::End;
     };
-    compare(operation, job, room, &space[..n])
+    compare(program, job, room, &space[..n])
 }
 
-// The next record of the list: the length of an out buffer, a job, its answer and its sheet.
+// The next record of the list: the length of an out buffer, a job, its answer, its sheet and its
+// thin job.
 fn next_record() -> Record {
     let Length::Of(room) = next_length() else {
         return Record::End;
@@ -141,14 +151,22 @@ fn next_record() -> Record {
     let Length::Of(n) = next_part(&mut job) else {
         return Record::End;
     };
-    let Compared::Of(answer_agrees, number) = compare_next(Operation::Answer, &job[..n], room)
-    else {
+    let Compared::Of(answer, answer_refusal) = compare_next(Program::Answer, &job[..n], room) else {
         return Record::End;
     };
-    let Compared::Of(sheet_agrees, _) = compare_next(Operation::Sheet, &job[..n], room) else {
+    let Compared::Of(sheet, _) = compare_next(Program::Sheet, &job[..n], room) else {
         return Record::End;
     };
-    Record::Of(answer_agrees, sheet_agrees, number)
+    let Compared::Of(thin, thin_refusal) = compare_next(Program::Thin, &job[..n], room) else {
+        return Record::End;
+    };
+    Record::Of(Agreement {
+        answer,
+        sheet,
+        thin,
+        answer_refusal,
+        thin_refusal,
+    })
 }
 
 fn line(text: &[u8], n: u64) {
@@ -166,25 +184,31 @@ fn counted(n: u64, holds: bool) -> u64 {
     }
 }
 
-// How many answers and sheets agreed, how many records had one that did not, and how many of the
-// others were refused by each number, 0 for none.
+// How many answers, sheets and thin jobs agreed, how many records had one that did not, and of the
+// others how many answers and how many thin jobs were refused by each number, 0 for none.
 struct Tally {
     answers: u64,
     sheets: u64,
+    thin_jobs: u64,
     differed: u64,
-    refused: [u64; 16],
+    answers_refused: [u64; 16],
+    thin_jobs_refused: [u64; 16],
 }
 
 impl Tally {
-    fn with(self, answer_agrees: bool, sheet_agrees: bool, number: u8) -> Tally {
+    fn with(self, a: Agreement) -> Tally {
         let mut t = self;
-        let both = answer_agrees && sheet_agrees;
-        t.answers = counted(t.answers, answer_agrees);
-        t.sheets = counted(t.sheets, sheet_agrees);
-        t.differed = counted(t.differed, !both);
-        let k = (number % 16) as usize;
-        let n = t.refused[k];
-        t.refused[k] = counted(n, both);
+        let all = a.answer && a.sheet && a.thin;
+        t.answers = counted(t.answers, a.answer);
+        t.sheets = counted(t.sheets, a.sheet);
+        t.thin_jobs = counted(t.thin_jobs, a.thin);
+        t.differed = counted(t.differed, !all);
+        let k = (a.answer_refusal % 16) as usize;
+        let n = t.answers_refused[k];
+        t.answers_refused[k] = counted(n, all);
+        let j = (a.thin_refusal % 16) as usize;
+        let m = t.thin_jobs_refused[j];
+        t.thin_jobs_refused[j] = counted(m, all);
         t
     }
 }
@@ -194,34 +218,40 @@ fn replay() -> Tally {
     let mut t = Tally {
         answers: 0,
         sheets: 0,
+        thin_jobs: 0,
         differed: 0,
-        refused: [0; 16],
+        answers_refused: [0; 16],
+        thin_jobs_refused: [0; 16],
     };
     let mut turns: u32 = 100000;
     while turns > 0 {
-        let Record::Of(answer_agrees, sheet_agrees, number) = next_record() else {
+        let Record::Of(agreement) = next_record() else {
             return t;
         };
-        t = t.with(answer_agrees, sheet_agrees, number);
+        t = t.with(agreement);
         turns -= 1;
     }
     t
+}
+
+// How many were written, and how many refused by each number.
+fn lines(written: &[u8], refused: &[u8], counts: [u64; 16]) {
+    line(written, counts[0]);
+    for k in 1..10 {
+        io::write_all(1, refused);
+        io::print_decimal(1, k as u64);
+        line(b": ", counts[k]);
+    }
 }
 
 fn main() {
     let t = replay();
     line(b"answers that agree: ", t.answers);
     line(b"sheets that agree: ", t.sheets);
+    line(b"thin jobs that agree: ", t.thin_jobs);
     line(b"records that differ: ", t.differed);
-    let n = t.refused;
-    line(b"agreed and written: ", n[0]);
-    line(b"agreed on refusal 1: ", n[1]);
-    line(b"agreed on refusal 2: ", n[2]);
-    line(b"agreed on refusal 3: ", n[3]);
-    line(b"agreed on refusal 4: ", n[4]);
-    line(b"agreed on refusal 5: ", n[5]);
-    line(b"agreed on refusal 6: ", n[6]);
-    line(b"agreed on refusal 7: ", n[7]);
-    line(b"agreed on refusal 8: ", n[8]);
-    line(b"agreed on refusal 9: ", n[9]);
+    let answers = t.answers_refused;
+    lines(b"agreed and written: ", b"agreed on refusal ", answers);
+    let thin_jobs = t.thin_jobs_refused;
+    lines(b"thin jobs written: ", b"thin jobs refused by ", thin_jobs);
 }

@@ -1,4 +1,4 @@
--- What the programs `answer` and `sheet` write.
+-- What the programs `answer`, `sheet` and `thin` write.
 use Prim.Native.Nat.{ℕ, _≤_, _<_}
 use native.Mathlib.Omega.{arith}
 use mathlib.Core.Path.{_≡_, ap}
@@ -9,40 +9,65 @@ use lib.Seq.{length-take-le, take-all}
 use lib.Dec.{ltb}
 use Rattle.model.specs.Tests.{decide, ltb-true, ltb-false, ltb-less}
 use Rattle.model.specs.Rounds.{Rounds}
-use Rattle.model.specs.Propagation.{Work, JoiningRule, doneNeighbours}
-use Rattle.model.specs.Job.{Job, HD}
-use Rattle.model.specs.Answer.{leastBuffer, longestJob, spanWidth, verdict, answerBytes, answerOf, answerProgram, sheetBytes, sheetOf}
-use Rattle.model.specs.Answer.{sheetProgram, programOutput}
-use Rattle.stage.specs.declared.Operation.{Operation}
-use Rattle.stage.specs.declared.Operation.the-variants as operation
+use Rattle.model.specs.Propagation.{Work, doneNeighbours}
+use Rattle.model.specs.Job.{Job, HD, readJob}
+use Rattle.model.specs.Answer.{
+  Verdict,
+  withinLengths,
+  onJob,
+  leastBuffer,
+  longestJob,
+  spanWidth,
+  answerBytes,
+  answerOf,
+  answerProgram,
+  sheetBytes,
+  sheetOf,
+  sheetProgram,
+  programOutput,
+}
+use Rattle.model.specs.Thin.{leastThinBuffer, onThinJob, thinOf, thinProgram}
+use Rattle.run.specs.declared.Program.{Program}
+use Rattle.run.specs.declared.Program.the-variants as program
 
 -- "Program `answer` reads a job from standard input and writes the answer, or RF and the number as
--- one byte; `sheet` likewise": by the operation.
-abbrev pub programOf : Operation → List ℕ → List ℕ
-programOf operation.Answer = answerProgram
-programOf operation.Sheet = sheetProgram
+-- one byte; `sheet` likewise", and so does `thin`.
+abbrev pub programOf : Program → List ℕ → List ℕ
+programOf program.Answer = answerProgram
+programOf program.Sheet = sheetProgram
+programOf program.Thin = thinProgram
 
--- What the operation's program writes of the job are the buffer's first n bytes, and those beyond
+-- The operation of a program, on any bytes and any buffer.
+abbrev pub operationOf : Program → List ℕ → List ℕ → Verdict
+operationOf program.Answer = answerOf
+operationOf program.Sheet = sheetOf
+operationOf program.Thin = thinOf
+
+-- What the program writes of the job are the buffer's first n bytes, and those beyond
 -- stay.
-pub record Responds (op : Operation) (job before after : List ℕ) (n : ℕ) : Type 0 where
-  pub buffer : after ≡ programOf op job ++ drop n before
-  pub size : n ≡ length (programOf op job)
+pub record Responds (p : Program) (job before after : List ℕ) (n : ℕ) : Type 0 where
+  pub buffer : after ≡ programOf p job ++ drop n before
+  pub size : n ≡ length (programOf p job)
 
 -- how many bytes of a job a program reads at most
 abbrev pub bytesRead : ℕ
 bytesRead = 65536
 
--- What the operation's program writes of some job, of no more bytes than it reads, has n bytes.
-pub record GivesToWrite (op : Operation) (n : ℕ) : Type 0 where
+-- how many bytes its buffer has: at least as many as each operation asks for
+abbrev pub bytesLent : ℕ
+bytesLent = 32768
+
+-- What the program writes of some job, of no more bytes than it reads, has n bytes.
+pub record GivesToWrite (p : Program) (n : ℕ) : Type 0 where
   pub job : List ℕ
   pub few : length job ≤ bytesRead
-  pub size : n ≡ length (programOf op job)
+  pub size : n ≡ length (programOf p job)
 
--- A longer job is refused as too long, and so are its first bytes.
-first-bytes-verdict : (head spanBytes : ℕ) (rule : JoiningRule) (bytes : ℕ → Job → Rounds Work → List ℕ) (s out : List ℕ)
-    → verdict head spanBytes rule bytes (take bytesRead s) out ≡ verdict head spanBytes rule bytes s out
-unfolding verdict
-first-bytes-verdict head spanBytes rule bytes s out =
+-- A longer job is refused as too long, and so are its first bytes: by any operation that looks at
+-- the lengths first.
+first-bytes-verdict : (least : ℕ) (rest : List ℕ → Verdict) (s out : List ℕ)
+    → withinLengths least longestJob (take bytesRead s) out (rest (take bytesRead s)) ≡ withinLengths least longestJob s out (rest s)
+first-bytes-verdict least rest s out =
     decide (ltb bytesRead (length s))
     (λ e.
     let more = ltb-true bytesRead (length s) e in
@@ -50,8 +75,16 @@ first-bytes-verdict head spanBytes rule bytes s out =
     rw (ltb-less longestJob (length (take bytesRead s)) (omega arith), ltb-less longestJob (length s) (omega arith)))
     (λ e. rw (take-all bytesRead s (ltb-false bytesRead (length s) e)))
 
+-- What an operation does beside 1 and 2.
+abbrev pub readAnd : (ℕ → Job → Rounds Work → List ℕ) → List ℕ → Verdict
+readAnd bytes s = onJob doneNeighbours (bytes spanWidth) (readJob HD spanWidth s)
+
+abbrev pub readAndThin : List ℕ → Verdict
+readAndThin s = onThinJob HD spanWidth (readJob HD spanWidth s)
+
 -- So what a program writes of a job's first bytes, it writes of the job.
-pub first-bytes : (op : Operation) (s : List ℕ) → programOf op (take bytesRead s) ≡ programOf op s
-unfolding answerProgram answerOf sheetProgram sheetOf
-first-bytes operation.Answer s = ap programOutput (first-bytes-verdict HD spanWidth doneNeighbours answerBytes s (replicate leastBuffer 0))
-first-bytes operation.Sheet s = ap programOutput (first-bytes-verdict HD spanWidth doneNeighbours sheetBytes s (replicate leastBuffer 0))
+pub first-bytes : (p : Program) (s : List ℕ) → programOf p (take bytesRead s) ≡ programOf p s
+unfolding answerProgram answerOf sheetProgram sheetOf thinProgram thinOf
+first-bytes program.Answer s = ap programOutput (first-bytes-verdict leastBuffer (readAnd answerBytes) s (replicate leastBuffer 0))
+first-bytes program.Sheet s = ap programOutput (first-bytes-verdict leastBuffer (readAnd sheetBytes) s (replicate leastBuffer 0))
+first-bytes program.Thin s = ap programOutput (first-bytes-verdict leastThinBuffer readAndThin s (replicate leastThinBuffer 0))

@@ -1,6 +1,6 @@
 // Program `sheet`: a job on standard input, its sheet on standard output.
-use stage::Operation;
+use run::Program;
 
 fn main() {
-    run::run(Operation::Sheet);
+    run::run(Program::Sheet);
 }

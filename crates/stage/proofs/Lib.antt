@@ -3,3 +3,4 @@ pub mod Putting
 pub mod Performing
 pub mod Accepting
 pub mod Numbers
+pub mod Thinned

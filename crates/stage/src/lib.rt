@@ -1,9 +1,10 @@
-// The two operations on a job's bytes: its answer and its sheet, written into an out buffer, or the
-// refusal.
+// The operations on a job's bytes: its answer, its sheet and its thin job, written into an out
+// buffer, or the refusal.
 ghost use mathlib.Core.Path.{_≡_};
 ghost use Prim.Native.Nat.{_≤_, _<_};
 ghost use lib.ListN.{length};
 ghost use Rattle.model.specs.Answer.{leastBuffer, answerOf, sheetOf, bufferAfter, numberReturned};
+ghost use Rattle.model.specs.Thin.{thinOf};
 ghost use Rattle.rows.specs.Rows.{Lent};
 ghost use Rattle.registry.specs.Words.{HoldsNone};
 ghost use Rattle.stage.specs.declared.Operation.the-variants.{Answer};
@@ -26,7 +27,7 @@ use job::ReadJob;
 use propagation::Propagated;
 use propagation::RoundsRun;
 
-// What is written of a job.
+// What is written of a job that is propagated.
 pub enum Operation {
     Answer,
     Sheet,
@@ -187,6 +188,26 @@ pub fn sheet(s: &[u8], out: &mut [u8]) -> Outcome
     perform(Operation::Sheet, s, out)
 }
 
+// The thin job of a job, in the out buffer, or the refusal. Nothing is propagated, so that 9 does
+// not arise.
+pub fn thin(s: &[u8], out: &mut [u8]) -> Outcome
+    ensures { λ r. ⌜ Meets (thinOf (now (s .entry)) (now (out .entry))) r (now (out .entry)) (now (out .exit)) ⌝ }
+{
+    if out.len() < 32768 {
+        return Outcome::Refused(Refusal::ShortBuffer);
+    }
+    if 32768 < s.len() {
+        return Outcome::Refused(Refusal::LongJob);
+    }
+    let mut ids = [0u32; 128];
+    let mut places = [0usize; 128];
+    let read = reader::read_job(s, &mut ids, &mut places);
+    match read {
+        ReadJob::Value(head) => Outcome::Written(thin_bytes::put_thin(s, head, out)),
+        ReadJob::Refused(refusal) => Outcome::Refused(refusal),
+    }
+}
+
 impl Outcome {
     // Document 01's number: the length, or minus the refusal's number.
     fn number(self) -> i64
@@ -217,5 +238,14 @@ pub extern "C" fn scope_deps_sheet(job: &[u8], out: &mut [u8]) -> i64
         (now (out .exit) ≡ bufferAfter (sheetOf (now (job .entry)) (now (out .entry))) (now (out .entry))) ⌝ }
 {
     let outcome = sheet(job, out);
+    outcome.number()
+}
+
+#[no_mangle]
+pub extern "C" fn scope_deps_thin(job: &[u8], out: &mut [u8]) -> i64
+    ensures { λ r. ⌜ (r ≡ numberReturned (thinOf (now (job .entry)) (now (out .entry)))) ×
+        (now (out .exit) ≡ bufferAfter (thinOf (now (job .entry)) (now (out .entry))) (now (out .entry))) ⌝ }
+{
+    let outcome = thin(job, out);
     outcome.number()
 }

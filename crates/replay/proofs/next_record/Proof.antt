@@ -1,4 +1,4 @@
--- The job that was read is lent twice.
+-- The job that was read is lent once for each operation.
 use borrow.Author.Needs.{needs}
 use Rattle.replay.proofs.Parts.{within, lent}
 use Rattle.replay.proofs.next_record.Statement.{statement}
@@ -24,6 +24,12 @@ slice-aggregate-compare-next-2 c =
     let call = told .before .before .before .before in
     lent (told .before .n .given .0 .0) (call .next-part .last .0) (array-share-prefix-job told)
 
+array-share-prefix-job-3 : tie.Need-array-share-prefix-job-3
+array-share-prefix-job-3 c = array-share-prefix-job-2 (c .before .before .before .before .before)
+
+slice-aggregate-compare-next-3 : tie.Need-slice-aggregate-compare-next-3
+slice-aggregate-compare-next-3 c = slice-aggregate-compare-next-2 (c .before .before .before .before .before)
+
 pub next-record-spec : {M : Type 1} → statement M
 next-record-spec =
     tie.close
@@ -46,6 +52,12 @@ next-record-spec =
     (λ c. search needs)
     array-share-prefix-job-2
     slice-aggregate-compare-next-2
+    (λ c κs. search needs)
+    (λ c. search needs)
+    (λ c. search needs)
+    (λ c. search needs)
+    array-share-prefix-job-3
+    slice-aggregate-compare-next-3
     (λ c κs. search needs)
     (λ c. search needs)
     (λ c. search needs)

@@ -25,7 +25,7 @@ slice-write-out-2 c =
     let call = c .before .before .before .before .before in
     let a = call .before .before .before .before .before in
     second (call .perform .last .1 .1 .0) _
-    (room (a .args .operation) (take (a .args .got) (now (a .args .space))) (now (a .args .out)) _ (a .pre .2) (call .perform .ensures)
+    (room (a .args .program) (take (a .args .got) (now (a .args .space))) (now (a .args .out)) _ (a .pre .2) (call .perform .ensures)
     (c .before .outcome2 .given .1))
 
 slice-write-out-3 : tie.Need-slice-write-out-3
@@ -34,14 +34,14 @@ slice-write-out-3 c =
     let call = told .before .before .before .before .before in
     let a = call .before .before .before .before .before in
     third (call .perform .last .1 .1 .0) _ _
-    (room (a .args .operation) (take (a .args .got) (now (a .args .space))) (now (a .args .out)) _ (a .pre .2) (call .perform .ensures)
+    (room (a .args .program) (take (a .args .got) (now (a .args .space))) (now (a .args .out)) _ (a .pre .2) (call .perform .ensures)
     (told .before .outcome2 .given .1))
 
 returns : tie.Need-returns
 returns c =
     let call = c .before .before .before .before .before in
     let a = call .before .before .before .before .before in
-    written (a .args .operation) (take (a .args .got) (now (a .args .space))) (now (a .args .out)) _ (a .pre .2) (call .perform .ensures)
+    written (a .args .program) (take (a .args .got) (now (a .args .space))) (now (a .args .out)) _ (a .pre .2) (call .perform .ensures)
     (c .before .outcome .given .1)
 
 returns-2 : tie.Need-returns-2
@@ -49,7 +49,7 @@ returns-2 c =
     let told = c .before in
     let call = told .before .before .before .before .before in
     let a = call .before .before .before .before .before in
-    refused (a .args .operation) (take (a .args .got) (now (a .args .space))) (now (a .args .out)) _ (a .pre .2) (call .perform .ensures)
+    refused (a .args .program) (take (a .args .got) (now (a .args .space))) (now (a .args .out)) _ (a .pre .2) (call .perform .ensures)
     (told .before .outcome2 .given .1) (c .number .ensures)
 
 pub respond-spec : {M : Type 1} → statement M

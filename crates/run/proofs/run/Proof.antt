@@ -7,7 +7,7 @@ use mathlib.Core.List.{List}
 use lib.ListN.{length, take, length-take}
 use lib.Seq.{length-take-le}
 use borrow.Author.Needs.{needs}
-use Rattle.stage.specs.declared.Operation.{Operation}
+use Rattle.run.specs.declared.Program.{Program}
 use Rattle.run.specs.Programs.{bytesRead, Responds, GivesToWrite}
 use Rattle.run.proofs.Responding.{within}
 use Rattle.run.proofs.run.Statement.{statement}
@@ -20,8 +20,8 @@ slice-aggregate-write-all : tie.Need-slice-aggregate-write-all
 slice-aggregate-write-all c = let r = c .before .before .respond in sym (length-take-le (r .result) _ (within (r .ensures)))
 
 -- The job is what was read.
-responded : {op : Operation} (got : ℕ) (space : List ℕ) {before after : List ℕ} {n : ℕ} → Responds op (take got space) before after n
-    → length space ≡ bytesRead → GivesToWrite op n
+responded : {p : Program} (got : ℕ) (space : List ℕ) {before after : List ℕ} {n : ℕ} → Responds p (take got space) before after n
+    → length space ≡ bytesRead → GivesToWrite p n
 responded got space r e =
     record { job = take got space; few = let size = length-take got space in omega arith; size = r .size }
 

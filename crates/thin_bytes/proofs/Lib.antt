@@ -1,0 +1,10 @@
+pub mod Comparing
+pub mod SamePaths
+pub mod Repeating
+pub mod Copied
+pub mod OnePath
+pub mod Thinning
+pub mod Recounting
+pub mod OneBlock
+pub mod Blocks
+pub mod WholeJob
