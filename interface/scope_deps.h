@@ -1,9 +1,9 @@
 /*
  * The scope-dependency stage, for callers in C and C++ on x86-64.
  *
- * Two operations take a job and an out buffer: the answer (the returned paths)
- * and the sheet (all nodes of paths, and each block's set of them). docs/FORMAT.md
- * has the bytes of all three.
+ * Three operations take a job and an out buffer: the answer (the returned paths),
+ * the sheet (all nodes of paths, and each block's set of them) and the thin job (the
+ * job without repeated paths). docs/FORMAT.md has the bytes of all of them.
  *
  * Link with libstage.a, which `bin/library` proves and writes to target/staticlib.
  */
@@ -17,15 +17,18 @@
 extern "C" {
 #endif
 
-/* An out buffer of fewer bytes is refused by 1. No answer and no sheet is longer. */
+/* For answer and sheet: an out buffer of fewer bytes is refused by 1, and none is longer. */
 #define SCOPE_DEPS_OUT_BYTES 24576
+
+/* The same for a thin job. */
+#define SCOPE_DEPS_THIN_OUT_BYTES 32768
 
 /* A job of more bytes is refused by 2. */
 #define SCOPE_DEPS_JOB_BYTES 32768
 
 /* The refusals, named as in the stage's own code. Each is returned as its negative. */
 enum scope_deps_refusal {
-  SCOPE_DEPS_SHORT_BUFFER = 1,  /* the out buffer has fewer than 24,576 bytes */
+  SCOPE_DEPS_SHORT_BUFFER = 1,  /* the out buffer has fewer than 24,576 bytes, or fewer than 32,768 where a thin job is to be written */
   SCOPE_DEPS_LONG_JOB = 2,      /* the job has more than 32,768 bytes */
   SCOPE_DEPS_MISSING_BYTE = 3,  /* a field needs a byte past the job's end */
   SCOPE_DEPS_WRONG_MARK = 4,    /* another mark stands where one is due */
@@ -56,6 +59,17 @@ int64_t scope_deps_answer(const uint8_t *job, size_t job_len, uint8_t *out, size
 
 /* Writes the sheet of `job`, on the same terms. It is refused where the answer is. */
 int64_t scope_deps_sheet(const uint8_t *job, size_t job_len, uint8_t *out, size_t out_len);
+
+/*
+ * Writes the thin job of `job`, on the same terms: the same job, but in each block, and among
+ * the candidates, without each path whose identifier and entries (optional marks counted, spans
+ * and reactive not) an earlier path of the same list has, which stays as it is. Its answer and
+ * its sheet are those of `job`, or it is refused by 9 as `job` is. The thin job of a thin job is
+ * that job.
+ *
+ * Refusal 1 is that of a buffer shorter than SCOPE_DEPS_THIN_OUT_BYTES, and 9 does not occur.
+ */
+int64_t scope_deps_thin(const uint8_t *job, size_t job_len, uint8_t *out, size_t out_len);
 
 #ifdef __cplusplus
 }

@@ -1,14 +1,17 @@
 //! The scope-dependency stage, for Rust on x86-64.
 //!
-//! `answer` and `sheet` take a job and an out buffer and give the number of bytes
-//! written, or the number of the refusal. `docs/FORMAT.md` has the bytes of jobs,
-//! answers and sheets.
+//! `answer`, `sheet` and `thin` take a job and an out buffer and give the number of
+//! bytes written, or the number of the refusal. `docs/FORMAT.md` has the bytes of jobs,
+//! answers, sheets and thin jobs.
 //!
 //! A package takes this file as a module (`#[path = "…/interface/scope_deps.rs"]`)
 //! and links `libstage.a`, which `bin/library` proves and writes to `target/staticlib`.
 
-/// An out buffer of fewer bytes is refused by 1. No answer and no sheet is longer.
+/// For answer and sheet: an out buffer of fewer bytes is refused by 1, and none is longer.
 pub const OUT_BYTES: usize = 24_576;
+
+/// The same for a thin job.
+pub const THIN_BYTES: usize = 32_768;
 
 /// A job of more bytes is refused by 2.
 pub const JOB_BYTES: usize = 32_768;
@@ -31,6 +34,13 @@ unsafe extern "C" {
     ///
     /// As for `scope_deps_answer`.
     pub fn scope_deps_sheet(job: *const u8, job_len: usize, out: *mut u8, out_len: usize) -> i64;
+
+    /// The same for the thin job, whose shortest buffer has `THIN_BYTES` bytes.
+    ///
+    /// # Safety
+    ///
+    /// As for `scope_deps_answer`.
+    pub fn scope_deps_thin(job: *const u8, job_len: usize, out: *mut u8, out_len: usize) -> i64;
 }
 
 /// Writes the answer of `job` to the start of `out`.
@@ -50,6 +60,18 @@ pub fn answer(job: &[u8], out: &mut [u8]) -> Result<usize, u8> {
 pub fn sheet(job: &[u8], out: &mut [u8]) -> Result<usize, u8> {
     // SAFETY: as in `answer`.
     outcome(unsafe { scope_deps_sheet(job.as_ptr(), job.len(), out.as_mut_ptr(), out.len()) })
+}
+
+/// Writes the thin job of `job` to the start of `out`, on the same terms: the same job,
+/// but in each block, and among the candidates, without each path whose identifier and
+/// entries (optional marks counted, spans not) an earlier path of the same list has.
+///
+/// Its answer and its sheet are those of `job`, or it is refused by 9 as `job` is. The
+/// thin job of a thin job is that job. Refusal 1 is that of a buffer of fewer than
+/// `THIN_BYTES` bytes, and 9 does not occur.
+pub fn thin(job: &[u8], out: &mut [u8]) -> Result<usize, u8> {
+    // SAFETY: as in `answer`.
+    outcome(unsafe { scope_deps_thin(job.as_ptr(), job.len(), out.as_mut_ptr(), out.len()) })
 }
 
 /// A length, or minus a refusal's number, as a result.

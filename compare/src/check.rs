@@ -5,26 +5,37 @@ use crate::list::Record;
 use crate::oracle::{Oracle, program_bytes};
 use crate::output::{Answer, Sheet, Written, read_answer, read_sheet};
 use crate::reader::{MANY_NODES, Refusal, read_job};
+use crate::thin;
 
-/// Compares each record with what the Rust says now.
+/// Compares each record with what the Rust says now, and its thin job with what the harness's
+/// writer makes by the Rust's equality of paths.
 pub fn with_rust(records: &[Record], oracle: &mut Oracle) -> Result<(), String> {
     for (number, record) in records.iter().enumerate() {
         let both = oracle.both(&record.job, record.out_len);
-        for (what, stored, said) in
-            [("answer", &record.answer, both.answer), ("sheet", &record.sheet, both.sheet)]
-        {
-            let computed = program_bytes(&said);
-            if *stored != computed {
-                let first = stored.iter().zip(&computed).take_while(|(a, b)| a == b).count();
-                let (length, new_length) = (stored.len(), computed.len());
-                return Err(format!(
-                    "record {number}: the stored {what} differs from the Rust's at byte {first} \
-                     (stored {length} bytes, computed {new_length})"
-                ));
-            }
+        let thin = oracle.thin(&record.job, record.out_len);
+        let parts = [
+            ("answer", &record.answer, both.answer),
+            ("sheet", &record.sheet, both.sheet),
+            ("thin job", &record.thin, thin),
+        ];
+        for (what, stored, said) in parts {
+            same_bytes(what, stored, &program_bytes(&said))
+                .map_err(|why| format!("record {number}: {why}"))?;
         }
     }
     Ok(())
+}
+
+fn same_bytes(what: &str, stored: &[u8], computed: &[u8]) -> Result<(), String> {
+    if stored == computed {
+        return Ok(());
+    }
+    let first = stored.iter().zip(computed).take_while(|(a, b)| a == b).count();
+    let (length, new_length) = (stored.len(), computed.len());
+    Err(format!(
+        "the stored {what} differs from the one computed now at byte {first} \
+         (stored {length} bytes, computed {new_length})"
+    ))
 }
 
 /// Checks what can be checked of each record without the Rust.
@@ -43,7 +54,7 @@ fn check_record(record: &Record) -> Result<(), String> {
     if let (Written::Record(answer), Written::Record(sheet)) = (&answer, &sheet) {
         check_together(record, answer, sheet)?;
     }
-    Ok(())
+    same_bytes("thin job", &record.thin, &program_bytes(&thin::thin(&record.job, record.out_len)))
 }
 
 fn refusal_of<T>(written: &Written<T>) -> Option<Refusal> {
@@ -82,4 +93,28 @@ fn check_together(record: &Record, answer: &Answer, sheet: &Sheet) -> Result<(),
         return Err("it would not fit into the smallest out buffer".into());
     }
     Ok(())
+}
+
+#[cfg(test)]
+mod tests {
+    use super::*;
+    use crate::notation::{block, job};
+
+    #[test]
+    fn a_thin_job_that_is_another_is_seen_without_the_rust() {
+        let refused = |number| vec![b'R', b'F', number];
+        let whole = job(7, vec![block(7, &[], "1, 1")], "").to_bytes();
+        let thin = job(7, vec![block(7, &[], "1")], "").to_bytes();
+        // Answer and sheet by the Rust are not known here, so the job is one that 9 could refuse.
+        let record = |out_len, thin: &[u8]| {
+            let (answer, sheet) = (refused(MANY_NODES), refused(MANY_NODES));
+            vec![Record { out_len, job: whole.clone(), answer, sheet, thin: thin.to_vec() }]
+        };
+        assert_eq!(without_rust(&record(limits::THIN_BYTES, &thin)), Ok(()));
+        assert_eq!(without_rust(&record(limits::OUT_BYTES, &refused(1))), Ok(()));
+        for (out_len, wrong) in [(limits::THIN_BYTES, &whole), (limits::OUT_BYTES, &thin)] {
+            let why = without_rust(&record(out_len, wrong)).unwrap_err();
+            assert!(why.starts_with("record 0: the stored thin job differs"), "{why}");
+        }
+    }
 }

@@ -1,19 +1,33 @@
 //! Jobs by name, each of which tells a definition from one that is nearly the same. They stand at
-//! the end of the stored list; tests/examples.rs says what the Rust gives for each. Those of walks
-//! and orders are, but for two, theorems of the same names in crates/model/specs/Examples.antt;
-//! docs/DIFFERENCES.md tells of the keys.
+//! the end of the stored list; tests/examples.rs says what the Rust gives for each, and
+//! tests/thin.rs what the thin job is. Those of walks and orders are, but for two, theorems of the
+//! same names in crates/model/specs/Examples.antt; docs/DIFFERENCES.md tells of the keys.
 
-use crate::job::Job;
+mod repeats;
+
+use crate::job::{Job, limits};
 use crate::notation::{block, job};
 
 pub struct Example {
     pub name: &'static str,
+    /// The length of the out buffer.
+    pub out_len: usize,
     pub job: Job,
 }
 
 /// All examples, in the order of the stored list.
 pub fn examples() -> Vec<Example> {
-    [walks(), orders(), keys()].into_iter().flatten().map(|(name, job)| Example { name, job }).collect()
+    let named = [walks(), orders(), keys(), repeats::of_paths(), repeats::at_limits()].into_iter().flatten();
+    let long_enough = named.map(|(name, job)| Example { name, out_len: limits::THIN_BYTES, job });
+    long_enough.chain(buffers()).collect()
+}
+
+/// Buffers on both sides of what an answer and a sheet need, and one that is too short for a thin
+/// job alone. All other examples have the shortest that a thin job needs.
+fn buffers() -> Vec<Example> {
+    let lengths = [("buffer-24575", 24_575), ("buffer-24576", 24_576), ("buffer-32767", 32_767)];
+    let repeating = || job(7, vec![block(7, &[], "1, 1")], "1.10, 1.10");
+    lengths.into_iter().map(|(name, out_len)| Example { name, out_len, job: repeating() }).collect()
 }
 
 /// The example of this name.

@@ -2,11 +2,15 @@
 
 /// The limits of the specification.
 pub mod limits {
+    /// The shortest out buffer of an answer or a sheet.
     pub const OUT_BYTES: usize = 24_576;
+    /// The shortest out buffer of a thin job. It is long enough for all operations.
+    pub const THIN_BYTES: usize = 32_768;
     pub const JOB_BYTES: usize = 32_768;
     pub const BLOCKS: usize = 128;
     pub const CANDIDATES: usize = 64;
     pub const PREDECESSORS: usize = 64;
+    pub const ASSUMED: usize = 255;
     pub const ENTRIES: usize = 16;
     pub const NODES: usize = 512;
     pub const ROUNDS: usize = 100;

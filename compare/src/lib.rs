@@ -28,4 +28,5 @@ pub mod reader;
 pub mod reference;
 pub mod rounds;
 pub mod store;
+pub mod thin;
 pub mod worst;

@@ -4,11 +4,12 @@
 #[path = "../../interface/scope_deps.rs"]
 pub mod interface;
 
-/// An implementation of the two operations with the results of the C interface:
+/// An implementation of the three operations with the results of the C interface:
 /// the length written, or minus the number of the refusal.
 pub trait Stage {
     fn answer(&mut self, job: &[u8], out: &mut [u8]) -> i64;
     fn sheet(&mut self, job: &[u8], out: &mut [u8]) -> i64;
+    fn thin(&mut self, job: &[u8], out: &mut [u8]) -> i64;
 }
 
 /// Why the library cannot be called, if it cannot.
@@ -35,6 +36,11 @@ impl Stage for Library {
         // SAFETY: as above.
         unsafe { interface::scope_deps_sheet(job.as_ptr(), job.len(), out.as_mut_ptr(), out.len()) }
     }
+
+    fn thin(&mut self, job: &[u8], out: &mut [u8]) -> i64 {
+        // SAFETY: as above.
+        unsafe { interface::scope_deps_thin(job.as_ptr(), job.len(), out.as_mut_ptr(), out.len()) }
+    }
 }
 
 #[cfg(not(library))]
@@ -44,6 +50,10 @@ impl Stage for Library {
     }
 
     fn sheet(&mut self, _: &[u8], _: &mut [u8]) -> i64 {
+        unreachable!("no library can be opened where there is none")
+    }
+
+    fn thin(&mut self, _: &[u8], _: &mut [u8]) -> i64 {
         unreachable!("no library can be opened where there is none")
     }
 }

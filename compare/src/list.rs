@@ -1,7 +1,7 @@
 //! Lists of jobs with what the programs write for them.
 //!
-//! A record is an out buffer's length, then job, answer and sheet, each with its
-//! length before it. All numbers are u32, lowest byte first.
+//! A record is an out buffer's length, then job, answer, sheet and thin job, each with
+//! its length before it. All numbers are u32, lowest byte first.
 
 use std::io::{self, Write};
 
@@ -13,16 +13,18 @@ pub struct Record {
     pub answer: Vec<u8>,
     /// As program `sheet` writes it.
     pub sheet: Vec<u8>,
+    /// As program `thin` writes it.
+    pub thin: Vec<u8>,
 }
 
 impl Record {
     pub fn size(&self) -> usize {
-        16 + self.job.len() + self.answer.len() + self.sheet.len()
+        20 + self.job.len() + self.answer.len() + self.sheet.len() + self.thin.len()
     }
 
     pub fn write(&self, out: &mut impl Write) -> io::Result<()> {
         out.write_all(&(self.out_len as u32).to_le_bytes())?;
-        for part in [&self.job, &self.answer, &self.sheet] {
+        for part in [&self.job, &self.answer, &self.sheet, &self.thin] {
             out.write_all(&(part.len() as u32).to_le_bytes())?;
             out.write_all(part)?;
         }
@@ -43,8 +45,9 @@ pub fn read_list(mut bytes: &[u8]) -> Result<Vec<Record>, String> {
 
 fn read_record(bytes: &mut &[u8]) -> Option<Record> {
     let out_len = read_number(bytes)?;
-    let [job, answer, sheet] = [read_part(bytes)?, read_part(bytes)?, read_part(bytes)?];
-    Some(Record { out_len, job, answer, sheet })
+    let [job, answer] = [read_part(bytes)?, read_part(bytes)?];
+    let [sheet, thin] = [read_part(bytes)?, read_part(bytes)?];
+    Some(Record { out_len, job, answer, sheet, thin })
 }
 
 fn read_part(bytes: &mut &[u8]) -> Option<Vec<u8>> {
@@ -66,8 +69,10 @@ mod tests {
 
     #[test]
     fn a_list_is_read_back_and_a_cut_one_is_not() {
-        let record =
-            |n: u8| Record { out_len: 24_576, job: vec![n; 3], answer: vec![b'R', b'F', n], sheet: vec![] };
+        let record = |n: u8| {
+            let (job, answer) = (vec![n; 3], vec![b'R', b'F', n]);
+            Record { out_len: 24_576, job, answer, sheet: vec![], thin: vec![n] }
+        };
         let records = [record(1), record(2)];
         let mut bytes = Vec::new();
         records.iter().for_each(|record| record.write(&mut bytes).unwrap());

@@ -1,19 +1,33 @@
 //! Jobs written shortly, for examples: `1?.10` is identifier 1 with optional name 10, and
-//! `1[0x8000000000000000]` is identifier 1 with the number of these bits, −0.
+//! `1[0x8000000000000000]` is identifier 1 with the number of these bits, −0. A span stands after
+//! `@`, as in `reactive 1@5.10@6`, which is reactive; none is 0.
 
 use crate::job::{Block, Entry, Job, Path, Property};
 
-/// A path without spans, not reactive. Panics where the text is none.
+/// The path that is written so. Panics where the text is none.
 pub fn path(text: &str) -> Path {
-    let digits = text.find(|c: char| !c.is_ascii_digit()).unwrap_or(text.len());
-    let (root, mut rest) = text.split_at(digits);
+    let bare = text.trim_start_matches("reactive ");
+    let (root, rest) = digits(bare);
+    let (span, mut rest) = span(rest);
     let mut entries = Vec::new();
     while !rest.is_empty() {
         let (entry, after) = entry(rest);
         entries.push(entry);
         rest = after;
     }
-    Path { identifier: root.parse().expect("an identifier"), reactive: false, span: 0, entries }
+    Path { identifier: root.parse().expect("an identifier"), reactive: bare != text, span, entries }
+}
+
+/// The digits at the text's start, and the text after them.
+fn digits(text: &str) -> (&str, &str) {
+    text.split_at(text.find(|c: char| !c.is_ascii_digit()).unwrap_or(text.len()))
+}
+
+/// The span at the text's start, and the text after it.
+fn span(text: &str) -> (u32, &str) {
+    let Some(after) = text.strip_prefix('@') else { return (0, text) };
+    let (number, rest) = digits(after);
+    (number.parse().expect("a span"), rest)
 }
 
 /// The entry at the text's start, and the text after it.
@@ -26,11 +40,12 @@ fn entry(text: &str) -> (Entry, &str) {
             (Property::Number(u64::from_str_radix(bits, 16).expect("64 bits")), rest)
         }
         None => {
-            let end = key.find(|c: char| !c.is_ascii_digit()).unwrap_or(key.len());
-            (Property::Name(key[..end].parse().expect("a name's number")), &key[end..])
+            let (name, rest) = digits(key);
+            (Property::Name(name.parse().expect("a name's number")), rest)
         }
     };
-    (Entry { optional, property, span: 0 }, rest)
+    let (span, rest) = span(rest);
+    (Entry { optional, property, span }, rest)
 }
 
 /// Paths with commas between them.
@@ -46,7 +61,7 @@ pub fn job(scope: u32, blocks: Vec<Block>, candidates: &str) -> Job {
     Job { scope, blocks, candidates: paths(candidates) }
 }
 
-/// A path as it is written above, without its spans.
+/// A path as it is written above, without its spans and without `reactive`.
 pub fn text(path: &Path) -> String {
     let entry = |entry: &Entry| match (entry.optional, entry.property) {
         (true, Property::Name(name)) => format!("?.{name}"),
@@ -69,5 +84,10 @@ mod tests {
         assert!(path("1?.10").entries[0].optional && !path("1.10").entries[0].optional);
         assert_eq!(path("1[0x5]").entries[0].property, Property::Number(5));
         assert_eq!(path("1.5").entries[0].property, Property::Name(5));
+        let (plain, spanned) = (path("1?.10[0x0]"), path("reactive 1@5?.10@6[0x0]@7"));
+        assert_eq!(text(&spanned), text(&plain));
+        let spans: Vec<u32> = spanned.entries.iter().map(|entry| entry.span).collect();
+        assert_eq!((spanned.reactive, spanned.span, &spans[..]), (true, 5, &[6, 7][..]));
+        assert_eq!((plain.reactive, plain.span, plain.entries[0].span), (false, 0, 0));
     }
 }

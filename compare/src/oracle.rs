@@ -60,6 +60,10 @@ impl Oracle {
     pub fn both(&mut self, _: &[u8], _: usize) -> Both {
         unreachable!("no oracle can be opened without the Rust source")
     }
+
+    pub fn thin(&mut self, _: &[u8], _: usize) -> Said {
+        unreachable!("no oracle can be opened without the Rust source")
+    }
 }
 
 #[cfg(reference)]
@@ -110,6 +114,13 @@ impl Oracle {
             Err(number) => Both { answer: Err(number), sheet: Err(number), counts },
         }
     }
+
+    /// The thin job by the harness's own writer, with the Rust's equality of paths.
+    pub fn thin(&mut self, bytes: &[u8], out_len: usize) -> Said {
+        let job = read_job_to_thin(bytes, out_len)?;
+        self.alloc.reset();
+        Ok(reference::thinned(&job, &self.alloc).to_bytes())
+    }
 }
 
 #[cfg(reference)]
@@ -118,6 +129,7 @@ use crate::{
     job::{Job, limits},
     reader::{MANY_NODES, read_job},
     reference::{self, Prepared, Propagated},
+    thin::read_job_to_thin,
 };
 
 #[cfg(reference)]

@@ -1,4 +1,4 @@
-//! The programs `answer` and `sheet`, run as processes of their own on one input after the other.
+//! The programs, run as processes of their own on one input after the other.
 
 use crate::generate::edges;
 use crate::job::limits;
@@ -6,6 +6,7 @@ use crate::list::Record;
 use crate::oracle::{Oracle, program_bytes};
 use crate::prng::Prng;
 use crate::reader::read_job;
+use crate::thin;
 use std::io::{ErrorKind, Write};
 use std::path::Path;
 use std::process::{Child, Command, Stdio};
@@ -14,48 +15,59 @@ use std::thread;
 /// Both sides of the longest job, and of what a program reads at most.
 pub const SIZES: [usize; 7] = [0, 1, 32_768, 32_769, 65_536, 65_537, 70_000];
 
-/// What is put on a program's standard input, and what `answer` and `sheet` are to write for it.
+/// The programs, by the names of their files.
+pub const PROGRAMS: [&str; 3] = ["answer", "sheet", "thin"];
+
+/// What is put on a program's standard input, and what each program is to write for it.
 pub struct Input {
     pub name: String,
     pub job: Vec<u8>,
-    /// `None` where only the Rust could say it, and is absent.
-    pub due: Option<[Vec<u8>; 2]>,
+    pub due: Due,
 }
+
+/// In the order of the programs; `None` where only the Rust could say it, and is absent.
+pub type Due = [Option<Vec<u8>>; PROGRAMS.len()];
 
 /// All inputs: the stored list, and those of the sizes.
 pub fn inputs(records: &[Record], mut oracle: Option<&mut Oracle>) -> Vec<Input> {
     let stored = records.iter().enumerate().map(|(number, record)| {
         let due = match &mut oracle {
-            Some(oracle) => Some(said_by(oracle, &record.job)),
-            None => known(&record.job).or_else(|| stored_due(record)),
+            Some(oracle) => said_by(oracle, &record.job),
+            None => known(&record.job, stored_due(record)),
         };
         Input { name: format!("stored job {number}"), job: record.job.clone(), due }
     });
     let mut inputs: Vec<Input> = stored.collect();
     for (name, job) in SIZES.into_iter().flat_map(of_size) {
         let due = match &mut oracle {
-            Some(oracle) => Some(said_by(oracle, &job)),
-            None => known(&job),
+            Some(oracle) => said_by(oracle, &job),
+            None => known(&job, [None, None]),
         };
         inputs.push(Input { name, job, due });
     }
     inputs
 }
 
-fn said_by(oracle: &mut Oracle, job: &[u8]) -> [Vec<u8>; 2] {
+fn said_by(oracle: &mut Oracle, job: &[u8]) -> Due {
     let both = oracle.both(job, limits::OUT_BYTES);
-    [program_bytes(&both.answer), program_bytes(&both.sheet)]
+    let thin = oracle.thin(job, limits::THIN_BYTES);
+    [both.answer, both.sheet, thin].map(|said| Some(program_bytes(&said)))
 }
 
-/// What is known without the Rust: the reader's refusal.
-fn known(job: &[u8]) -> Option<[Vec<u8>; 2]> {
-    let refusal = program_bytes(&Err(read_job(job, limits::OUT_BYTES).err()?));
-    Some([refusal.clone(), refusal])
+/// What is known without the Rust: the reader's refusal, else these answer and sheet; and the thin
+/// job.
+fn known(job: &[u8], stored: [Option<Vec<u8>>; 2]) -> Due {
+    let [answer, sheet] = match read_job(job, limits::OUT_BYTES) {
+        Err(refusal) => [Some(program_bytes(&Err(refusal))), Some(program_bytes(&Err(refusal)))],
+        Ok(_) => stored,
+    };
+    [answer, sheet, Some(program_bytes(&thin::thin(job, limits::THIN_BYTES)))]
 }
 
-/// What the list has, where the buffer was as long as a program's.
-fn stored_due(record: &Record) -> Option<[Vec<u8>; 2]> {
-    (record.out_len >= limits::OUT_BYTES).then(|| [record.answer.clone(), record.sheet.clone()])
+/// Answer and sheet of the list, where the buffer was as long as a program's.
+fn stored_due(record: &Record) -> [Option<Vec<u8>>; 2] {
+    let long_enough = record.out_len >= limits::OUT_BYTES;
+    [&record.answer, &record.sheet].map(|bytes| long_enough.then(|| bytes.clone()))
 }
 
 /// Inputs of exactly this many bytes, with their names: no job, a good one, and damaged ones.

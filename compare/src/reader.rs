@@ -18,9 +18,14 @@ pub const REPEATED_ID: Refusal = 7;
 pub const UNKNOWN_BLOCK: Refusal = 8;
 pub const MANY_NODES: Refusal = 9;
 
-/// The job in `bytes`, for an out buffer of `out_len` bytes.
+/// The job in `bytes`, for an answer or a sheet in an out buffer of `out_len` bytes.
 pub fn read_job(bytes: &[u8], out_len: usize) -> Result<Job, Refusal> {
-    if out_len < limits::OUT_BYTES {
+    read_job_for(bytes, out_len, limits::OUT_BYTES)
+}
+
+/// The job in `bytes`, for an operation whose shortest out buffer has `least` bytes.
+pub fn read_job_for(bytes: &[u8], out_len: usize, least: usize) -> Result<Job, Refusal> {
+    if out_len < least {
         return Err(SHORT_BUFFER);
     }
     if bytes.len() > limits::JOB_BYTES {

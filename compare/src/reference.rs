@@ -7,6 +7,7 @@ use crate::fx::{FxHashMap, FxIndexMap};
 use crate::hir::{BasicBlock, BlockId, HIR, HirFunction, Ident, IdentifierId, OrderedMap, Span};
 use crate::job::{Entry, Job, Path, Property, limits};
 use crate::rounds::{self, Rounds};
+use crate::thin;
 use std::collections::BTreeSet;
 use std::marker::PhantomData;
 
@@ -107,6 +108,14 @@ pub fn derive<'a>(
         tree.add_dependency(candidate);
     }
     tree.derive_minimal_dependencies(alloc)
+}
+
+/// The job without repeats, where the Rust's own equality says what a repeat is.
+pub fn thinned(job: &Job, alloc: &Allocator) -> Job {
+    thin::thinned(job, |paths| {
+        let dependencies: Vec<_> = paths.iter().map(|path| dependency(path, alloc)).collect();
+        thin::kept(&dependencies, |a, b| a.identifier == b.identifier && are_equal_paths(&a.path, &b.path))
+    })
 }
 
 fn dependency<'a>(path: &Path, alloc: &'a Allocator) -> ReactiveScopeDependency<'a> {

@@ -3,9 +3,8 @@
 use crate::cover::{Features, features, order_features};
 use crate::examples::{Example, examples};
 use crate::generate::{Generated, generate};
-use crate::job::limits;
 use crate::list::Record;
-use crate::oracle::{Both, Oracle, program_bytes};
+use crate::oracle::{Both, Oracle, Said, program_bytes};
 use crate::progress::Progress;
 use std::collections::HashMap;
 
@@ -33,6 +32,7 @@ fn quota(feature: &str) -> usize {
         "blocks 6",
         "blocks 12",
         "predecessors 6",
+        "thin: ",
     ];
     if one.iter().any(|part| feature.contains(part)) {
         1
@@ -49,16 +49,26 @@ pub struct Chosen {
     pub record: Record,
     class: &'static str,
     both: Both,
+    thin: Said,
     covers: Features,
 }
 
+impl Chosen {
+    /// The size of the record without its thin job, so that jobs whose thin job is refused are not
+    /// preferred.
+    fn size(&self) -> usize {
+        self.record.size() - self.record.thin.len()
+    }
+}
+
 /// The record of a generated job.
-pub fn record(generated: &Generated, both: &Both) -> Record {
+pub fn record(generated: &Generated, both: &Both, thin: &Said) -> Record {
     Record {
         out_len: generated.out_len,
         job: generated.job.clone(),
         answer: program_bytes(&both.answer),
         sheet: program_bytes(&both.sheet),
+        thin: program_bytes(thin),
     }
 }
 
@@ -71,17 +81,23 @@ pub fn choose(oracle: &mut Oracle) -> Vec<Chosen> {
 
 /// An example. It covers what its name says.
 fn named(example: &Example, oracle: &mut Oracle) -> Chosen {
-    let generated = Generated { class: "example", out_len: limits::OUT_BYTES, job: example.job.to_bytes() };
+    let generated = Generated { class: "example", out_len: example.out_len, job: example.job.to_bytes() };
+    chosen(&generated, oracle, |_| Features::from([example.name.to_string()]))
+}
+
+/// A job with what is said of it, and what it covers.
+fn chosen(generated: &Generated, oracle: &mut Oracle, covers: impl FnOnce(&Both) -> Features) -> Chosen {
     let both = oracle.both(&generated.job, generated.out_len);
-    let covers = Features::from([example.name.to_string()]);
-    Chosen { record: record(&generated, &both), class: generated.class, both, covers }
+    let thin = oracle.thin(&generated.job, generated.out_len);
+    let (record, covers) = (record(generated, &both, &thin), covers(&both));
+    Chosen { record, class: generated.class, both, thin, covers }
 }
 
 /// Tries jobs in order of size and keeps one that has a feature, or a pair of
 /// features, of which too few are kept.
 fn choose_generated(oracle: &mut Oracle) -> Vec<Chosen> {
     let mut tried = try_jobs(oracle);
-    tried.sort_by_key(|chosen| chosen.record.size());
+    tried.sort_by_key(Chosen::size);
     let mut chosen: Vec<Chosen> = Vec::new();
     let mut singles = Wanted::default();
     let mut rest = Vec::new();
@@ -106,10 +122,10 @@ fn try_jobs(oracle: &mut Oracle) -> Vec<Chosen> {
     for number in 0..TRIED {
         progress.show(number);
         let generated = generate(SEED, number as u64, None);
-        let both = oracle.both(&generated.job, generated.out_len);
-        let mut covers = features(generated.class, &generated.job, generated.out_len, &both);
-        order_features(&generated.job, generated.out_len, &both.sheet, oracle, &mut covers);
-        tried.push(Chosen { record: record(&generated, &both), class: generated.class, both, covers });
+        let (job, out_len) = (&generated.job, generated.out_len);
+        let mut tested = chosen(&generated, oracle, |both| features(generated.class, job, out_len, both));
+        order_features(job, out_len, &tested.both.sheet, oracle, &mut tested.covers);
+        tried.push(tested);
     }
     tried
 }
@@ -117,7 +133,7 @@ fn try_jobs(oracle: &mut Oracle) -> Vec<Chosen> {
 fn choose_pairs(rest: Vec<Chosen>, singles: &[Chosen]) -> Vec<Chosen> {
     let mut wanted = Wanted::default();
     singles.iter().for_each(|job| wanted.count(&pairs(&job.covers)));
-    let small = rest.into_iter().filter(|job| job.record.size() <= PAIR_BYTES);
+    let small = rest.into_iter().filter(|job| job.size() <= PAIR_BYTES);
     let mut new: Vec<(usize, Chosen)> =
         small.map(|job| (wanted.missing(&pairs(&job.covers)), job)).filter(|(gain, _)| *gain > 0).collect();
     // The most new pairs first; what was gained meanwhile is looked at again.
@@ -190,6 +206,10 @@ pub fn index_line(number: usize, chosen: &Chosen) -> String {
         (Err(number), _) => format!("refusal {number}"),
         (Ok(_), None) => unreachable!("an answer comes from a run"),
     };
+    let thin = match &chosen.thin {
+        Ok(thin) => format!("thin {} of {} bytes", thin.len(), chosen.record.job.len()),
+        Err(number) => format!("thin refusal {number}"),
+    };
     let told = ["class ", "refusal ", "rounds ", "settled ", "returned ", "nodes ", "block id 0"];
     let covers: Vec<&str> = chosen
         .covers
@@ -197,5 +217,5 @@ pub fn index_line(number: usize, chosen: &Chosen) -> String {
         .map(String::as_str)
         .filter(|feature| !told.iter().any(|word| feature.starts_with(word)))
         .collect();
-    format!("{number}\t{}\t{outcome}\t{}\n", chosen.class, covers.join("; "))
+    format!("{number}\t{}\t{outcome}\t{thin}\t{}\n", chosen.class, covers.join("; "))
 }

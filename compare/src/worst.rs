@@ -1,7 +1,7 @@
 //! Accepted jobs at the limits: the deepest visits, the fullest registry, the most
 //! candidates, the longest reductions and the most rounds.
 
-use crate::generate::ladder;
+use crate::generate::{edges, ladder};
 use crate::job::{Block, Entry, Job, Path, Property, limits};
 
 pub fn entry(name: u64, optional: bool) -> Entry {
@@ -134,6 +134,31 @@ pub fn dense(count: usize, predecessors: usize, ring: bool) -> Vec<Block> {
     (0..count as u32).map(|id| block(id, before(id), vec![])).collect()
 }
 
+/// One block with these paths.
+pub fn one_block(assumed: Vec<Path>) -> Job {
+    job(0, vec![block(0, vec![], assumed)], vec![])
+}
+
+/// As many paths as a block can hold, and as long as there is room for, that differ at the last
+/// entry: no repeat, and the most comparisons of entries until that is seen.
+pub fn most_comparisons() -> Job {
+    let length = (limits::JOB_BYTES / limits::ASSUMED - 12) / 14;
+    one_block(ballast(limits::ASSUMED, length))
+}
+
+/// A job of the most bytes, with the most nodes, whose thin job is itself: blocks that assume the
+/// same paths, and candidates of different identifiers.
+pub fn longest_without_repeats() -> Job {
+    let assumed = full_registry(limits::NODES);
+    let mut whole = job(0, (0..3).map(|id| block(id, vec![], assumed.clone())).collect(), vec![]);
+    let mut left = limits::JOB_BYTES - whole.to_bytes().len();
+    while let Some(length) = edges::fitting_entries(left) {
+        left -= 12 + 14 * length;
+        whole.candidates.push(path(whole.candidates.len() as u32, 10, length, true));
+    }
+    whole
+}
+
 fn job(scope: u32, blocks: Vec<Block>, candidates: Vec<Path>) -> Job {
     Job { scope, blocks, candidates }
 }
@@ -177,5 +202,7 @@ pub fn jobs() -> Vec<(String, Job)> {
     let mut full = rising_chain(limits::BLOCKS);
     full[last].assumed = [reducible_chain(1, 15), full_registry(limits::NODES - 31)].concat();
     jobs.push(("rising chain, 512 nodes, a reduction and 64 candidates", job(0, full, most())));
+    jobs.push(("255 paths that differ at the last entry", most_comparisons()));
+    jobs.push(("32,768 bytes without a repeat", longest_without_repeats()));
     jobs.into_iter().map(|(name, job)| (name.to_string(), job)).collect()
 }

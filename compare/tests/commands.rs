@@ -35,6 +35,7 @@ fn bad_words_get_a_message_and_a_hint() {
     misused(&[], "a command is missing");
     misused(&["bogus"], "`bogus` is no command");
     misused(&["answer", "more"], "`more` follows");
+    misused(&["thin", "more"], "`more` follows");
     misused(&["help", "bogus"], "no help on `bogus`");
     misused(&["bogus", "--help"], "no help on `bogus`");
     misused(&["help", "answer", "more"], "`more` follows");
@@ -86,7 +87,10 @@ fn help_is_there_for_every_command() {
     let commands = listed_commands(&all);
     assert_eq!(
         commands,
-        ["answer", "sheet", "check", "compare", "programs", "memory", "bench", "generate", "store", "help"]
+        [
+            "answer", "sheet", "thin", "check", "compare", "programs", "memory", "bench", "generate",
+            "store", "help"
+        ]
     );
     for command in commands.into_iter().filter(|command| *command != "help") {
         let own = text(&[command, "--help"]);
@@ -131,8 +135,8 @@ fn programs_that_write_something_else_are_named() {
     let folder = scratch("programs");
     fs::create_dir_all(&folder).unwrap();
     let refuses = |number: u8| format!("#!/bin/sh\ncat >/dev/null\nprintf 'RF\\00{number}'\n");
-    let said = |answer: &str, sheet: &str| {
-        for (name, text) in [("answer", answer), ("sheet", sheet)] {
+    let said = |answer: &str, sheet: &str, thin: &str| {
+        for (name, text) in [("answer", answer), ("sheet", sheet), ("thin", thin)] {
             fs::write(folder.join(name), text).unwrap();
             fs::set_permissions(folder.join(name), Permissions::from_mode(0o755)).unwrap();
         }
@@ -142,10 +146,26 @@ fn programs_that_write_something_else_are_named() {
     };
     // The first stored job is refused by 3.
     let first = "stored job 0: wrote 3 bytes, Some(04) at byte 2, due are 3 bytes, Some(03) at byte 2";
-    assert!(said(&refuses(4), &refuses(3)).contains(&format!("program answer, {first}")));
-    assert!(said(&refuses(3), &refuses(4)).contains(&format!("program sheet, {first}")));
-    assert!(said(&refuses(3), &refuses(3)).contains("program answer, stored job 1: "));
-    assert!(said("#!/bin/sh\nexit 7\n", "").contains("ended with exit status: 7"));
+    let (right, wrong) = (refuses(3), refuses(4));
+    assert!(said(&wrong, &right, &right).contains(&format!("program answer, {first}")));
+    assert!(said(&right, &wrong, &right).contains(&format!("program sheet, {first}")));
+    assert!(said(&right, &right, &wrong).contains(&format!("program thin, {first}")));
+    assert!(said(&right, &right, &right).contains("program answer, stored job 1: "));
+    assert!(said("#!/bin/sh\nexit 7\n", "", "").contains("ended with exit status: 7"));
+}
+
+#[test]
+fn a_thin_job_comes_as_bytes_with_or_without_the_rust() {
+    let job = common::hex(
+        "4844 0100 0000 00000000 / 424C 00000000 00 02 / 5041 01000000 01 00000000 00 /
+        5041 01000000 00 09000000 00",
+    );
+    let thin = common::hex("4844 0100 0000 00000000 / 424C 00000000 00 01 / 5041 01000000 01 00000000 00");
+    for job in [&job, &thin] {
+        assert_eq!(run(&["thin"], job).stdout, thin);
+    }
+    assert_eq!(run(&["thin"], b"").stdout, b"RF\x03");
+    assert_eq!(run(&["thin"], &[0; 100_000]).stdout, b"RF\x02");
 }
 
 #[test]

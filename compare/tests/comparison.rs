@@ -34,6 +34,11 @@ impl<F: FnMut(&mut [u8], &mut i64)> Stage for Spoiled<F> {
         let said = self.oracle.sheet(job, out.len());
         self.write(said, out)
     }
+
+    fn thin(&mut self, job: &[u8], out: &mut [u8]) -> i64 {
+        let said = self.oracle.thin(job, out.len());
+        self.write(said, out)
+    }
 }
 
 /// Runs `test` on a comparison with a stage that is spoiled so.
@@ -97,6 +102,14 @@ fn a_difference_in_one_operation_alone_is_named() {
     assert!(mismatch.what.contains(": sheet: byte 6 is"), "{}", mismatch.what);
     assert!(mismatch.what.starts_with("fixed job "));
     assert_eq!(&mismatch.job[..2], b"HD");
+    let thin_only = |out: &mut [u8], _: &mut i64| {
+        if out.starts_with(b"HD") {
+            out[6] ^= 1;
+        }
+    };
+    let mismatch = with_spoiled(thin_only, |c| fixed_jobs(c).err().unwrap());
+    assert!(mismatch.what.contains(": thin: byte 6 is"), "{}", mismatch.what);
+    assert!(mismatch.what.contains(", the harness says "), "{}", mismatch.what);
 }
 
 #[test]
@@ -132,6 +145,25 @@ fn the_fixed_list_has_both_sides_of_each_limit() {
     }
     assert!(sizes.contains(&(limits::JOB_BYTES, true)) && sizes.contains(&(limits::JOB_BYTES + 1, false)));
     assert!(sizes.contains(&(0, false)));
+}
+
+#[test]
+fn the_fixed_list_has_both_sides_of_each_limit_of_thin_jobs() {
+    let mut oracle = Oracle::open().unwrap();
+    let mut met = BTreeSet::new();
+    for fixed in fixed::list() {
+        let thin = oracle.thin(&fixed.job, fixed.out_len);
+        met.insert((fixed.out_len, thin.map_or_else(|number| -i64::from(number), |thin| thin.len() as i64)));
+    }
+    let refusals: BTreeSet<i64> = met.iter().map(|(_, said)| *said).filter(|said| *said < 0).collect();
+    assert!(refusals.into_iter().eq(-8..=-1));
+    let longest = limits::JOB_BYTES as i64;
+    for out_len in [24_575, 24_576, limits::THIN_BYTES - 1] {
+        assert!(met.iter().filter(|(length, _)| *length == out_len).all(|(_, said)| *said == -1));
+    }
+    for out_len in [limits::THIN_BYTES, limits::THIN_BYTES + 1] {
+        assert!(met.contains(&(out_len, longest)) && met.contains(&(out_len, -2)), "{out_len}");
+    }
 }
 
 #[test]

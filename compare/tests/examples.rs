@@ -172,7 +172,10 @@ fn named_examples() {
     for (name, sets, rounds, returned) in expected {
         assert_eq!(of_example(name), (sets.to_string(), rounds, returned.to_string()), "{name}");
     }
-    assert!(examples().iter().map(|example| example.name).eq(expected.map(|(name, ..)| name)));
+    // Those that follow are for thin jobs (tests/thin.rs).
+    let names: Vec<&str> = examples().iter().map(|example| example.name).collect();
+    assert!(names.iter().take(expected.len()).eq(expected.iter().map(|(name, ..)| name)));
+    assert_eq!(names[expected.len()], "repeats-in-block-and-candidates");
 }
 
 #[test]

@@ -17,8 +17,17 @@ fn a_seed_and_a_number_give_the_same_job() {
 
 #[test]
 fn jobs_without_faults_are_accepted_by_the_reader() {
-    let sound =
-        ["no-loops", "loops", "reduction", "tree", "numbers", "ladder", "nodes-entered", "nodes-reduced"];
+    let sound = [
+        "no-loops",
+        "loops",
+        "reduction",
+        "tree",
+        "numbers",
+        "ladder",
+        "nodes-entered",
+        "nodes-reduced",
+        "repeats",
+    ];
     for class in sound {
         for number in 0..300 {
             let generated = generate(1, number, Some(class));

@@ -1,4 +1,4 @@
-/* A caller in C: an answer, a sheet and two refusals, held to the bytes of document 01. */
+/* A caller in C: an answer, a sheet, a thin job and refusals, held to the bytes of document 01. */
 #include "../scope_deps.h"
 
 #include <stdio.h>
@@ -17,10 +17,21 @@ static const uint8_t answer[] = {
     'D', 'E', 1, 0, 0, 0, 1, 6, 0, 0, 0, 1, 0, 0, 10, 0, 0, 0, 0, 0, 0, 0, 6, 0, 0, 0,
 };
 
+/* The same job with the path 1 a second time, not reactive and with a span, and with the candidate
+   1.10 a second time, with other spans. */
+static const uint8_t repeating[] = {
+    'H', 'D', 1, 0, 2, 0, 7, 0, 0, 0,
+    'B', 'L', 7, 0, 0, 0, 0, 2,
+    'P', 'A', 1, 0, 0, 0, 1, 0, 0, 0, 0, 0,
+    'P', 'A', 1, 0, 0, 0, 0, 9, 0, 0, 0, 0,
+    'C', 'A', 1, 0, 0, 0, 1, 5, 0, 0, 0, 1, 0, 0, 10, 0, 0, 0, 0, 0, 0, 0, 6, 0, 0, 0,
+    'C', 'A', 1, 0, 0, 0, 1, 7, 0, 0, 0, 1, 0, 0, 10, 0, 0, 0, 0, 0, 0, 0, 8, 0, 0, 0,
+};
+
 /* A head of 8 bytes, a node of 23, and a set of 70 bytes in which node 0 is. */
 enum { SHEET_BYTES = 8 + 23 + 70, SHEET_SET = 8 + 23 + 6 };
 
-static uint8_t out[SCOPE_DEPS_OUT_BYTES];
+static uint8_t out[SCOPE_DEPS_THIN_OUT_BYTES];
 
 static int failures;
 
@@ -41,9 +52,22 @@ static int untouched_from(size_t start) {
   return 1;
 }
 
+static void thin_jobs(void) {
+  memset(out, 0xA5, sizeof out);
+  expect(scope_deps_thin(job, sizeof job, out, sizeof out - 1) == -SCOPE_DEPS_SHORT_BUFFER, "a buffer too short for a thin job is refused");
+  expect(scope_deps_thin(job, sizeof job - 1, out, sizeof out) == -SCOPE_DEPS_MISSING_BYTE, "a cut job has no thin job");
+  expect(untouched_from(0), "a refusal of thin leaves the buffer as it was");
+
+  expect(scope_deps_thin(repeating, sizeof repeating, out, sizeof out) == (int64_t)sizeof job, "the thin job has its length");
+  expect(memcmp(out, job, sizeof job) == 0, "the thin job is without the repeats");
+  expect(untouched_from(sizeof job), "bytes beyond the thin job are as they were");
+  expect(scope_deps_thin(job, sizeof job, out, sizeof out) == (int64_t)sizeof job, "a thin job stays as it is");
+  expect(memcmp(out, job, sizeof job) == 0, "with all its bytes");
+}
+
 int main(void) {
   memset(out, 0xA5, sizeof out);
-  expect(scope_deps_answer(job, sizeof job, out, sizeof out - 1) == -SCOPE_DEPS_SHORT_BUFFER, "a short buffer is refused");
+  expect(scope_deps_answer(job, sizeof job, out, SCOPE_DEPS_OUT_BYTES - 1) == -SCOPE_DEPS_SHORT_BUFFER, "a short buffer is refused");
   expect(scope_deps_sheet(job, sizeof job - 1, out, sizeof out) == -SCOPE_DEPS_MISSING_BYTE, "a cut job is refused");
   expect(untouched_from(0), "a refusal leaves the buffer as it was");
 
@@ -54,5 +78,6 @@ int main(void) {
   expect(scope_deps_sheet(job, sizeof job, out, sizeof out) == SHEET_BYTES, "the sheet has its length");
   expect(memcmp(out, "SH", 2) == 0 && out[SHEET_SET] == 1, "the block's set has the path");
   expect(untouched_from(SHEET_BYTES), "bytes beyond the sheet are as they were");
+  thin_jobs();
   return failures == 0 ? 0 : 1;
 }

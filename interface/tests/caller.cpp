@@ -1,4 +1,5 @@
-// A caller in C++: an answer of the library, and the refusals that a small job can get.
+// A caller in C++: an answer and a thin job of the library, and the refusals that a small job can
+// get.
 #include "../scope_deps.h"
 
 #include <cstdio>
@@ -13,18 +14,24 @@ struct Outcome {
   int refusal = 0;
 };
 
-Outcome answer(const std::vector<std::uint8_t> &job) {
+using Operation = std::int64_t (*)(const std::uint8_t *, std::size_t, std::uint8_t *, std::size_t);
+
+Outcome call(Operation operation, const std::vector<std::uint8_t> &job, std::size_t room) {
   // The library takes no null, and a vector without bytes may have no other pointer.
   static const std::uint8_t no_byte = 0;
   const std::uint8_t *start = job.empty() ? &no_byte : job.data();
-  std::vector<std::uint8_t> out(SCOPE_DEPS_OUT_BYTES);
-  const std::int64_t returned = scope_deps_answer(start, job.size(), out.data(), out.size());
+  std::vector<std::uint8_t> out(room);
+  const std::int64_t returned = operation(start, job.size(), out.data(), out.size());
   if (returned < 0) {
     return {{}, static_cast<int>(-returned)};
   }
   out.resize(static_cast<std::size_t>(returned));
   return {out, 0};
 }
+
+Outcome answer(const std::vector<std::uint8_t> &job) { return call(scope_deps_answer, job, SCOPE_DEPS_OUT_BYTES); }
+
+Outcome thin(const std::vector<std::uint8_t> &job) { return call(scope_deps_thin, job, SCOPE_DEPS_THIN_OUT_BYTES); }
 
 int failures = 0;
 
@@ -36,8 +43,9 @@ void expect(bool holds, const std::string &what) {
 }
 
 void expect_refusal(const std::vector<std::uint8_t> &job, scope_deps_refusal refusal, const std::string &what) {
-  const Outcome outcome = answer(job);
-  expect(outcome.bytes.empty() && outcome.refusal == refusal, what);
+  for (const Outcome &outcome : {answer(job), thin(job)}) {
+    expect(outcome.bytes.empty() && outcome.refusal == refusal, what);
+  }
 }
 
 }  // namespace
@@ -48,6 +56,10 @@ int main() {
   const std::vector<std::uint8_t> due = {'A', 'N', 0, 0, 1, 1};
   const Outcome outcome = answer(job);
   expect(outcome.refusal == 0 && outcome.bytes == due, "a job without candidates has an empty answer");
+
+  const Outcome thinned = thin(job);
+  expect(thinned.refusal == 0 && thinned.bytes == job, "a job without repeats is its own thin job");
+  expect(call(scope_deps_thin, job, SCOPE_DEPS_OUT_BYTES).refusal == SCOPE_DEPS_SHORT_BUFFER, "a thin job needs more room");
 
   const auto changed = [&job](std::size_t place, std::uint8_t byte) {
     std::vector<std::uint8_t> other = job;

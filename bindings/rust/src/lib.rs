@@ -26,14 +26,15 @@
 //! # Ok::<(), Box<dyn std::error::Error>>(())
 //! ```
 //!
-//! The stage itself is the proved library behind the C interface; no answer and no sheet comes from
-//! anywhere else. Jobs, answers and sheets can be read and written as text (`docs/NOTATION.md`).
+//! The stage itself is the proved library behind the C interface; no answer, no sheet and no thin
+//! job ([`Job::thin`], the same job without repeated paths) comes from anywhere else. Jobs, answers
+//! and sheets are written as text too, and jobs are read from it (`docs/NOTATION.md`).
 //! [`explain`](mod@explain) says why each path is returned as it is, from a [`replay`] of the
 //! propagation, and [`draw`](mod@draw) makes a picture.
 //!
 //! Three features are on by default. `library` links the library; without it there are no `answer`,
-//! `sheet`, `Stage` and `raw`, and jobs are built, read and written. `explain` and `draw` are the
-//! modules of these names, and `replay` belongs to `explain`.
+//! `sheet`, `Job::thin`, `Stage` and `raw`, and jobs are built, read and written. `explain` and
+//! `draw` are the modules of these names, and `replay` belongs to `explain`.
 
 #![deny(missing_docs)]
 #![deny(unsafe_code)]

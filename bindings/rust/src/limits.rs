@@ -2,8 +2,10 @@
 
 /// The most bytes of a job.
 pub const JOB_BYTES: usize = 32_768;
-/// The fewest bytes of an out buffer. No answer and no sheet is longer.
+/// The fewest bytes of an out buffer for answer and sheet. None is longer.
 pub const OUT_BYTES: usize = 24_576;
+/// The fewest bytes of an out buffer for a thin job. None is longer.
+pub const THIN_BYTES: usize = 32_768;
 /// The most blocks of a job, which has at least one.
 pub const BLOCKS: usize = 128;
 /// The most candidates of a job.
@@ -21,4 +23,5 @@ pub const NODES: usize = 512;
 const _: () = {
     assert!(JOB_BYTES == crate::interface::JOB_BYTES);
     assert!(OUT_BYTES == crate::interface::OUT_BYTES);
+    assert!(THIN_BYTES == crate::interface::THIN_BYTES);
 };

@@ -1,4 +1,4 @@
-//! The two operations on bytes, for those who have bytes.
+//! The three operations on bytes, for those who have bytes.
 //!
 //! Any bytes are allowed. A refusal of 3 to 8 says where in the job it was met.
 
@@ -23,7 +23,7 @@ use crate::refusal::Refusal;
 /// );
 /// ```
 pub fn answer(job: &[u8]) -> Result<Vec<u8>, Refusal> {
-    written(|out| answer_into(job, out))
+    written(limits::OUT_BYTES, |out| answer_into(job, out))
 }
 
 /// The sheet's bytes for a job's bytes.
@@ -32,7 +32,27 @@ pub fn answer(job: &[u8]) -> Result<Vec<u8>, Refusal> {
 ///
 /// As for [`answer`].
 pub fn sheet(job: &[u8]) -> Result<Vec<u8>, Refusal> {
-    written(|out| sheet_into(job, out))
+    written(limits::OUT_BYTES, |out| sheet_into(job, out))
+}
+
+/// The bytes of the thin job for a job's bytes: the same job without repeated paths, as
+/// [`Job::thin`](crate::Job::thin) has it.
+///
+/// # Errors
+///
+/// The refusal from 2 to 8 that the stage gives these bytes. 9 does not occur.
+///
+/// ```
+/// use scope_deps::{raw, Job};
+///
+/// let job: Job = "scope 7 block 7 assumes 1, 1@9 candidate 1.10".parse()?;
+/// let thin: Job = "scope 7 block 7 assumes 1 candidate 1.10".parse()?;
+/// assert_eq!(raw::thin(job.as_bytes())?, thin.as_bytes());
+/// assert_eq!(raw::answer(job.as_bytes())?, raw::answer(thin.as_bytes())?);
+/// # Ok::<(), Box<dyn std::error::Error>>(())
+/// ```
+pub fn thin(job: &[u8]) -> Result<Vec<u8>, Refusal> {
+    written(limits::THIN_BYTES, |out| thin_into(job, out))
 }
 
 /// Writes the answer to the start of `out` and gives its length. Bytes beyond it stay as they were;
@@ -57,8 +77,19 @@ pub fn sheet_into(job: &[u8], out: &mut [u8]) -> Result<usize, Refusal> {
     interface::sheet(job, out).map_err(|number| refusal(number, job))
 }
 
-fn written(write: impl Fn(&mut [u8]) -> Result<usize, Refusal>) -> Result<Vec<u8>, Refusal> {
-    let mut out = vec![0; limits::OUT_BYTES];
+/// Writes the thin job to the start of `out`, on the same terms.
+///
+/// # Errors
+///
+/// The refusal from 1 to 8 that the stage gives these bytes. A buffer of fewer than
+/// [`limits::THIN_BYTES`] bytes is refused by 1.
+pub fn thin_into(job: &[u8], out: &mut [u8]) -> Result<usize, Refusal> {
+    interface::thin(job, out).map_err(|number| refusal(number, job))
+}
+
+/// What is written to a buffer of this length.
+fn written(room: usize, write: impl Fn(&mut [u8]) -> Result<usize, Refusal>) -> Result<Vec<u8>, Refusal> {
+    let mut out = vec![0; room];
     let length = write(&mut out)?;
     out.truncate(length);
     Ok(out)

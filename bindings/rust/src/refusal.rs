@@ -20,7 +20,8 @@ use std::fmt;
 /// ```
 #[derive(Clone, Copy, Debug, PartialEq, Eq, Hash)]
 pub enum Refusal {
-    /// 1: the out buffer has fewer than 24,576 bytes.
+    /// 1: the out buffer has fewer than 24,576 bytes, or fewer than 32,768 where a thin job is to
+    /// be written.
     ShortBuffer,
     /// 2: the job has more than 32,768 bytes.
     LongJob,
@@ -108,7 +109,9 @@ impl Refusal {
     #[must_use]
     pub fn meaning(&self) -> &'static str {
         match self {
-            Self::ShortBuffer => "the out buffer has fewer than 24,576 bytes",
+            Self::ShortBuffer => {
+                "the out buffer has fewer than 24,576 bytes, or fewer than 32,768 where a thin job is to be written"
+            }
             Self::LongJob => "the job has more than 32,768 bytes",
             Self::MissingByte(_) => "a field needs a byte past the job's end",
             Self::WrongMark(_) => "another mark stands where one is due",
@@ -133,7 +136,8 @@ impl fmt::Display for Refusal {
 
 impl std::error::Error for Refusal {}
 
-/// Refusal 9, the only one that a [`Job`](crate::Job) can meet.
+/// Refusal 9, the only one that a [`Job`](crate::Job) can meet: from its answer or its sheet, and
+/// never where it is thinned.
 #[derive(Clone, Copy, Debug, PartialEq, Eq, Hash)]
 pub struct ManyNodes;
 

@@ -13,7 +13,8 @@ use std::fmt;
 /// The stage, for one job after the other.
 ///
 /// Its buffers are allocated once, when it is made. A job has its bytes already, and the answer or
-/// the sheet is read into what the one before has left. So no call allocates.
+/// the sheet is read into what the one before has left. A thin job comes as bytes. So no call
+/// allocates.
 ///
 /// ```
 /// use scope_deps::{Job, Stage};
@@ -34,11 +35,12 @@ pub struct Stage {
 }
 
 impl Stage {
-    /// A stage with room for any answer and any sheet.
+    /// A stage with room for any answer, any sheet and any thin job.
     #[must_use]
     pub fn new() -> Self {
         let (answer, spare) = Answer::roomy();
-        Self { out: vec![0; limits::OUT_BYTES], answer, spare, sheet: Sheet::roomy() }
+        let room = limits::OUT_BYTES.max(limits::THIN_BYTES);
+        Self { out: vec![0; room], answer, spare, sheet: Sheet::roomy() }
     }
 
     /// The answer of a job, until the next call.
@@ -73,6 +75,26 @@ impl Stage {
         Ok(&self.sheet)
     }
 
+    /// The bytes of a job's thin job, until the next call: what [`Job::thin`] has, without a job
+    /// made of them.
+    ///
+    /// # Panics
+    ///
+    /// Where the library that is linked is another than the stage's.
+    ///
+    /// ```
+    /// use scope_deps::{Job, Stage};
+    ///
+    /// let job: Job = "scope 7 block 7 assumes 1, 2, 1".parse()?;
+    /// let thin = "scope 7 block 7 assumes 1, 2".parse::<Job>()?;
+    /// assert_eq!(Stage::new().thin(&job), thin.as_bytes());
+    /// # Ok::<(), Box<dyn std::error::Error>>(())
+    /// ```
+    pub fn thin(&mut self, job: &Job) -> &[u8] {
+        let written = never_refused(interface::thin(job.as_bytes(), &mut self.out));
+        &self.out[..written]
+    }
+
     /// The answer's bytes for a job's bytes, until the next call.
     ///
     /// # Errors
@@ -91,6 +113,16 @@ impl Stage {
     /// As for [`answer_bytes`](Self::answer_bytes).
     pub fn sheet_bytes(&mut self, job: &[u8]) -> Result<&[u8], Refusal> {
         let written = raw::sheet_into(job, &mut self.out)?;
+        Ok(&self.out[..written])
+    }
+
+    /// The thin job's bytes for a job's bytes, until the next call.
+    ///
+    /// # Errors
+    ///
+    /// As for [`answer_bytes`](Self::answer_bytes), but for 9, which does not occur.
+    pub fn thin_bytes(&mut self, job: &[u8]) -> Result<&[u8], Refusal> {
+        let written = raw::thin_into(job, &mut self.out)?;
         Ok(&self.out[..written])
     }
 }
@@ -114,6 +146,51 @@ fn only_many_nodes(returned: Result<usize, u8>) -> Result<usize, ManyNodes> {
         assert_eq!(number, ManyNodes::NUMBER, "the stage refuses a job that was built by 9 only");
         ManyNodes
     })
+}
+
+/// What the stage returned for the thin job of a job that was built: a length.
+fn never_refused(returned: Result<usize, u8>) -> usize {
+    returned.unwrap_or_else(|number| panic!("the stage has a thin job of each job, but refused by {number}"))
+}
+
+impl Job {
+    /// The job without repeats: in each block, and among the candidates, a path is dropped where an
+    /// earlier one of the same list has the same variable and the same entries. Optional marks
+    /// count; spans and whether a path is reactive do not, and the first keeps its own.
+    ///
+    /// The thin job has the answer and the sheet of this one, or is refused by 9 as this one is,
+    /// and its thin job is itself. Names are kept. For many jobs, [`Stage::thin`] gives its bytes
+    /// without allocating.
+    ///
+    /// # Panics
+    ///
+    /// Where the library that is linked is another than the stage's.
+    ///
+    /// ```
+    /// use scope_deps::{answer, Job};
+    ///
+    /// let job: Job = "
+    ///     name 1 athlete
+    ///     scope 7
+    ///     block 7 assumes reactive athlete@3, athlete?.10, athlete@8
+    ///     candidate athlete.10@5, athlete.11, athlete.10@9".parse()?;
+    /// let thin = job.thin();
+    /// assert_eq!(
+    ///     thin.to_string(),
+    ///     "name 1 athlete\nscope 7\nblock 7\n  assumes reactive athlete@3\n  assumes athlete?.10\n\
+    ///      candidate athlete.10@5\ncandidate athlete.11\n"
+    /// );
+    /// assert_eq!(answer(&thin)?, answer(&job)?);
+    /// assert_eq!(thin.thin(), thin);
+    /// # Ok::<(), Box<dyn std::error::Error>>(())
+    /// ```
+    #[must_use]
+    pub fn thin(&self) -> Job {
+        let mut out = vec![0; limits::THIN_BYTES];
+        let written = never_refused(interface::thin(self.as_bytes(), &mut out));
+        let thin = Job::from_bytes(&out[..written]).expect("the stage writes jobs of its format");
+        thin.named(self.names().clone())
+    }
 }
 
 /// The answer of a job.

@@ -60,6 +60,7 @@ fn no_call_allocates() {
     for job in &all {
         paths = paths.max(stage.answer(job).map_or(0, |answer| answer.paths().len()));
         nodes = nodes.max(stage.sheet(job).map_or(0, |sheet| sheet.nodes().len()));
+        assert!(stage.thin(job).len() <= job.as_bytes().len());
     }
     assert_eq!(asked(), before);
     assert_eq!((paths, nodes), (limits::CANDIDATES, limits::NODES));

@@ -144,6 +144,15 @@ pub fn classes(seed: u64, count: usize, mut accepted: impl FnMut(&[u8]) -> bool)
     ]
 }
 
+/// Jobs for the timing of thin jobs alone: with many repeats, and with the most comparisons.
+pub fn thin_classes(seed: u64, count: usize) -> Vec<Class> {
+    let repeats = (0..count as u64).map(|number| generate(seed, number, Some("repeats")).job).collect();
+    vec![
+        Class { name: "many repeats", jobs: repeats },
+        Class { name: "most comparisons", jobs: vec![worst::most_comparisons().to_bytes()] },
+    ]
+}
+
 /// Further jobs for the plot, of the generator's classes and of all sizes.
 pub fn spread(seed: u64, count: usize, mut accepted: impl FnMut(&[u8]) -> bool) -> Vec<Vec<u8>> {
     let sizes = (0..count / 8).map(|n| edges::of_size(200 + n * 32_000 * 8 / count, || n as u32));

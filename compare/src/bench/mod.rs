@@ -2,6 +2,7 @@
 
 pub mod classes;
 pub mod plot;
+pub mod thin;
 
 use crate::arena::Allocator;
 use crate::job::limits;

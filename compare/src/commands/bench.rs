@@ -22,7 +22,8 @@ mod timing {
     use crate::commands::failure::{Failure, failed};
     use crate::commands::options::{Options, SEED};
     use crate::commands::output::say;
-    use compare::bench::classes::{classes, slow_jobs, spread};
+    use compare::bench::classes::{Class, classes, slow_jobs, spread, thin_classes};
+    use compare::bench::thin::ThinTimer;
     use compare::bench::{Timer, Times, geometric_mean, plot};
     use compare::job::limits;
     use compare::oracle::Oracle;
@@ -40,20 +41,12 @@ mod timing {
         let mut oracle = Oracle::open().map_err(failed)?;
         let mut accepted = |job: &[u8]| oracle.answer(job, limits::OUT_BYTES).is_ok();
         let seed = options.seed.unwrap_or(SEED);
-        let mut timer = Timer::new(options.repeat.unwrap_or(REPEAT));
-        say!(
-            "{:<22} {:>9} {:>10} {:>10} {:>11} {:>10} {:>7} {:>7}",
-            "microseconds per job",
-            "bytes",
-            "library",
-            "(reading)",
-            "Rust stage",
-            "Rust all",
-            "stage",
-            "all"
-        )?;
+        let repeat = options.repeat.unwrap_or(REPEAT);
+        let mut timer = Timer::new(repeat);
+        head()?;
         let (mut ratios, mut all) = (Vec::new(), Vec::new());
-        for class in classes(seed, EACH, &mut accepted) {
+        let classes = classes(seed, EACH, &mut accepted);
+        for class in &classes {
             let timed = time_jobs(&mut timer, class.name, &class.jobs);
             ratios.push(row(class.name, &timed)?);
             all.extend(timed);
@@ -65,6 +58,8 @@ mod timing {
         let mean = |of: fn(&[f64; 2]) -> f64| geometric_mean(ratios.iter().map(of));
         say!("{:<76} {:>7.1} {:>7.1}", "geometric mean of the classes", mean(|r| r[0]), mean(|r| r[1]))?;
         say!("the slowest of {tried} accepted jobs at the limits: {name}")?;
+        let for_thin: Vec<Class> = classes.into_iter().chain(thin_classes(seed, EACH)).collect();
+        thin_rows(ThinTimer::new(Oracle::open().map_err(failed)?, repeat), &for_thin)?;
         if let Some(file) = &options.plot {
             all.extend(time_jobs(
                 &mut timer,
@@ -74,6 +69,32 @@ mod timing {
             fs::write(file, plot::svg(&all))
                 .map_err(|why| failed(format!("{file} cannot be written: {why}")))?;
             say!("the plot of {} jobs is in {file}", all.len())?;
+        }
+        Ok(())
+    }
+
+    fn head() -> Result<(), Failure> {
+        say!(
+            "{:<22} {:>9} {:>10} {:>10} {:>11} {:>10} {:>7} {:>7}",
+            "microseconds per job",
+            "bytes",
+            "library",
+            "(reading)",
+            "Rust stage",
+            "Rust all",
+            "stage",
+            "all"
+        )
+    }
+
+    /// Prints the mean times of thin jobs. The Rust makes none: the harness's writer is beside.
+    fn thin_rows(mut timer: ThinTimer, classes: &[Class]) -> Result<(), Failure> {
+        say!("{:<22} {:>9} {:>10} {:>18}", "thin, microseconds", "bytes", "library", "harness's writer")?;
+        for Class { name, jobs } in classes {
+            let bytes = jobs.iter().map(Vec::len).sum::<usize>() / jobs.len();
+            let times = timer.mean(jobs);
+            let [library, harness] = [times.library, times.harness].map(|time| time / 1000.0);
+            say!("{name:<22} {bytes:>9} {library:>10.2} {harness:>18.2}")?;
         }
         Ok(())
     }

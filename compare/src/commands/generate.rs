@@ -85,7 +85,8 @@ fn generate_records(
         }
         passed_over = 0;
         let both = oracle.both(&generated.job, generated.out_len);
-        write(&store::record(&generated, &both))?;
+        let thin = oracle.thin(&generated.job, generated.out_len);
+        write(&store::record(&generated, &both, &thin))?;
         done += 1;
         progress.show(done);
     }

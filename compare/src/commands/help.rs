@@ -11,9 +11,10 @@ usage: compare/oracle COMMAND [OPTIONS]
 
   answer     a job on standard input -> what the Rust answers
   sheet      a job on standard input -> its sheet by the Rust
+  thin       a job on standard input -> the job without repeated paths
   check      the stored list beside the Rust
   compare    the stage's library beside the Rust, on fixed and on generated jobs
-  programs   the programs `answer` and `sheet` beside the Rust
+  programs   the programs `answer`, `sheet` and `thin` beside the Rust
   memory     the working memory of the stage's library
   bench      the time that the library and the Rust take
   generate   generated jobs, with what the Rust says of them
@@ -47,11 +48,22 @@ RF and the number of the refusal. docs/FORMAT.md has the bytes.
   $ bin/scope-deps encode examples/diamond.job | compare/oracle sheet | xxd
 ";
 
+const THIN: &str = "\
+usage: compare/oracle thin < JOB
+
+Writes the thin job of the job on standard input, as program `thin` does: the job's bytes without repeated
+paths, or RF and the number of the refusal. The Rust has no such writer, so this is the harness's own; which
+paths are the same is for the Rust to say (`are_equal_paths`), or where it is absent for the harness too.
+
+  $ bin/scope-deps encode examples/diamond.job | compare/oracle thin | xxd
+";
+
 const CHECK: &str = "\
 usage: compare/oracle check
 
 Compares each record of compare/stored/jobs.bin with what the Rust says now. Where the Rust is absent, the
-records are read, and their refusals compared with those of the harness's reader.
+records are read, and their refusals compared with those of the harness's reader. Thin jobs are compared
+with those of the harness's writer.
 ";
 
 const STORE: &str = "\
@@ -65,8 +77,8 @@ const GENERATE: &str = "\
 usage: compare/oracle generate [--seed S] [--count N] [--first F] [--class C] [--max-bytes B] [--out FILE]
        compare/oracle generate --job N [--seed S] [--class C] [--out FILE]
 
-The first form writes a list of jobs, each with its answer and its sheet by the Rust, in the format of
-compare/stored. The second writes the bytes of one job: job N is the one that `compare` calls by this number.
+The first form writes a list of jobs, each with its answer and its sheet by the Rust and its thin job, in
+the format of compare/stored. The second writes the bytes of one job: job N is the one that `compare` calls by this number.
 
   --seed S        another seed gives other jobs; 20261115 where it is missing
   --count N       how many jobs; 100 where it is missing
@@ -83,7 +95,8 @@ const COMPARE: &str = "\
 usage: compare/oracle compare [--seed S] [--count N] [--seconds T] [--class C] [--first F]
 
 Compares the stage's library with the Rust, byte for byte, on a fixed list of jobs and then on generated
-ones. At a difference it says which job, keeps it in a file in the current directory and exits with 1.
+ones: answers, sheets and thin jobs. A thin job must have the answer and the sheet of its job, in the library
+and in the Rust, and be its own thin job. At a difference it says which job, keeps it in a file in the current directory and exits with 1.
 
   --seed S      another seed gives other jobs; 20261115 where it is missing
   --count N     how many generated jobs; 20000 where it and --seconds are missing
@@ -95,8 +108,9 @@ ones. At a difference it says which job, keeps it in a file in the current direc
 const PROGRAMS: &str = "\
 usage: compare/oracle programs [--bin DIR]
 
-Runs the programs `answer` and `sheet` on every stored job, and on inputs of 0, 1, 32,768, 32,769, 65,536,
-65,537 and 70,000 bytes. What they write must be what the Rust says, refusals as RF and the number included.
+Runs the programs `answer`, `sheet` and `thin` on every stored job, and on inputs of 0, 1, 32,768, 32,769,
+65,536, 65,537 and 70,000 bytes. What they write must be what the Rust says, of `thin` what the harness says,
+refusals as RF and the number included.
 
   --bin DIR   the programs are there, and not in target/bin
 ";
@@ -111,16 +125,18 @@ the library's symbols to show that it has no other memory. More than 65,536 byte
 const BENCH: &str = "\
 usage: compare/oracle bench [--seed S] [--repeat R] [--plot FILE]
 
-Times the stage's library and the Rust on the same jobs. docs/PERFORMANCE.md says what is counted.
+Times the stage's library and the Rust on the same jobs. docs/PERFORMANCE.md says what is counted. For thin
+jobs, which the Rust does not make, the harness's own writer stands in its place.
 
   --seed S      another seed gives other jobs; 20261115 where it is missing
   --repeat R    how often each job is timed, the least counting; 15 where it is missing
   --plot FILE   draw the times into this file, as SVG
 ";
 
-const TOPICS: [(&str, &str); 9] = [
+const TOPICS: [(&str, &str); 10] = [
     ("answer", ANSWER),
     ("sheet", SHEET),
+    ("thin", THIN),
     ("check", CHECK),
     ("compare", COMPARE),
     ("programs", PROGRAMS),

@@ -20,7 +20,7 @@ mod measured {
     use crate::commands::output::say;
     use compare::generate::{class_names, generate};
     use compare::job::limits;
-    use compare::library::interface::{scope_deps_answer, scope_deps_sheet};
+    use compare::library::interface::{scope_deps_answer, scope_deps_sheet, scope_deps_thin};
     use compare::memory::{MOST_BYTES, Stacks};
     use compare::worst;
     use std::env;
@@ -32,9 +32,9 @@ mod measured {
 
     pub fn run() -> Result<(), Failure> {
         let mut stacks = Stacks::default();
-        let mut most = [0; 2];
+        let mut most = [0; 3];
         say!("bytes of stack below the call, all that it calls included (at most {MOST_BYTES} allowed)")?;
-        say!("{:>8} {:>8}  job", "answer", "sheet")?;
+        say!("{:>8} {:>8} {:>8}  job", "answer", "sheet", "thin")?;
         for (name, job) in worst::jobs() {
             let taken = measure(&mut stacks, &job.to_bytes());
             show(taken, &name)?;
@@ -42,13 +42,13 @@ mod measured {
         }
         for class in class_names() {
             let jobs = (0..EACH).map(|number| generate(SEED, number, Some(class)).job);
-            let taken = jobs.map(|job| measure(&mut stacks, &job)).fold([0; 2], larger);
+            let taken = jobs.map(|job| measure(&mut stacks, &job)).fold([0; 3], larger);
             show(taken, &format!("the most of {EACH} generated jobs, class {class}"))?;
             most = larger(most, taken);
         }
         show(most, "the most of all")?;
         show_symbols()?;
-        match most[0].max(most[1]) {
+        match most.into_iter().max().unwrap_or(0) {
             most if most > MOST_BYTES => {
                 Err(failed(format!("the library takes {most} bytes of stack, more than {MOST_BYTES}")))
             }
@@ -56,19 +56,22 @@ mod measured {
         }
     }
 
-    /// The stack of answer and sheet.
-    fn measure(stacks: &mut Stacks, job: &[u8]) -> [usize; 2] {
-        let mut out = [0; limits::OUT_BYTES];
+    /// The stack of each operation.
+    type Taken = [usize; 3];
+
+    fn measure(stacks: &mut Stacks, job: &[u8]) -> Taken {
+        let mut out = [0; limits::THIN_BYTES];
+        let operations = [scope_deps_answer, scope_deps_sheet, scope_deps_thin];
         // SAFETY: these are the library's operations, and the stacks are far larger than they need.
-        [scope_deps_answer, scope_deps_sheet].map(|call| unsafe { stacks.measure(call, job, &mut out) })
+        operations.map(|call| unsafe { stacks.measure(call, job, &mut out) })
     }
 
-    fn larger(a: [usize; 2], b: [usize; 2]) -> [usize; 2] {
-        [a[0].max(b[0]), a[1].max(b[1])]
+    fn larger(a: Taken, b: Taken) -> Taken {
+        [a[0].max(b[0]), a[1].max(b[1]), a[2].max(b[2])]
     }
 
-    fn show([answer, sheet]: [usize; 2], what: &str) -> Result<(), Failure> {
-        say!("{answer:>8} {sheet:>8}  {what}")
+    fn show([answer, sheet, thin]: Taken, what: &str) -> Result<(), Failure> {
+        say!("{answer:>8} {sheet:>8} {thin:>8}  {what}")
     }
 
     /// Names by which memory is taken from the heap or from the system.

@@ -29,10 +29,11 @@ pub fn run(words: &[&str]) -> Result<(), Failure> {
         ["programs", ref options @ ..] => programs::run(options),
         ["answer"] => one_job::answer(),
         ["sheet"] => one_job::sheet(),
+        ["thin"] => one_job::thin(),
         ["check"] => stored::check(),
         ["store"] => stored::store(),
         ["memory"] => memory::run(),
-        [command @ ("answer" | "sheet" | "check" | "store" | "memory" | "help"), .., extra] => {
+        [command @ ("answer" | "sheet" | "thin" | "check" | "store" | "memory" | "help"), .., extra] => {
             Err(misused(format!("`{command}` takes nothing more, but `{extra}` follows")))
         }
         [command, ..] => Err(misused(format!("`{command}` is no command"))),

@@ -1,11 +1,11 @@
-//! `programs`: the programs `answer` and `sheet` beside the Rust.
+//! `programs`: the programs `answer`, `sheet` and `thin` beside the Rust.
 
 use super::failure::{Failure, failed};
 use super::options::Options;
 use super::output::say;
 use super::{repository, stored};
 use compare::oracle::Oracle;
-use compare::programs::{Input, SIZES, compare, inputs};
+use compare::programs::{Input, PROGRAMS, SIZES, compare, inputs};
 use std::collections::BTreeMap;
 use std::path::{Path, PathBuf};
 
@@ -19,33 +19,33 @@ pub fn run(words: &[&str]) -> Result<(), Failure> {
     };
     let inputs = inputs(&records, oracle.as_mut());
     for input in &inputs {
-        compare_both(&folder, input)?;
+        compare_all(&folder, input)?;
     }
-    say!("programs: answer and sheet write what is due for {}", tally(&inputs))?;
+    for (number, program) in PROGRAMS.into_iter().enumerate() {
+        say!("programs: {program} writes what is due for {}", tally(&inputs, number))?;
+    }
     let sizes = SIZES.map(|size| size.to_string()).join(", ");
     say!("programs: {} are stored jobs, the others have {sizes} bytes", records.len())?;
     match absent {
-        None => say!("programs: what is due is what the Rust says"),
+        None => say!("programs: what is due is what the Rust says, and of thin what the harness says"),
         Some(why) => say!("programs: the comparison with the Rust did not run: {why}"),
     }
 }
 
-fn compare_both(folder: &Path, input: &Input) -> Result<(), Failure> {
-    let Some(due) = &input.due else {
-        return Ok(());
-    };
-    for (program, due) in ["answer", "sheet"].into_iter().zip(due) {
+fn compare_all(folder: &Path, input: &Input) -> Result<(), Failure> {
+    for (program, due) in PROGRAMS.into_iter().zip(&input.due) {
+        let Some(due) = due else { continue };
         let compared = compare(&folder.join(program), &input.job, due);
         compared.map_err(|why| failed(format!("program {program}, {}: {why}", input.name)))?;
     }
     Ok(())
 }
 
-/// How many inputs are accepted, and how many are refused by each number.
-fn tally(inputs: &[Input]) -> String {
+/// How many inputs the program of this number accepts, and how many it refuses by each number.
+fn tally(inputs: &[Input], program: usize) -> String {
     let mut counts: BTreeMap<String, usize> = BTreeMap::new();
     for input in inputs {
-        let kind = match input.due.as_ref().map(|[answer, _]| &answer[..]) {
+        let kind = match input.due[program].as_deref() {
             Some([b'R', b'F', number]) => format!("refused by {number}"),
             Some(_) => "accepted".to_string(),
             None => "not compared".to_string(),

@@ -30,7 +30,7 @@ pub fn check() -> Result<(), Failure> {
         }
         Err(why) => {
             say!("stored jobs: the comparison with the Rust did not run: {why}")?;
-            say!("stored jobs: {count} well formed, with the refusals that the reader finds")
+            say!("stored jobs: {count} well formed, with the reader's refusals and the harness's thin jobs")
         }
     }
 }

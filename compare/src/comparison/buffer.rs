@@ -36,17 +36,17 @@ impl Buffer {
         }
     }
 
-    /// Compares what a call returned and wrote with what the Rust says.
-    pub fn check(&self, said: &Said, returned: i64) -> Result<(), String> {
+    /// Compares what a call returned and wrote with what is due, which `judge` says.
+    pub fn check(&self, said: &Said, returned: i64, judge: &str) -> Result<(), String> {
         let due = returned_number(said);
         if returned != due {
-            return Err(format!("returned {returned}, the Rust says {due}"));
+            return Err(format!("returned {returned}, {judge} says {due}"));
         }
         let written = said.as_deref().unwrap_or(&[]);
         let (before, rest) = self.bytes.split_at(self.start);
         let (out, after) = rest.split_at(written.len());
         if let Some(place) = first_difference(out, written) {
-            return Err(format!("byte {place} is {}, the Rust says {}", out[place], written[place]));
+            return Err(format!("byte {place} is {}, {judge} says {}", out[place], written[place]));
         }
         let pattern = &self.pattern[self.shift..];
         if let Some(place) = first_difference(before, pattern) {

@@ -1,5 +1,6 @@
 //! The limits of the specification, one job at each and one beyond.
 
+use crate::examples::examples;
 use crate::generate::{edges, ladder};
 use crate::job::{Block, Job, Path, limits};
 use crate::worst::{self, block, candidates, falling_chain, full_registry, path, reducible_chain};
@@ -14,6 +15,7 @@ pub struct Fixed {
 /// All jobs of the list.
 pub fn list() -> Vec<Fixed> {
     let mut jobs = Vec::new();
+    named(&mut jobs);
     counts(&mut jobs);
     nodes(&mut jobs);
     rounds(&mut jobs);
@@ -25,8 +27,15 @@ pub fn list() -> Vec<Fixed> {
     jobs
 }
 
+fn named(jobs: &mut Vec<Fixed>) {
+    jobs.extend(examples().into_iter().map(|example| {
+        let (name, out_len) = (format!("example {}", example.name), example.out_len);
+        Fixed { name, out_len, job: example.job.to_bytes() }
+    }));
+}
+
 fn fixed(name: impl Into<String>, job: Vec<u8>) -> Fixed {
-    Fixed { name: name.into(), out_len: limits::OUT_BYTES, job }
+    Fixed { name: name.into(), out_len: limits::THIN_BYTES, job }
 }
 
 fn one_block(assumed: Vec<Path>, candidates: Vec<Path>) -> Job {
@@ -74,6 +83,8 @@ fn counts(jobs: &mut Vec<Fixed>) {
     for count in [0, 1, 254, 255] {
         let assumed = (0..count).map(|n| path(n, 10, 2, false)).collect();
         jobs.push(fixed(format!("{count} assumed paths"), one_block(assumed, vec![]).to_bytes()));
+        let equal = vec![path(1, 10, 2, false); count as usize];
+        jobs.push(fixed(format!("{count} equal assumed paths"), one_block(equal, vec![]).to_bytes()));
     }
 }
 
@@ -125,6 +136,12 @@ fn sizes(jobs: &mut Vec<Fixed>) {
     jobs.push(fixed("empty job", vec![]));
     for size in [32_766, 32_767, 32_768, 32_769, 32_770, 65_536] {
         jobs.push(fixed(format!("job of {size} bytes"), edges::of_size(size, || 1)));
+        let mut last = 0;
+        let differing = edges::of_size(size, || {
+            last += 1;
+            last
+        });
+        jobs.push(fixed(format!("job of {size} bytes without a repeat, of many nodes"), differing));
         jobs.push(fixed(format!("{size} bytes of zero"), vec![0; size]));
         let mut left_over = good().to_bytes();
         left_over.resize(size, 0);
@@ -153,8 +170,11 @@ fn out_lengths(jobs: &mut Vec<Fixed>) {
         ("a job that is too long", vec![0; limits::JOB_BYTES + 1]),
         ("513 nodes", one_block(full_registry(513), vec![]).to_bytes()),
         ("512 nodes", one_block(full_registry(512), vec![]).to_bytes()),
+        ("a job with repeats", one_block(vec![path(1, 10, 2, false); 3], candidates(2, 16)).to_bytes()),
+        ("32,768 bytes without a repeat", worst::longest_without_repeats().to_bytes()),
     ];
-    for out_len in [0, 1, 6, 78, 24_574, 24_575, 24_576, 24_577, 32_768, 65_536, 1 << 20] {
+    let around_the_least = [24_574, 24_575, 24_576, 24_577, 32_766, 32_767, 32_768, 32_769];
+    for out_len in [0, 1, 6, 78].into_iter().chain(around_the_least).chain([65_536, 1 << 20]) {
         for (what, job) in &kinds {
             let name = format!("{what}, out buffer of {out_len} bytes");
             jobs.push(Fixed { name, out_len, job: job.clone() });

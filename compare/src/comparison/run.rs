@@ -1,7 +1,7 @@
 //! Runs of a comparison: over the fixed list, and over generated jobs.
 
-use super::Comparison;
 use super::fixed;
+use super::{Comparison, Seen};
 use crate::generate::generate;
 use std::collections::BTreeMap;
 use std::io::{self, Write};
@@ -57,7 +57,7 @@ pub fn generated_jobs(comparison: &mut Comparison, asked: &Generated) -> Result<
             continue;
         }
         match comparison.compare(&generated.job, generated.out_len) {
-            Ok(both) => tally.count(generated.class, both.answer.err()),
+            Ok(seen) => tally.count(generated.class, &seen),
             Err(why) => return Err(generated_mismatch(asked, number, generated, &why)),
         }
         if shown.elapsed() >= Duration::from_secs(2) {
@@ -94,13 +94,16 @@ pub struct Tally {
     classes: BTreeMap<&'static str, usize>,
     /// 0 stands for an accepted job.
     refusals: BTreeMap<u8, usize>,
+    /// Jobs with repeats: those that are accepted, and those that 9 refuses.
+    pub repeats: [usize; 2],
 }
 
 impl Tally {
-    fn count(&mut self, class: &'static str, refusal: Option<u8>) {
+    fn count(&mut self, class: &'static str, seen: &Seen) {
         self.jobs += 1;
         *self.classes.entry(class).or_default() += 1;
-        *self.refusals.entry(refusal.unwrap_or(0)).or_default() += 1;
+        *self.refusals.entry(seen.refusal.unwrap_or(0)).or_default() += 1;
+        self.repeats[usize::from(seen.refusal.is_some())] += usize::from(seen.has_repeats);
     }
 
     pub fn text(&self) -> String {
@@ -109,6 +112,8 @@ impl Tally {
             0 => format!("accepted {n}"),
             number => format!("refused by {number}: {n}"),
         });
-        format!("{}\n{}", classes.join(", "), refusals.collect::<Vec<_>>().join(", "))
+        let [accepted, refused] = self.repeats;
+        let thin = format!("thin jobs with fewer paths: accepted {accepted}, refused by 9: {refused}");
+        format!("{}\n{}\n{thin}", classes.join(", "), refusals.collect::<Vec<_>>().join(", "))
     }
 }

@@ -6,9 +6,11 @@
 mod graph;
 mod reduction;
 mod refusals;
+mod thin;
 mod tree;
 
 pub use graph::order_features;
+pub use thin::nearly_right;
 
 use crate::job::{Job, Path, Property, limits};
 use crate::oracle::{Both, Counts};
@@ -23,7 +25,9 @@ pub fn features(class: &str, bytes: &[u8], out_len: usize, both: &Both) -> Featu
     let mut found = Features::new();
     found.insert(format!("class {class}"));
     add(&mut found, &format!("job of {} bytes", bytes.len()), bytes.len() + 1 >= limits::JOB_BYTES);
-    add(&mut found, "out buffer longer than it must be", out_len > limits::OUT_BYTES);
+    add(&mut found, "out buffer longer than it must be", out_len > limits::THIN_BYTES);
+    let short_for_thin_alone = (limits::OUT_BYTES..limits::THIN_BYTES).contains(&out_len);
+    add(&mut found, "out buffer too short for a thin job alone", short_for_thin_alone);
     if let Err(number) = both.answer {
         found.insert(format!("refusal {number}"));
         found.insert(format!("{class} refused by {number}"));
@@ -35,6 +39,9 @@ pub fn features(class: &str, bytes: &[u8], out_len: usize, both: &Both) -> Featu
     reduction::reduction_features(&job, &mut found);
     if let Some(counts) = &both.counts {
         count_features(counts, &mut found);
+    }
+    if out_len >= limits::THIN_BYTES {
+        thin::thin_features(&job, both.answer.is_err(), &mut found);
     }
     if let (Ok(answer), Ok(sheet)) = (&both.answer, &both.sheet)
         && let (Ok(Written::Record(answer)), Ok(Written::Record(sheet))) =

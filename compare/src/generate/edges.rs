@@ -97,7 +97,7 @@ pub fn of_size(goal: usize, mut identifier: impl FnMut() -> u32) -> Vec<u8> {
 }
 
 /// The most entries of a path after which paths can fill the rest exactly.
-fn fitting_entries(left: usize) -> Option<usize> {
+pub fn fitting_entries(left: usize) -> Option<usize> {
     (0..=limits::ENTRIES).rev().find(|length| left.checked_sub(12 + 14 * length).is_some_and(can_be_filled))
 }
 

@@ -5,6 +5,7 @@ pub(crate) mod edges;
 pub(crate) mod graph;
 pub(crate) mod ladder;
 mod nodes;
+mod repeats;
 mod shapes;
 mod words;
 
@@ -34,6 +35,7 @@ const CLASSES: &[Class] = &[
     Class { name: "ladder", weight: 4, make: |prng| ladder::ladder(prng).to_bytes() },
     Class { name: "nodes-entered", weight: 3, make: |prng| nodes::entered(prng).to_bytes() },
     Class { name: "nodes-reduced", weight: 3, make: |prng| nodes::reduced(prng).to_bytes() },
+    Class { name: "repeats", weight: 10, make: |prng| repeats::repeats(prng).to_bytes() },
     Class { name: "limits", weight: 6, make: edges::limits },
     Class { name: "job-size", weight: 1, make: edges::job_size },
     Class { name: "short-out", weight: 1, make: short_out },
@@ -72,10 +74,14 @@ fn short_out(prng: &mut Prng) -> Vec<u8> {
     if prng.chance(50) { shapes::without_loops(prng).to_bytes() } else { damage::damaged(prng) }
 }
 
+/// Mostly long enough for all operations.
 fn out_len(prng: &mut Prng, class: &str) -> usize {
+    let (least, least_thin) = (limits::OUT_BYTES, limits::THIN_BYTES);
     match class {
-        "short-out" => prng.pick(&[0, 1, 2, 6, 4096, limits::OUT_BYTES - 1]),
-        _ if prng.chance(10) => limits::OUT_BYTES + prng.below(4096),
-        _ => limits::OUT_BYTES,
+        "short-out" => prng.pick(&[0, 1, 2, 6, 4096, least - 1, least, least_thin - 1]),
+        _ if prng.chance(10) => least_thin + prng.below(4096),
+        // Too short for a thin job alone.
+        _ if prng.chance(5) => prng.between(least, least_thin - 1),
+        _ => least_thin,
     }
 }

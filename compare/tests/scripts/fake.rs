@@ -47,13 +47,17 @@ const SCRIPTS: [&str; 7] = [
     "demo",
 ];
 
-const FILES: [(&str, &str); 13] = [
-    ("crates.txt", "# a comment: none\nleaf:\nstage: leaf\nrun: stage io\nanswer: run\nsheet: run\nother:\n"),
+const FILES: [(&str, &str); 14] = [
+    (
+        "crates.txt",
+        "# a comment: none\nleaf:\nstage: leaf\nrun: stage io\nanswer: run\nsheet: run\nthin: run\nother:\n",
+    ),
     ("crates/leaf/src/lib.rt", "leaf\n"),
     ("crates/stage/src/lib.rt", "stage\n"),
     ("crates/run/src/lib.rt", "run\n"),
     ("crates/answer/src/main.rt", "answer\n"),
     ("crates/sheet/src/main.rt", "sheet\n"),
+    ("crates/thin/src/main.rt", "thin\n"),
     ("crates/other/src/lib.rt", "other\n"),
     ("bindings/rust/src/main.rs", "tool\n"),
     ("bindings/rust/build.rs", "build\n"),
@@ -67,7 +71,7 @@ const FILES: [(&str, &str); 13] = [
 const RT: &str = r#"#!/usr/bin/env bash
 [ "$1" != version ] || { echo "${FAKE_KIT:-kit 1}"; exit; }
 echo "rt $*" >>"$FAKE_CALLS"
-case $1 in staticlib) crates=leaf ;; check) crates='leaf stage run answer sheet' ;; esac
+case $1 in staticlib) crates=leaf ;; check) crates='leaf stage run answer sheet thin' ;; esac
 mkdir -p target/staticlib target/bin
 for crate in $crates; do
   if grep -q unproved "crates/$crate/src/"*; then echo "rt: $crate NOT PROVED (exit 1, 0 s)"; exit 1; fi
@@ -75,7 +79,7 @@ for crate in $crates; do
 done
 [ -z "${FAKE_EDIT:-}" ] || echo "$FAKE_EDIT" >>crates/leaf/src/lib.rt
 if [ "$1" = check ]; then
-  for program in answer sheet; do
+  for program in answer sheet thin; do
     printf '%s\n' '#!/usr/bin/env bash' 'cat >/dev/null' "printf '${FAKE_ANSWER:-RF\\003}'" >target/bin/$program
     chmod +x target/bin/$program
   done
@@ -99,7 +103,7 @@ mkdir -p "$target/release"
 printf '%s\n' '#!/usr/bin/env bash' "echo $kind: \$*" >"$target/release/$program"
 if [ $kind = light ]; then
   printf '%s\n' 'case " $* $(cat) " in *" bad.job "* | *" bad "*) exit 1 ;; *" -- "*) ;; *" --help "*) exit ;; esac' \
-    'case ${1:-} in answer | sheet | explain | draw) exit 3 ;; esac' >>"$target/release/$program"
+    'case ${1:-} in answer | sheet | thin | explain | draw) exit 3 ;; esac' >>"$target/release/$program"
 else
   echo cat >>"$target/release/$program"
 fi

@@ -172,7 +172,7 @@ fn the_programs_are_made_once_and_anew_from_other_sources() {
     let folder = format!("{}\n", fake.root.join("target/bin").display());
     failing(fake.run("bin/programs", &["--check"]), &["a program of the stage is missing; "]);
     assert_eq!(
-        saying(fake.run("bin/programs", &[]), &["is missing; ", "proved leaf, 1 of 5", "sheet, 5 of 5"]),
+        saying(fake.run("bin/programs", &[]), &["is missing; ", "proved leaf, 1 of 6", "thin, 6 of 6"]),
         folder
     );
     assert_eq!(quiet(fake.run("bin/programs", &[])), folder);
@@ -238,7 +238,7 @@ fn what_asks_nothing_of_the_stage_needs_no_library() {
 
 #[test]
 fn what_asks_the_stage_has_the_library_made_first() {
-    for command in ["answer", "sheet", "explain", "draw"] {
+    for command in ["answer", "sheet", "thin", "explain", "draw"] {
         let mut fake = Fake::new(&format!("whole-{command}"));
         let parts = ["library is missing", "proved stage, 2 of 2", "scope-deps: building"];
         assert_eq!(
@@ -310,10 +310,7 @@ fn the_harness_has_made_what_its_command_needs() {
         );
         assert_eq!(fake.calls(), ["rt staticlib", "cargo build"]);
     }
-    saying(
-        fake.run("compare/oracle", &["programs"]),
-        &["a program of the stage is missing", "sheet, 5 of 5"],
-    );
+    saying(fake.run("compare/oracle", &["programs"]), &["a program of the stage is missing", "thin, 6 of 6"]);
     assert_eq!(fake.calls(), ["rt check"]);
     fake.without("rt");
     fake.without("cargo");
@@ -339,7 +336,7 @@ fn the_demo_holds_the_answer_to_the_specification() {
     let refused = fake.run("demo", &[]);
     assert_eq!(refused.status, 1);
     assert!(refused.out.contains("refused: 3"), "{refused:?}");
-    assert_parts(&refused, &["proved answer, 4 of 5", "not the answer that document 01 gives"]);
+    assert_parts(&refused, &["proved answer, 4 of 6", "not the answer that document 01 gives"]);
     let answer = r"AN\001\000\001\001DE\001\000\000\000\001\006\000\000\000\001";
     let entry = r"\000\000\012\000\000\000\000\000\000\000\006\000\000\000";
     fake.set("FAKE_ANSWER", format!("{answer}{entry}"));

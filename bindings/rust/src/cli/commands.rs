@@ -38,7 +38,9 @@ fn result(run: &Run, input: &Input, names: &Names) -> Result<Vec<u8>, Failure> {
     match run.command {
         Command::Encode => Ok(job.into_bytes()),
         Command::Decode => Ok(job.to_string().into_bytes()),
-        Command::Answer | Command::Sheet | Command::Explain | Command::Draw => stage::made(run, input, &job),
+        Command::Answer | Command::Sheet | Command::Thin | Command::Explain | Command::Draw => {
+            stage::made(run, input, &job)
+        }
     }
 }
 

@@ -9,15 +9,17 @@ pub enum Command {
     Decode,
     Answer,
     Sheet,
+    Thin,
     Explain,
     Draw,
 }
 
-pub const COMMANDS: [(&str, Command); 6] = [
+pub const COMMANDS: [(&str, Command); 7] = [
     ("encode", Command::Encode),
     ("decode", Command::Decode),
     ("answer", Command::Answer),
     ("sheet", Command::Sheet),
+    ("thin", Command::Thin),
     ("explain", Command::Explain),
     ("draw", Command::Draw),
 ];
@@ -48,7 +50,7 @@ pub struct Run {
     pub from: Option<Form>,
     /// The file with names.
     pub names: Option<String>,
-    /// Whether an answer or a sheet is written in bytes.
+    /// Whether an answer, a sheet or a thin job is written in bytes.
     pub bytes: bool,
     /// Whether an explanation is written in full.
     pub all: bool,
@@ -131,7 +133,7 @@ impl Run {
             let value = given.or_else(|| rest.next()).filter(|value| !value.is_empty());
             value.ok_or_else(|| misused(format!("a value is missing after `{option}`")))
         };
-        let asks_to_show = matches!(self.command, Command::Answer | Command::Sheet);
+        let asks_to_show = matches!(self.command, Command::Answer | Command::Sheet | Command::Thin);
         match option {
             "-o" | "--output" => self.output = Some(value()?.to_string()),
             "--from" => self.from = Some(form(value()?)?),

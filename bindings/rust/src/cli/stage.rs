@@ -19,10 +19,27 @@ pub fn made(run: &Run, input: &Input, job: &Job) -> Result<Vec<u8>, Failure> {
             let sheet = sheet(job).map_err(|why| refused(why.into()))?;
             Ok(sheet.with_names(job.names()).to_string().into_bytes())
         }
+        Command::Thin if run.bytes => Ok(job.thin().into_bytes()),
+        Command::Thin => Ok(thin_text(job).into_bytes()),
         Command::Explain => asked(run, input, job, explained),
         Command::Draw => asked(run, input, job, drawn),
         Command::Encode | Command::Decode => unreachable!("these ask nothing of the stage"),
     }
+}
+
+/// The thin job as text, under a comment that says how many paths were dropped, if any were.
+fn thin_text(job: &Job) -> String {
+    let thin = job.thin();
+    match paths(job) - paths(&thin) {
+        0 => thin.to_string(),
+        1 => format!("# 1 repeated path dropped\n{thin}"),
+        dropped => format!("# {dropped} repeated paths dropped\n{thin}"),
+    }
+}
+
+/// How many paths a job has.
+fn paths(job: &Job) -> usize {
+    job.candidates().len() + job.blocks().iter().map(|block| block.assumed().len()).sum::<usize>()
 }
 
 /// What is made of a job with its sheet and its answer.

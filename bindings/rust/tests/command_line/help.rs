@@ -8,7 +8,7 @@ use std::fs;
 fn help_is_there_for_every_command() {
     let all = text(&["--help"], "");
     assert_eq!(all, text(&["help"], ""));
-    for command in ["encode", "decode", "answer", "sheet", "explain", "draw"] {
+    for command in ["encode", "decode", "answer", "sheet", "thin", "explain", "draw"] {
         assert!(all.contains(&format!("\n  {command} ")));
         let own = text(&[command, "--help"], "");
         assert_eq!(own, text(&["help", command], ""));
@@ -28,8 +28,9 @@ fn commands_of(help: &str) -> Vec<(&str, &str)> {
 #[test]
 fn what_the_help_and_the_readme_show_is_what_happens() {
     let readme = fs::read_to_string(repository("README.md")).unwrap();
-    let help = [&["help"][..], &["help", "answer"], &["help", "sheet"], &["help", "explain"]];
-    let texts = help.iter().map(|words| text(words, "")).chain([readme]);
+    let topics = ["answer", "sheet", "thin", "explain"].map(|topic| vec!["help", topic]);
+    let help = [vec!["help"]].into_iter().chain(topics);
+    let texts = help.map(|words| text(&words, "")).chain([readme]);
     for shown in texts {
         let commands = commands_of(&shown);
         assert!(!commands.is_empty(), "{shown}");

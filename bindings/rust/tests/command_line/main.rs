@@ -6,6 +6,7 @@ mod dumps;
 mod help;
 mod messages;
 mod options;
+mod thin;
 
 use common::{hex, repository};
 use scope_deps::Job;
@@ -70,7 +71,7 @@ fn a_job_goes_from_text_to_bytes_and_back() {
 fn answer_sheet_and_the_others_take_text_and_bytes() {
     assert_eq!(text(&["answer"], TEXT), "rounds 1, settled\nreturned reactive 1@6.10@6\n");
     assert_eq!(text(&["sheet"], TEXT), "rounds 1, settled\nnode 0 reactive 1\nblock 7 holds 1\n");
-    for command in ["answer", "sheet", "explain", "draw"] {
+    for command in ["answer", "sheet", "thin", "explain", "draw"] {
         assert_eq!(text(&[command], TEXT), text(&[command, "-"], hex(BYTES)), "{command}");
         assert_eq!(text(&[command], TEXT), text(&[command, "--from", "hex"], BYTES), "{command}");
     }

@@ -32,7 +32,7 @@ fn what_is_no_text_is_named() {
     assert!(message(&["answer"], utf_16, 1).contains("not UTF-8, but UTF-16, as its byte-order mark says"));
     let marked = message(&["answer"], format!("\u{feff}{TEXT}"), 1);
     assert!(marked.contains("standard input:1:1: ") && marked.contains("not a byte-order mark"), "{marked}");
-    for command in ["encode", "decode", "answer", "sheet", "explain", "draw"] {
+    for command in ["encode", "decode", "answer", "sheet", "thin", "explain", "draw"] {
         let said = message(&[command], "", 1);
         assert_eq!(said, "scope-deps: standard input: this is empty, and holds no job\n");
     }
@@ -51,7 +51,7 @@ fn an_excerpt_of_a_long_line_is_short() {
 #[test]
 fn a_refused_job_says_its_number_and_place() {
     let damaged = &hex(BYTES)[..41];
-    for command in ["decode", "answer", "sheet", "explain", "draw"] {
+    for command in ["decode", "answer", "sheet", "thin", "explain", "draw"] {
         let said = message(&[command], damaged, 1);
         assert!(said.contains("refusal 3, MissingByte: ") && said.contains("in CA record 1: "), "{said}");
     }

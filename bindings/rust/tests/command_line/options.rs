@@ -63,6 +63,7 @@ fn a_wrong_command_line_is_told_from_a_wrong_job() {
         (&["answer", "--bogus"], "`--bogus` is no option"),
         (&["encode", "--bytes"], "`--bytes` is no option"),
         (&["answer", "--all"], "`--all` is no option"),
+        (&["thin", "--focus"], "`--focus` is no option"),
         (&["answer", "-o"], "a value is missing after `-o`"),
         (&["answer", "--output="], "a value is missing after `--output`"),
         (&["answer", "--bytes=1"], "`--bytes=1` is no option"),

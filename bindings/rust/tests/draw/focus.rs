@@ -41,8 +41,12 @@ fn left_out(picture: &Picture) -> Vec<usize> {
 /// The blocks of a job that a text names after `block` or `blocks`.
 fn named(text: &str, job: &Job) -> BTreeSet<BlockId> {
     let numbers = |words: &str| -> Vec<u32> {
-        let ids = words.split([',', ' ']).filter(|word| !word.is_empty() && *word != "and");
-        ids.map_while(|word| word.trim_end_matches([':', ';', '.', '\n']).parse().ok()).collect()
+        let words = words.split([',', ' ']).filter(|word| !word.is_empty() && *word != "and");
+        let words: Vec<&str> = words.map(|word| word.trim_end_matches([':', ';', '.', '\n'])).collect();
+        let ids: Vec<u32> = words.iter().map_while(|word| word.parse().ok()).collect();
+        // In `blocks 1, 2 and 3 more` the last is a count.
+        let counts = usize::from(words.get(ids.len()) == Some(&"more"));
+        ids[..ids.len() - counts].to_vec()
     };
     let after = ["block ", "blocks "].into_iter().flat_map(|word| text.split(word).skip(1));
     after.flat_map(numbers).map(BlockId).filter(|&id| job.place_of(id).is_some()).collect()
