@@ -30,7 +30,7 @@ fn job(name: &str) -> Job {
 #[test]
 fn each_example_has_the_answer_beside_it() {
     let names = names();
-    assert_eq!(names, ["diamond", "loop", "no-last-session", "optional-chain"]);
+    assert_eq!(names, ["diamond", "loop", "no-last-session", "optional-chain", "repeats"]);
     for name in names {
         let expected = read(repository(&format!("examples/{name}.answer")));
         let job = job(&name);

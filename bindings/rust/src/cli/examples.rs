@@ -3,7 +3,7 @@
 use super::failure::Failure;
 
 /// The jobs of the repository's `examples`, by name, each with what it shows.
-const EXAMPLES: [(&str, &str, &str); 4] = [
+const EXAMPLES: [(&str, &str, &str); 5] = [
     (
         "no-last-session",
         "a path is cut before what would throw for an athlete with no last session",
@@ -16,6 +16,7 @@ const EXAMPLES: [(&str, &str, &str); 4] = [
         include_str!("jobs/diamond.job"),
     ),
     ("loop", "a block of a loop holds a path that a run avoids", include_str!("jobs/loop.job")),
+    ("repeats", "a thin job has each path of a list once", include_str!("jobs/repeats.job")),
 ];
 
 /// The example of this name as text, or the list of all.
