@@ -138,9 +138,11 @@ impl Said {
 }
 
 impl Fake {
-    /// A new repository, in a folder of this name.
+    /// A new repository, in a folder of this name. It is in the toolchain's own directory: anywhere
+    /// else in the repository the toolchain would take its crates for files that nothing proves.
     pub fn new(name: &str) -> Self {
-        let folder = Path::new(env!("CARGO_TARGET_TMPDIR")).join("scripts").join(name);
+        let real = Path::new(env!("CARGO_MANIFEST_DIR")).parent().unwrap();
+        let folder = real.join("target/scripts").join(name);
         let _ = fs::remove_dir_all(&folder);
         let root = folder.join("a repository");
         let path = ["rt", "cargo", "tools"].map(|part| folder.join(part)).to_vec();
