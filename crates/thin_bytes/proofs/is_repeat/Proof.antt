@@ -1,6 +1,6 @@
 -- The loop's invariant, `Looking`: the path equals one of all earlier paths where it equals one of
 -- those that are left. The measure is their number.
-use Prim.Native.Nat.{ℕ, _+_, _*_}
+use Prim.Native.Nat.{ℕ, _+_, _*_, _≤_}
 use native.Mathlib.Omega.{arith}
 use mathlib.Core.Path.{_≡_}
 use borrow.Author.Needs.{needs}
@@ -66,27 +66,24 @@ returns-3 c =
     looking-found (l .loop .inv) (t .loop-test .taken) (seen gotPathHead (call .path-head-at2 .ensures) (f .field .given .1))
     (seen gotPathHead (own .path-head-at .ensures) (o .own-field .given .1)) (same .same-path .ensures) (c .if1 .taken)
 
-mul-place : tie.Need-mul-place Inv-loop μ-loop
-mul-place c =
+-- the entries of the earlier path that is compared: where they stand, and how many they are
+small : (c : tie.After-struct-known Inv-loop μ-loop) → (c .before .before .before .before .field .given .0 .1 .0 ≤ 32768)
+    × (c .before .before .before .before .field .given .0 .0 .entries ≤ 16)
+small c =
     let f = c .before .before .before .before in
     let call = f .before .before in
     let t = call .before in
     let l = t .before in
     let x = l .before .before .before .before .before .before .pre in
-    let small = entries-small (l .loop .inv) (t .loop-test .taken) (seen gotPathHead (call .path-head-at2 .ensures) (f .field .given .1)) x in
-    let count = small .1 in
-    search needs
+    entries-small (l .loop .inv) (t .loop-test .taken) (seen gotPathHead (call .path-head-at2 .ensures) (f .field .given .1)) x
+
+mul-place : tie.Need-mul-place Inv-loop μ-loop
+mul-place c = let count = small c .1 in search needs
 
 add-place : tie.Need-add-place Inv-loop μ-loop
 add-place c =
-    let f = c .before .before .before .before in
-    let call = f .before .before in
-    let t = call .before in
-    let l = t .before in
-    let x = l .before .before .before .before .before .before .pre in
-    let small = entries-small (l .loop .inv) (t .loop-test .taken) (seen gotPathHead (call .path-head-at2 .ensures) (f .field .given .1)) x in
-    let place = small .0 in
-    let count = small .1 in
+    let place = small c .0 in
+    let count = small c .1 in
     search needs
 
 loop-again : tie.Need-loop-again Inv-loop μ-loop

@@ -1,9 +1,10 @@
 -- The paths are written behind the place of what stands before them, and then that, with their
 -- number. A block that was read has its head and its ids.
-use Prim.Native.Nat.{ℕ}
+use Prim.Native.Nat.{ℕ, _+_, _-_, _≤_}
 use native.Mathlib.Omega.{arith}
 use mathlib.Core.Path.{_≡_}
 use mathlib.Core.List.{List}
+use lib.ListN.{length}
 use denote.Ref.{now}
 use borrow.Author.Needs.{needs}
 use Rattle.model.specs.ListLaws.{All}
@@ -32,31 +33,26 @@ returns-2 c =
     absurd (ids-there _ _ (x .block) (x .next) (x .read) (seen gotBlockHead (call .block-head-at .ensures) (h .head-field .given .1))
     (seen gotPlace (i .past-ids .ensures) (c .enum-told2 .given .1)))
 
-sub-thin-paths : tie.Need-sub-thin-paths
-sub-thin-paths c =
-    let i = c .before .before .before in
+-- what stands before the paths has its place in the job, and its room in the buffer
+abbrev entry : tie.After-ids → tie.Start
+entry i = i .before .before .before .before .before .before .before .before .before
+
+before : (i : tie.After-ids) → (entry i .args .at + 8 ≤ i .ids .given .0 .0) × (i .ids .given .0 .0 ≤ 32768)
+    × (entry i .args .to + (i .ids .given .0 .0 - entry i .args .at) ≤ length (now (entry i .args .out)))
+before i =
     let p = i .before .before in
     let h = p .before .before in
     let call = h .before .before in
     let k = call .before .before in
     let bytes = all-bytes (now (k .before .args .s)) (λ j. let fits = k .shared-slice-known .given j in omega arith) in
-    let there = before-paths (k .before .pre) bytes (seen gotBlockHead (call .block-head-at .ensures) (h .head-field .given .1))
-    (seen gotPlace (p .past-ids .ensures) (i .ids .given .1)) in
-    let low = there .0 in
-    search needs
+    before-paths (k .before .pre) bytes (seen gotBlockHead (call .block-head-at .ensures) (h .head-field .given .1))
+    (seen gotPlace (p .past-ids .ensures) (i .ids .given .1))
+
+sub-thin-paths : tie.Need-sub-thin-paths
+sub-thin-paths c = let low = before (c .before .before .before) .0 in search needs
 
 add-thin-paths : tie.Need-add-thin-paths
-add-thin-paths c =
-    let i = c .before .before .before in
-    let p = i .before .before in
-    let h = p .before .before in
-    let call = h .before .before in
-    let k = call .before .before in
-    let bytes = all-bytes (now (k .before .args .s)) (λ j. let fits = k .shared-slice-known .given j in omega arith) in
-    let there = before-paths (k .before .pre) bytes (seen gotBlockHead (call .block-head-at .ensures) (h .head-field .given .1))
-    (seen gotPlace (p .past-ids .ensures) (i .ids .given .1)) in
-    let room = there .2 in
-    search needs
+add-thin-paths c = let room = before (c .before .before .before) .2 in search needs
 
 thin-paths-requires : tie.Need-thin-paths-requires
 thin-paths-requires c κs =
@@ -71,14 +67,7 @@ thin-paths-requires c κs =
 
 add-put-recounted : tie.Need-add-put-recounted
 add-put-recounted c =
-    let i = c .before .before .before .before .before .before .before in
-    let p = i .before .before in
-    let h = p .before .before in
-    let call = h .before .before in
-    let k = call .before .before in
-    let bytes = all-bytes (now (k .before .args .s)) (λ j. let fits = k .shared-slice-known .given j in omega arith) in
-    let there = before-paths (k .before .pre) bytes (seen gotBlockHead (call .block-head-at .ensures) (h .head-field .given .1))
-    (seen gotPlace (p .past-ids .ensures) (i .ids .given .1)) in
+    let there = before (c .before .before .before .before .before .before .before) in
     let low = there .0 in
     let high = there .1 in
     search needs
