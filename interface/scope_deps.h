@@ -1,9 +1,10 @@
 /*
  * The scope-dependency stage, for callers in C and C++ on x86-64.
  *
- * Three operations take a job and an out buffer: the answer (the returned paths),
- * the sheet (all nodes of paths, and each block's set of them) and the thin job (the
- * job without repeated paths). docs/FORMAT.md has the bytes of all of them.
+ * Five operations take a job and an out buffer: the answer (the returned paths),
+ * the sheet (all nodes of paths, and each block's set of them), both also by the strict
+ * propagation, and the thin job (the job without repeated paths). docs/FORMAT.md has the
+ * bytes of all of them.
  *
  * Link with libstage.a, which `bin/library` proves and writes to target/staticlib.
  */
@@ -17,7 +18,7 @@
 extern "C" {
 #endif
 
-/* For answer and sheet: an out buffer of fewer bytes is refused by 1, and none is longer. */
+/* For answers and sheets: an out buffer of fewer bytes is refused by 1, and none is longer. */
 #define SCOPE_DEPS_OUT_BYTES 24576
 
 /* The same for a thin job. */
@@ -61,11 +62,28 @@ int64_t scope_deps_answer(const uint8_t *job, size_t job_len, uint8_t *out, size
 int64_t scope_deps_sheet(const uint8_t *job, size_t job_len, uint8_t *out, size_t out_len);
 
 /*
+ * Writes the answer of `job` by the strict propagation, on the same terms. A block then takes
+ * paths over from its neighbours only where every one of them is done. So no returned path
+ * throws where the job has loops, either, on any finite run from a block with no predecessor,
+ * by way of the scope block, to a block with no successor, where what the run's blocks assume
+ * is there. Where the job has no loops the bytes are those of scope_deps_answer.
+ *
+ * Refusal 9 counts the nodes of the strict propagation, which may be more or fewer.
+ */
+int64_t scope_deps_strict_answer(const uint8_t *job, size_t job_len, uint8_t *out, size_t out_len);
+
+/*
+ * Writes the sheet by the strict propagation, on the same terms. It is refused where the strict
+ * answer is.
+ */
+int64_t scope_deps_strict_sheet(const uint8_t *job, size_t job_len, uint8_t *out, size_t out_len);
+
+/*
  * Writes the thin job of `job`, on the same terms: the same job, but in each block, and among
  * the candidates, without each path whose identifier and entries (optional marks counted, spans
  * and reactive not) an earlier path of the same list has, which stays as it is. Its answer and
- * its sheet are those of `job`, or it is refused by 9 as `job` is. The thin job of a thin job is
- * that job.
+ * its sheet are those of `job`, by either propagation, or it is refused by 9 as `job` is. The
+ * thin job of a thin job is that job.
  *
  * Refusal 1 is that of a buffer shorter than SCOPE_DEPS_THIN_OUT_BYTES, and 9 does not occur.
  */

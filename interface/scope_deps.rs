@@ -1,13 +1,13 @@
 //! The scope-dependency stage, for Rust on x86-64.
 //!
-//! `answer`, `sheet` and `thin` take a job and an out buffer and give the number of
-//! bytes written, or the number of the refusal. `docs/FORMAT.md` has the bytes of jobs,
-//! answers, sheets and thin jobs.
+//! `answer`, `sheet`, `strict_answer`, `strict_sheet` and `thin` take a job and an out
+//! buffer and give the number of bytes written, or the number of the refusal.
+//! `docs/FORMAT.md` has the bytes of jobs, answers, sheets and thin jobs.
 //!
 //! A package takes this file as a module (`#[path = "…/interface/scope_deps.rs"]`)
 //! and links `libstage.a`, which `bin/library` proves and writes to `target/staticlib`.
 
-/// For answer and sheet: an out buffer of fewer bytes is refused by 1, and none is longer.
+/// For answers and sheets: an out buffer of fewer bytes is refused by 1, and none is longer.
 pub const OUT_BYTES: usize = 24_576;
 
 /// The same for a thin job.
@@ -34,6 +34,30 @@ unsafe extern "C" {
     ///
     /// As for `scope_deps_answer`.
     pub fn scope_deps_sheet(job: *const u8, job_len: usize, out: *mut u8, out_len: usize) -> i64;
+
+    /// The same for the answer by the strict propagation.
+    ///
+    /// # Safety
+    ///
+    /// As for `scope_deps_answer`.
+    pub fn scope_deps_strict_answer(
+        job: *const u8,
+        job_len: usize,
+        out: *mut u8,
+        out_len: usize,
+    ) -> i64;
+
+    /// The same for the sheet by the strict propagation.
+    ///
+    /// # Safety
+    ///
+    /// As for `scope_deps_answer`.
+    pub fn scope_deps_strict_sheet(
+        job: *const u8,
+        job_len: usize,
+        out: *mut u8,
+        out_len: usize,
+    ) -> i64;
 
     /// The same for the thin job, whose shortest buffer has `THIN_BYTES` bytes.
     ///
@@ -62,12 +86,34 @@ pub fn sheet(job: &[u8], out: &mut [u8]) -> Result<usize, u8> {
     outcome(unsafe { scope_deps_sheet(job.as_ptr(), job.len(), out.as_mut_ptr(), out.len()) })
 }
 
+/// Writes the answer of `job` by the strict propagation to the start of `out`, on the same
+/// terms. A block then takes paths over from its neighbours only where every one of them is
+/// done. So no returned path throws where the job has loops, either, on any finite run from a
+/// block with no predecessor, by way of the scope block, to a block with no successor, where
+/// what the run's blocks assume is there. Where the job has no loops the bytes are those of
+/// `answer`.
+///
+/// Refusal 9 counts the nodes of the strict propagation, which may be more or fewer.
+pub fn strict_answer(job: &[u8], out: &mut [u8]) -> Result<usize, u8> {
+    let (job_len, out_len) = (job.len(), out.len());
+    // SAFETY: as in `answer`.
+    outcome(unsafe { scope_deps_strict_answer(job.as_ptr(), job_len, out.as_mut_ptr(), out_len) })
+}
+
+/// Writes the sheet of `job` by the strict propagation to the start of `out`, on the same
+/// terms. It is refused where the strict answer is.
+pub fn strict_sheet(job: &[u8], out: &mut [u8]) -> Result<usize, u8> {
+    let (job_len, out_len) = (job.len(), out.len());
+    // SAFETY: as in `answer`.
+    outcome(unsafe { scope_deps_strict_sheet(job.as_ptr(), job_len, out.as_mut_ptr(), out_len) })
+}
+
 /// Writes the thin job of `job` to the start of `out`, on the same terms: the same job,
 /// but in each block, and among the candidates, without each path whose identifier and
 /// entries (optional marks counted, spans not) an earlier path of the same list has.
 ///
-/// Its answer and its sheet are those of `job`, or it is refused by 9 as `job` is. The
-/// thin job of a thin job is that job. Refusal 1 is that of a buffer of fewer than
+/// Its answer and its sheet are those of `job`, by either propagation, or it is refused by 9
+/// as `job` is. The thin job of a thin job is that job. Refusal 1 is that of a buffer of fewer than
 /// `THIN_BYTES` bytes, and 9 does not occur.
 pub fn thin(job: &[u8], out: &mut [u8]) -> Result<usize, u8> {
     // SAFETY: as in `answer`.

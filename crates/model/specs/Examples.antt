@@ -17,7 +17,7 @@ use Rattle.model.specs.Reduction.{Reduced, reduceMaybeOptionalChains}
 use Rattle.model.specs.Tree.{deriveMinimalDependencies}
 use Rattle.model.specs.Job.{Block}
 use Rattle.model.specs.Stage.{PathsEntered, enterPaths, propagated}
-use Rattle.model.specs.Propagation.{doneNeighbours}
+use Rattle.model.specs.Propagation.{JoiningRule, doneNeighbours}
 use Rattle.model.specs.Answer.{leastBuffer, Verdict, writes, answerOf}
 
 -- What an example says.
@@ -39,12 +39,16 @@ reducedPaths r = map (fullPathOf (r .registry)) (r .set)
 abbrev pub reduceEntered : PathsEntered → Reduced
 reduceEntered e = reduceMaybeOptionalChains (e .registry) (e .set)
 
+-- under a joining rule
+abbrev pub PropagatesTo : JoiningRule → List Block → List (List ReactiveScopeDependency) → ℕ → Type 0
+PropagatesTo rule blocks sets rounds =
+    let p = propagated rule blocks in
+    (map (map (fullPathOf (p .work .registry))) (p .work .sets) ≡ sets) × (p .rounds ≡ rounds) × (p .settled ≡ true)
+
 abbrev pub ExampleHolds : Example → Type 0
 ExampleHolds (tree hs cs ds) = deriveMinimalDependencies hs cs ≡ ds
 ExampleHolds (reduction before after) = reducedPaths (reduceEntered (enterPaths [] [] before)) ≡ after
-ExampleHolds (propagation blocks sets rounds) =
-    let p = propagated doneNeighbours blocks in
-    (map (map (fullPathOf (p .work .registry))) (p .work .sets) ≡ sets) × (p .rounds ≡ rounds) × (p .settled ≡ true)
+ExampleHolds (propagation blocks sets rounds) = PropagatesTo doneNeighbours blocks sets rounds
 ExampleHolds (bytes job answer) = (out : List ℕ) → leastBuffer ≤ length out → answerOf job out ≡ writes answer
 
 abbrev pub AllHold : List Example → Type 0
@@ -99,13 +103,13 @@ lastSpan s (e ∷ es) = lastSpan (e .span) es
 
 -- a path of identifier 1, returned, assumed or of a set: reactive as the first candidate is, with
 -- the span of its last entry, or the first candidate's where it has none
-abbrev one : List DependencyPathEntry → ReactiveScopeDependency
+abbrev pub one : List DependencyPathEntry → ReactiveScopeDependency
 one es = pathOf 1 true (lastSpan 1 es) es
 
-abbrev five : ReactiveScopeDependency
+abbrev pub five : ReactiveScopeDependency
 five = pathOf 5 true 0 []
 
-abbrev block : ℕ → List ℕ → List ReactiveScopeDependency → Block
+abbrev pub block : ℕ → List ℕ → List ReactiveScopeDependency → Block
 block id predecessors assumed =
     record { id = record { 0 = id }; predecessors = map (λ i. record { 0 = i }) predecessors; assumed = assumed }
 

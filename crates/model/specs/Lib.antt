@@ -15,10 +15,12 @@ pub mod Stage
 pub mod Answer
 pub mod JobBytes
 pub mod Thin
+pub mod Strict
 -- the examples of document 01, and others beside them
 pub mod PathExamples
 pub mod Examples
 pub mod ThinExamples
+pub mod StrictExamples
 -- laws
 pub mod Tests
 pub mod ListLaws

@@ -10,7 +10,17 @@ use lib.Dec.{eqb}
 use Rattle.model.specs.Tests.{decide, never, eqb-true, eqb-false}
 use Rattle.model.specs.ListLaws.{All}
 use Rattle.model.specs.Visit.{TraversalState, Unmarked, Done, isMarked, Visited, marked, each, visit}
-use Rattle.model.specs.VisitLaws.{Preorder, each-does, visit-does, visits-same, Makes, each-makes, visit-makes, visits-mark}
+use Rattle.model.specs.VisitLaws.{
+  Preorder,
+  each-does,
+  visit-does,
+  visits-same,
+  visits-natural,
+  Makes,
+  each-makes,
+  visit-makes,
+  visits-mark,
+}
 use Rattle.model.specs.Rounds.{placesFrom, jobOrder, walk, Rounds, roundsFrom}
 
 pub walk-does : {W : Type 0} (R : W → W → Type 0) → Preorder R → (near : ℕ → List ℕ) (join : ℕ → List TraversalState → W → W) →
@@ -110,6 +120,14 @@ pub walk-same : {W : Type 0} (P : W → Type 0) (near : ℕ → List ℕ) (f g :
 unfolding walk
 walk-same P near f g keeps same n order w p = ap (λ x. x .work)
     (visits-same P near f g keeps same order (record { marks = replicate n Unmarked; work = w }) p)
+
+-- and a walk is seen through h as a walk, where each join is
+pub walk-natural : {W U : Type 0} (h : W → U) (near : ℕ → List ℕ) (f : ℕ → List TraversalState → W → W)
+    (g : ℕ → List TraversalState → U → U) → ((b : ℕ) (ms : List TraversalState) (w : W) → h (f b ms w) ≡ g b ms (h w))
+    → (n : ℕ) (order : List ℕ) (w : W) → h (walk n near f order w) ≡ walk n near g order (h w)
+unfolding walk
+walk-natural h near f g natural n order w =
+    visits-natural h near f g natural order (record { marks = replicate n Unmarked; work = w })
 
 pub rounds-same : {W : Type 0} (P : W → Type 0) (changed : W → Bool) (f g : W → W) → ((w : W) → P w → P (f w)) → ((w : W) → P w → f w ≡ g w)
     → (most ran : ℕ) (w : W) → P w → roundsFrom changed f most ran w ≡ roundsFrom changed g most ran w

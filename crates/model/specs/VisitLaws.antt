@@ -221,6 +221,36 @@ module _ {W : Type 0} (P : W → Type 0) (near : ℕ → List ℕ) (f g : ℕ �
   visits-same bs x p = each-same (visit near f) (visit near g) (visit-does Keeps keeps-order near f keeps)
       (λ b y q. within-same (unmarkedIn (y .marks)) b y q) bs x p
 
+-- What is seen of the work through h, where each join is seen as a join: a visit is seen as a
+-- visit.
+module _ {W U : Type 0} (h : W → U) (near : ℕ → List ℕ) (f : ℕ → List TraversalState → W → W) (g : ℕ → List TraversalState → U → U)
+    (natural : (b : ℕ) (ms : List TraversalState) (w : W) → h (f b ms w) ≡ g b ms (h w)) where
+  abbrev through : Visited W → Visited U
+  through x = record { marks = x .marks; work = h (x .work) }
+
+  each-natural : (u : ℕ → Visited W → Visited W) (v : ℕ → Visited U → Visited U)
+      → ((b : ℕ) (x : Visited W) → through (u b x) ≡ v b (through x))
+      → (bs : List ℕ) (x : Visited W) → through (each u bs x) ≡ each v bs (through x)
+  each-natural u v s [] x = refl
+  each-natural u v s (b ∷ bs) x = each-natural u v s bs (u b x) ∙ ap (each v bs) (s b x)
+
+  within-natural : (most b : ℕ) (x : Visited W) → through (visitWithin most near f b x) ≡ visitWithin most near g b (through x)
+  unfolding visitWithin
+  within-natural zero b x = refl
+  within-natural (suc most) b x =
+      let mid = each (visitWithin most near f) (near b) (enter b x) in
+      decide (marked b x) (λ e. ap through (within-step near f most b x .0 e) ∙ sym (within-step near g most b (through x) .0 e))
+      (λ e.
+      ap through (within-step near f most b x .1 e)
+      ∙ (λ i. record { marks = set (mid .marks) b Done; work = natural b (mid .marks) (mid .work) i })
+      ∙ ap (leave g b) (each-natural (visitWithin most near f) (visitWithin most near g) (within-natural most) (near b) (enter b x))
+      ∙ sym (within-step near g most b (through x) .1 e))
+
+  pub visits-natural : (bs : List ℕ) (x : Visited W) → h (each (visit near f) bs x .work) ≡ each (visit near g) bs (through x) .work
+  unfolding visit
+  visits-natural bs x = ap (λ (y : Visited U). y .work)
+      (each-natural (visit near f) (visit near g) (λ b y. within-natural (unmarkedIn (y .marks)) b y) bs x)
+
 -- What a join makes of its block.
 
 marked-set : (ms : List TraversalState) (b : ℕ) (m : TraversalState) → isMarked m ≡ true → (a : ℕ) → isMarked

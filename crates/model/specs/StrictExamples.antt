@@ -1,0 +1,112 @@
+-- The strict propagation, computed, beside the existing one on the same blocks. Nodes are counted
+-- too, since 9 counts those of each run.
+use Prim.Native.Nat.{ℕ}
+use mathlib.Core.Path.{_≡_, refl}
+use mathlib.Core.List.{List, [], _∷_}
+use lib.ListN.{length}
+use Rattle.model.specs.Visit.{Unmarked, Active, Done}
+use Rattle.model.specs.Propagation.{JoiningRule, doneNeighbours}
+use Rattle.model.specs.Job.{Block}
+use Rattle.model.specs.Stage.{propagated}
+use Rattle.model.specs.Strict.{strictNeighbours}
+use Rattle.model.specs.Examples.{PropagatesTo, optional, plain, one, five, block}
+
+-- The rule by itself: "exactly when it has a neighbour and every neighbour is Done".
+
+pub all-join : strictNeighbours (Done ∷ Unmarked ∷ Done ∷ []) (0 ∷ 2 ∷ []) ≡ 0 ∷ 2 ∷ []
+unfolding strictNeighbours
+all-join = refl
+
+pub none-beside-active : strictNeighbours (Done ∷ Active ∷ Done ∷ []) (0 ∷ 1 ∷ 2 ∷ []) ≡ []
+unfolding strictNeighbours
+none-beside-active = refl
+
+pub none-beside-unmarked : strictNeighbours (Done ∷ Unmarked ∷ []) (0 ∷ 1 ∷ []) ≡ []
+unfolding strictNeighbours
+none-beside-unmarked = refl
+
+pub none-of-none : strictNeighbours (Done ∷ Done ∷ []) [] ≡ []
+unfolding strictNeighbours
+none-of-none = refl
+
+-- P3 of document 01, "a block holding a path that a run avoids": 3 holds 5 no more, since 1 is
+-- Active where 3 is joined.
+abbrev pub p3 : List Block
+p3 =
+    block 0 [] [] ∷ block 1 (0 ∷ 3 ∷ []) [] ∷ block 2 (1 ∷ []) (five ∷ []) ∷ block 3 (1 ∷ 2 ∷ []) [] ∷ block 4 (1 ∷ []) [] ∷ []
+
+pub p3-strict : PropagatesTo strictNeighbours p3 ([] ∷ [] ∷ (five ∷ []) ∷ [] ∷ [] ∷ []) 1
+unfolding propagated strictNeighbours
+p3-strict = (refl, refl, refl)
+
+-- A block that is its own predecessor, and after one that assumes 1: it is Active where it is
+-- joined forward, so under the strict rule it takes nothing over, though its other neighbour is
+-- Done.
+abbrev pub ownPredecessor : List Block
+ownPredecessor = block 0 [] (one [] ∷ []) ∷ block 1 (1 ∷ 0 ∷ []) [] ∷ []
+
+pub own-predecessor : PropagatesTo doneNeighbours ownPredecessor ((one [] ∷ []) ∷ (one [] ∷ []) ∷ []) 2
+unfolding propagated doneNeighbours
+own-predecessor = (refl, refl, refl)
+
+pub own-predecessor-strict : PropagatesTo strictNeighbours ownPredecessor ((one [] ∷ []) ∷ [] ∷ []) 1
+unfolding propagated strictNeighbours
+own-predecessor-strict = (refl, refl, refl)
+
+-- Beside a loop a path still comes through: 1 is its own predecessor, but both ways on from 0
+-- assume 5, and both are Done where 0 is joined backward.
+pub beside-loop-strict :
+    PropagatesTo strictNeighbours (block 0 [] [] ∷ block 1 (0 ∷ 1 ∷ []) (five ∷ []) ∷ block 2 (0 ∷ []) (five ∷ []) ∷ [])
+    ((five ∷ []) ∷ (five ∷ []) ∷ (five ∷ []) ∷ []) 2
+unfolding propagated strictNeighbours
+beside-loop-strict = (refl, refl, refl)
+
+-- And in a loop: 0 (after 1), 1 (after 0) assumes 5. The walk from 0 comes to 1 first, where 0 is
+-- Active and nothing joins; then 1 is Done where 0 is joined.
+pub in-loop-strict :
+    PropagatesTo strictNeighbours (block 0 (1 ∷ []) [] ∷ block 1 (0 ∷ []) (five ∷ []) ∷ []) ((five ∷ []) ∷ (five ∷ []) ∷ []) 2
+unfolding propagated strictNeighbours
+in-loop-strict = (refl, refl, refl)
+
+-- A loop with two entries, 2 (after 1, 3) and 3 (after 0, 2), of which 0 assumes 5 and 1 does not.
+-- The walk comes to 3 by way of 2, which is Active then: under the existing rule 3 takes 5 over
+-- from 0, and 4 (after 3) from 3, though 1, 2, 3, 4 avoids 0. Under the strict rule 3 takes nothing
+-- over.
+abbrev pub twoEntries : List Block
+twoEntries =
+    block 0 [] (five ∷ []) ∷ block 1 [] [] ∷ block 2 (1 ∷ 3 ∷ []) [] ∷ block 3 (0 ∷ 2 ∷ []) [] ∷ block 4 (3 ∷ []) [] ∷ []
+
+pub two-entries : PropagatesTo doneNeighbours twoEntries ((five ∷ []) ∷ [] ∷ [] ∷ (five ∷ []) ∷ (five ∷ []) ∷ []) 2
+unfolding propagated doneNeighbours
+two-entries = (refl, refl, refl)
+
+pub two-entries-strict : PropagatesTo strictNeighbours twoEntries ((five ∷ []) ∷ [] ∷ [] ∷ [] ∷ [] ∷ []) 1
+unfolding propagated strictNeighbours
+two-entries-strict = (refl, refl, refl)
+
+-- A block without a neighbour joins nothing, and its set is still reduced.
+pub alone-strict :
+    PropagatesTo strictNeighbours (block 7 [] (one [] ∷ one (optional 10 ∷ []) ∷ []) ∷ []) ((one [] ∷ one (plain 10 ∷ []) ∷ []) ∷ []) 2
+unfolding propagated strictNeighbours
+alone-strict = (refl, refl, refl)
+
+-- how many nodes a run ends with
+abbrev pub nodesOf : JoiningRule → List Block → ℕ
+nodesOf rule bs = length (propagated rule bs .work .registry)
+
+-- More under the strict rule: where 1 comes in from 0, 1?.10?.10 is reduced at once; where it does
+-- not, ..
+abbrev pub moreStrict : List Block
+moreStrict = block 0 [] (one [] ∷ []) ∷ block 1 (1 ∷ 0 ∷ []) (one (optional 10 ∷ []) ∷ one (optional 10 ∷ optional 10 ∷ []) ∷ []) ∷ []
+
+pub more-strict : (nodesOf doneNeighbours moreStrict ≡ 5) × (nodesOf strictNeighbours moreStrict ≡ 6)
+unfolding propagated doneNeighbours strictNeighbours
+more-strict = (refl, refl)
+
+-- More under the existing rule: 1 comes in from block 1, past block 0, and makes nodes.
+abbrev pub fewerStrict : List Block
+fewerStrict = block 0 [] [] ∷ block 1 (1 ∷ []) (one [] ∷ []) ∷ block 2 (1 ∷ 0 ∷ []) (one (optional 10 ∷ optional 10 ∷ []) ∷ []) ∷ []
+
+pub fewer-strict : (nodesOf doneNeighbours fewerStrict ≡ 5) × (nodesOf strictNeighbours fewerStrict ≡ 3)
+unfolding propagated doneNeighbours strictNeighbours
+fewer-strict = (refl, refl)
