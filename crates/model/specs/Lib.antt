@@ -31,3 +31,4 @@ pub mod ReductionLaws
 pub mod VisitLaws
 pub mod RoundsLaws
 pub mod PropagationLaws
+pub mod StrictLaws

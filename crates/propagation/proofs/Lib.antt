@@ -1,7 +1,7 @@
 pub mod Marks
 pub mod Intersecting
 pub mod Reductions
-pub mod Joining
+pub mod Joined
 pub mod Along
 pub mod Visiting
 pub mod Walking

@@ -1,2 +1,3 @@
+pub mod Rules
 pub mod Joins
 pub mod Propagates

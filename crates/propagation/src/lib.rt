@@ -12,6 +12,7 @@ ghost use Rattle.rows.specs.Members.{membersOf};
 ghost use Rattle.rows.specs.Rows.{rowsOf};
 ghost use Rattle.registry.specs.Words.{registryOf};
 ghost use Rattle.graph.specs.Bytes.{sizeIn, neighbours, GraphFits, graphIn};
+ghost use Rattle.propagation.specs.Rules.{ruleOf, asksAll};
 ghost use Rattle.propagation.specs.Joins.{
   marksOf,
   workOf,
@@ -29,6 +30,13 @@ ghost use Rattle.propagation.specs.Joins.{
 ghost use Rattle.propagation.specs.Propagates.{inOrder, walkIn, Propagates};
 use graph::Neighbour;
 use rows::NodeBits;
+
+// Which neighbours of a block join: those that are Done; or all, where every one is Done, and else
+// none.
+pub enum Joining {
+    DoneNeighbours,
+    StrictNeighbours,
+}
 
 // The intersection of some sets, where there are any.
 struct Intersection {
@@ -76,6 +84,16 @@ impl Intersection {
     }
 }
 
+// Whether a neighbour that is not Done keeps the others from joining.
+fn asks_all(joining: Joining) -> bool
+    ensures { λ r. ⌜ r ≡ asksAll joining ⌝ }
+{
+    match joining {
+        Joining::DoneNeighbours => false,
+        Joining::StrictNeighbours => true,
+    }
+}
+
 // The intersection with the set of neighbour k as well, where it is Done.
 fn with_neighbour(
     marks: &[u8; 128],
@@ -101,8 +119,9 @@ fn with_neighbour(
     }
 }
 
-// The intersection of the sets of a block's Done neighbours.
-fn intersection_of_done(
+// The intersection of the sets of those neighbours of a block that join.
+fn intersection_of_joining(
+    joining: Joining,
     graph: &[u8; 10497],
     backward: bool,
     b: usize,
@@ -111,7 +130,7 @@ fn intersection_of_done(
 ) -> NodeBits
     requires { ⌜ GraphFits (now graph) × (b < sizeIn (now graph)) ⌝ }
     ensures { λ r. ⌜ membersOf (r .words) ≡ intersectionOf
-        (setsToJoin doneNeighbours (sizeIn (now (graph .entry))) (now (marks .entry)) (now (sets .entry))
+        (setsToJoin (ruleOf joining) (sizeIn (now (graph .entry))) (now (marks .entry)) (now (sets .entry))
         (neighbours (now (graph .entry)) backward b)) ⌝ }
 {
     let mut found = Intersection::of_none();
@@ -120,6 +139,9 @@ fn intersection_of_done(
         let Neighbour::At(k, next) = graph::next_neighbour(graph, backward, b, from) else {
             return found.or_empty();
         };
+        if asks_all(joining) && marks[k] < 2 {
+            return NodeBits::empty();
+        }
         found = with_neighbour(marks, sets, k, found);
         from = next;
     }
@@ -128,6 +150,7 @@ fn intersection_of_done(
 // The block's set is joined with that intersection and reduced. In a walk later than the first it
 // was reduced before, so where nothing new joins, it stays.
 fn join(
+    joining: Joining,
     graph: &[u8; 10497],
     backward: bool,
     b: usize,
@@ -141,12 +164,12 @@ fn join(
     requires { ⌜ Ready (now graph) (now sets) (now ws) (now optional) × ReducedBefore later (sizeIn (now graph)) (now sets) (now ws)
         × (b < sizeIn (now graph)) ⌝ }
     ensures { λ r. ⌜ (let n = sizeIn (now (graph .entry)) in
-        Joins (joinIn doneNeighbours (now (graph .entry)) backward b (marksOf n (now (marks .entry)))
+        Joins (joinIn (ruleOf joining) (now (graph .entry)) backward b (marksOf n (now (marks .entry)))
         (workOf n (now (sets .entry)) (now (ws .entry)) changed))
         n r (now (sets .exit)) (now (ws .exit)) (now (optional .exit))) ⌝ }
 {
     let own = rows::row(sets, b);
-    let found = intersection_of_done(graph, backward, b, marks, sets);
+    let found = intersection_of_joining(joining, graph, backward, b, marks, sets);
     let all = own.union(found);
     if later && own.same_set(all) {
         return Progress::Changed(changed);
@@ -163,6 +186,7 @@ fn join(
 
 // A block's neighbours are visited: it joins, and is Done.
 fn leave(
+    joining: Joining,
     graph: &[u8; 10497],
     backward: bool,
     b: usize,
@@ -176,11 +200,12 @@ fn leave(
     requires { ⌜ Ready (now graph) (now sets) (now ws) (now optional) × ReducedBefore later (sizeIn (now graph)) (now sets) (now ws)
         × (b < sizeIn (now graph)) × (length (now marks) ≡ 128) ⌝ }
     ensures { λ r. ⌜ (let n = sizeIn (now (graph .entry)) in
-        Visits (leave (joinIn doneNeighbours (now (graph .entry)) backward) b
+        Visits (leave (joinIn (ruleOf joining) (now (graph .entry)) backward) b
         (visitedOf n (now (marks .entry)) (now (sets .entry)) (now (ws .entry)) changed))
         n r (now (marks .exit)) (now (sets .exit)) (now (ws .exit)) (now (optional .exit))) ⌝ }
 {
     let joined = join(
+        joining,
         graph,
         backward,
         b,
@@ -199,6 +224,7 @@ fn leave(
 // are visited. The work after them is `leave`'s, called at two places, so that its locals are in no
 // frame of the recursion.
 fn visit(
+    joining: Joining,
     graph: &[u8; 10497],
     backward: bool,
     b: usize,
@@ -212,7 +238,7 @@ fn visit(
     requires { ⌜ Ready (now graph) (now sets) (now ws) (now optional) × ReducedBefore later (sizeIn (now graph)) (now sets) (now ws)
         × (b < sizeIn (now graph)) × (length (now marks) ≡ 128) × (getD (now marks) b 0 ≡ 0) ⌝ }
     ensures { λ r. ⌜ (let n = sizeIn (now (graph .entry)) in
-        Visits (visitIn doneNeighbours (now (graph .entry)) backward b
+        Visits (visitIn (ruleOf joining) (now (graph .entry)) backward b
         (visitedOf n (now (marks .entry)) (now (sets .entry)) (now (ws .entry)) changed))
         n r (now (marks .exit)) (now (sets .exit)) (now (ws .exit)) (now (optional .exit))) ⌝ }
 {
@@ -221,10 +247,22 @@ fn visit(
     let mut from = 0;
     while from < 128 {
         let Neighbour::At(k, next) = graph::next_neighbour(graph, backward, b, from) else {
-            return leave(graph, backward, b, marks, sets, ws, optional, later, so_far);
+            return leave(
+                joining,
+                graph,
+                backward,
+                b,
+                marks,
+                sets,
+                ws,
+                optional,
+                later,
+                so_far,
+            );
         };
         if marks[k] == 0 {
             let Progress::Changed(c) = visit(
+                joining,
                 graph,
                 backward,
                 k,
@@ -241,7 +279,18 @@ fn visit(
         }
         from = next;
     }
-    leave(graph, backward, b, marks, sets, ws, optional, later, so_far)
+    leave(
+        joining,
+        graph,
+        backward,
+        b,
+        marks,
+        sets,
+        ws,
+        optional,
+        later,
+        so_far,
+    )
 }
 
 // Block i of a walk over n.
@@ -254,6 +303,7 @@ fn in_order(backward: bool, n: usize, i: usize) -> usize
 
 // A visit of each unmarked block in turn, with the marks cleared.
 fn walk(
+    joining: Joining,
     graph: &[u8; 10497],
     backward: bool,
     marks: &mut [u8; 128],
@@ -265,7 +315,7 @@ fn walk(
 ) -> Progress
     requires { ⌜ Ready (now graph) (now sets) (now ws) (now optional) × ReducedBefore later (sizeIn (now graph)) (now sets) (now ws) ⌝ }
     ensures { λ r. ⌜ (let n = sizeIn (now (graph .entry)) in
-        Joins (walkIn doneNeighbours (now (graph .entry)) backward (workOf n (now (sets .entry)) (now (ws .entry)) changed))
+        Joins (walkIn (ruleOf joining) (now (graph .entry)) backward (workOf n (now (sets .entry)) (now (ws .entry)) changed))
         n r (now (sets .exit)) (now (ws .exit)) (now (optional .exit))) ⌝ }
 {
     let n = graph::size(graph);
@@ -277,6 +327,7 @@ fn walk(
         i += 1;
         if marks[b] == 0 {
             let Progress::Changed(c) = visit(
+                joining,
                 graph,
                 backward,
                 b,
@@ -299,6 +350,7 @@ fn walk(
 // set changed; whether one had changed before the round is not read, so the contract may say
 // `true`.
 fn round(
+    joining: Joining,
     graph: &[u8; 10497],
     marks: &mut [u8; 128],
     sets: &mut [u64; 1024],
@@ -308,18 +360,29 @@ fn round(
 ) -> Progress
     requires { ⌜ Ready (now graph) (now sets) (now ws) (now optional) × ReducedBefore later (sizeIn (now graph)) (now sets) (now ws) ⌝ }
     ensures { λ r. ⌜ (let n = sizeIn (now (graph .entry)) in
-        Joins (round reduceMaybeOptionalChains doneNeighbours (graphIn (now (graph .entry)))
+        Joins (round reduceMaybeOptionalChains (ruleOf joining) (graphIn (now (graph .entry)))
         (workOf n (now (sets .entry)) (now (ws .entry)) true))
         n r (now (sets .exit)) (now (ws .exit)) (now (optional .exit))) ⌝ }
 {
-    let Progress::Changed(c) = walk(graph, false, marks, sets, ws, optional, later, false) else {
+    let Progress::Changed(c) = walk(
+        joining,
+        graph,
+        false,
+        marks,
+        sets,
+        ws,
+        optional,
+        later,
+        false,
+    ) else {
         return Progress::Full;
     };
-    walk(graph, true, marks, sets, ws, optional, true, c)
+    walk(joining, graph, true, marks, sets, ws, optional, true, c)
 }
 
 // At most 100 rounds; the one that changes nothing is the last.
 pub fn propagate_non_null(
+    joining: Joining,
     graph: &[u8; 10497],
     sets: &mut [u64; 1024],
     ws: &mut [u64; 1665],
@@ -327,15 +390,22 @@ pub fn propagate_non_null(
 ) -> Propagated
     requires { ⌜ Ready (now graph) (now sets) (now ws) (now optional) ⌝ }
     ensures { λ r. ⌜ (let n = sizeIn (now (graph .entry)) in
-        Propagates (propagateNonNull doneNeighbours (graphIn (now (graph .entry))) (registryOf (now (ws .entry)))
+        Propagates (propagateNonNull (ruleOf joining) (graphIn (now (graph .entry))) (registryOf (now (ws .entry)))
         (rowsOf (now (sets .entry)) n))
         n r (now (sets .exit)) (now (ws .exit)) (now (optional .exit))) ⌝ }
 {
     let mut marks = [0u8; 128];
     let mut rounds = 0;
     while rounds < 100 {
-        let Progress::Changed(changed) = round(graph, &mut marks, sets, ws, optional, 0 < rounds)
-        else {
+        let Progress::Changed(changed) = round(
+            joining,
+            graph,
+            &mut marks,
+            sets,
+            ws,
+            optional,
+            0 < rounds,
+        ) else {
             return Propagated::Full;
         };
         rounds += 1;

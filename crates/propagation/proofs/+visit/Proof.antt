@@ -10,7 +10,7 @@ use borrow.Author.Needs.{needs}
 use borrow.Fn.Kinds.{In}
 use borrow.Fn.PlainCycle.{Measures, is, falls, and}
 use Rattle.model.specs.Visit.{unmarkedIn}
-use Rattle.model.specs.Propagation.{doneNeighbours}
+use Rattle.propagation.specs.Rules.{ruleOf}
 use Rattle.graph.specs.Bytes.{sizeIn, Next}
 use Rattle.graph.proofs.Neighbours.{found-at, found-nothing, none-past}
 use Rattle.propagation.specs.Joins.{marksOf, visitedOf, Ready, ReducedBefore}
@@ -37,7 +37,7 @@ use Rattle.propagation.proofs.+visit.{statement}
 use Rattle.propagation.proofs.+visit.Tie.{close}
 
 abbrev μ-visit : Measures 5 visit-kinds.ps ℕ
-μ-visit κs a = unmarkedIn (marksOf (sizeIn (a .0 .now)) (a .1 .1 .1 .0 .now))
+μ-visit κs a = unmarkedIn (marksOf (sizeIn (a .1 .0 .now)) (a .1 .1 .1 .1 .0 .now))
 
 abbrev at : ℕ → In 5 visit-kinds.ps
 at t = and 5 visit-kinds.ps (is 5 visit-kinds.ps μ-visit t) visit.Pre
@@ -50,11 +50,11 @@ abbrev claims : ℕ → lts.Claims
 claims t = (next-neighbour-reads.Asked, next-neighbour-reads.Learnt, leave-reads.Asked, leave-reads.Learnt, below t, visit.Post)
 
 abbrev Inv-loop : lts.InvT-loop
-Inv-loop graph backward b marks₀ sets₀ ws₀ optional₀ later changed so-far₀ from₀ marks sets ws optional so-far from =
-    Neighbouring doneNeighbours graph backward later b (visitedOf (sizeIn graph) marks₀ sets₀ ws₀ so-far₀) marks sets ws optional so-far from
+Inv-loop joining graph backward b marks₀ sets₀ ws₀ optional₀ later changed so-far₀ from₀ marks sets ws optional so-far from =
+    Neighbouring (ruleOf joining) graph backward later b (visitedOf (sizeIn graph) marks₀ sets₀ ws₀ so-far₀) marks sets ws optional so-far from
 
 abbrev μ-loop : lts.MeasureT-loop
-μ-loop graph backward b marks₀ sets₀ ws₀ optional₀ later changed so-far₀ from₀ marks sets ws optional so-far from = 128 - from
+μ-loop joining graph backward b marks₀ sets₀ ws₀ optional₀ later changed so-far₀ from₀ marks sets ws optional so-far from = 128 - from
 
 -- The ways back. Each `&mut` that a call is passed is a place of its own.
 
@@ -78,7 +78,7 @@ enters : (t : ℕ) (s : lts.Start (claims t) (at t) visit.Post Inv-loop μ-loop)
 enters t s = record { ready = s .pre .1 .0; before = s .pre .1 .1; inside = s .pre .1 .2; long = s .pre .1 .3; unmarked = s .pre .1 .4 }
 
 looping : (t : ℕ) (l : lts.At-loop (claims t) (at t) visit.Post Inv-loop μ-loop) → let a = entry t l .args in
-    Looping doneNeighbours (a .graph .now) (a .backward) (a .later) (a .b) (a .marks .now) (a .sets .now) (a .ws .now) (a .optional .now) (a .changed)
+    Looping (ruleOf (a .joining)) (a .graph .now) (a .backward) (a .later) (a .b) (a .marks .now) (a .sets .now) (a .ws .now) (a .optional .now) (a .changed)
     (l .loop .marks) (l .loop .sets) (l .loop .ws) (l .loop .optional) (l .loop .so-far) (l .loop .from)
 looping t l = record { entry = enters t (entry t l); inv = l .loop .inv }
 
@@ -98,7 +98,7 @@ element-write-marks : (t : ℕ) → lts.Need-element-write-marks (claims t) (at 
 element-write-marks t c = block-inside (enters t c)
 
 loop-holds : (t : ℕ) → lts.Need-loop-holds (claims t) (at t) visit.Post Inv-loop μ-loop
-loop-holds t c = neighbours-start (enters t c) doneNeighbours (c .args .backward) (c .args .changed)
+loop-holds t c = neighbours-start (enters t c) (ruleOf (c .args .joining)) (c .args .backward) (c .args .changed)
 
 next-neighbour-requires : (t : ℕ) → lts.Need-next-neighbour-requires (claims t) (at t) visit.Post Inv-loop μ-loop
 next-neighbour-requires t c κs = let s = entry t (c .before) in (s .pre .1 .0 .fits, s .pre .1 .2)

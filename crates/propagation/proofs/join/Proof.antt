@@ -5,8 +5,8 @@
 use native.Mathlib.Omega.{arith}
 use mathlib.Core.Path.{refl, sym, _∙_}
 use borrow.Author.Needs.{needs}
-use Rattle.model.specs.Propagation.{doneNeighbours}
-use Rattle.propagation.proofs.Joining.{Made, join-members, join-known, join-still, join-full, join-holds}
+use Rattle.propagation.specs.Rules.{ruleOf}
+use Rattle.propagation.proofs.Joined.{Made, join-members, join-known, join-still, join-full, join-holds}
 use Rattle.propagation.proofs.join.Statement.{statement}
 use Rattle.propagation.proofs.join.Tie as tie
 
@@ -17,21 +17,21 @@ abbrev reduced : tie.After-reduce-maybe-optional-chains → tie.After-union
 reduced r = r .before .before .before .before
 
 made : (u : tie.After-union) → let a = entry u .args in
-    Made doneNeighbours (a .graph .now) (a .backward) (a .b) (a .marks .now) (a .sets .now) (a .ws .now) (a .optional .now)
-    (u .before .before .before .row .result .words) (u .before .intersection-of-done .result .words) (u .union .result .words)
+    Made (ruleOf (a .joining)) (a .graph .now) (a .backward) (a .b) (a .marks .now) (a .sets .now) (a .ws .now) (a .optional .now)
+    (u .before .before .before .row .result .words) (u .before .intersection-of-joining .result .words) (u .union .result .words)
 made u = record {
   ready = entry u .pre .0;
   inside = entry u .pre .2;
   own-is = u .before .before .before .row .ensures;
-  found-is = u .before .intersection-of-done .ensures;
+  found-is = u .before .intersection-of-joining .ensures;
   all-is = u .union .ensures;
 }
 
 row-requires : tie.Need-row-requires
 row-requires c κs = let s = c .before in let few = s .pre .0 .fits .size in let inside = s .pre .2 in omega arith
 
-intersection-of-done-requires : tie.Need-intersection-of-done-requires
-intersection-of-done-requires c κs = let s = c .before .before .before in (s .pre .0 .fits, s .pre .2)
+intersection-of-joining-requires : tie.Need-intersection-of-joining-requires
+intersection-of-joining-requires c κs = let s = c .before .before .before in (s .pre .0 .fits, s .pre .2)
 
 reduce-maybe-optional-chains-requires : tie.Need-reduce-maybe-optional-chains-requires
 reduce-maybe-optional-chains-requires c κs = let u = c .before .before .before in
@@ -69,7 +69,7 @@ join-spec =
     tie.close
     (tie.spec
     row-requires
-    intersection-of-done-requires
+    intersection-of-joining-requires
     (λ c κs. search needs)
     (λ c κs. search needs)
     returns

@@ -4,7 +4,8 @@ use Prim.Native.Nat.{_-_}
 use native.Mathlib.Omega.{arith}
 use borrow.Author.Tests.{not-true, not-false}
 use borrow.Author.Needs.{needs}
-use Rattle.model.specs.Propagation.{doneNeighbours, propagateNonNull}
+use Rattle.model.specs.Propagation.{propagateNonNull}
+use Rattle.propagation.specs.Rules.{ruleOf}
 use Rattle.rows.specs.Rows.{rowsOf}
 use Rattle.registry.specs.Words.{registryOf}
 use Rattle.graph.specs.Bytes.{sizeIn, graphIn}
@@ -13,17 +14,17 @@ use Rattle.propagation.proofs.propagate_non_null.Statement.{statement}
 use Rattle.propagation.proofs.propagate_non_null.Tie as tie
 
 abbrev Inv-loop : tie.InvT-loop
-Inv-loop graph sets₀ ws₀ optional₀ marks₀ rounds₀ sets ws optional marks rounds =
-    Rounding doneNeighbours graph (propagateNonNull doneNeighbours (graphIn graph) (registryOf ws₀) (rowsOf sets₀ (sizeIn graph))) sets ws optional rounds
+Inv-loop joining graph sets₀ ws₀ optional₀ marks₀ rounds₀ sets ws optional marks rounds =
+    Rounding (ruleOf joining) graph (propagateNonNull (ruleOf joining) (graphIn graph) (registryOf ws₀) (rowsOf sets₀ (sizeIn graph))) sets ws optional rounds
 
 abbrev μ-loop : tie.MeasureT-loop
-μ-loop graph sets₀ ws₀ optional₀ marks₀ rounds₀ sets ws optional marks rounds = 100 - rounds
+μ-loop joining graph sets₀ ws₀ optional₀ marks₀ rounds₀ sets ws optional marks rounds = 100 - rounds
 
 abbrev to-round : tie.After-round-arg3 Inv-loop μ-loop → tie.In-loop Inv-loop μ-loop
 to-round a = a .before .before .before .before
 
 loop-holds : tie.Need-loop-holds Inv-loop μ-loop
-loop-holds c = let a = c .args in rounds-start doneNeighbours (a .graph .now) (a .sets .now) (a .ws .now) (a .optional .now) (c .pre .stands)
+loop-holds c = let a = c .args in rounds-start (ruleOf (a .joining)) (a .graph .now) (a .sets .now) (a .ws .now) (a .optional .now) (c .pre .stands)
 
 round-requires : tie.Need-round-requires Inv-loop μ-loop
 round-requires c κs = let l = to-round c .before in (record { fits = l .before .pre .fits; stands = l .loop .inv .stands }, l .loop .inv .before)

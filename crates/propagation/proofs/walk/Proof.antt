@@ -5,7 +5,7 @@ use Prim.Native.Nat.{_+_, _-_, _<_}
 use native.Mathlib.Omega.{arith}
 use mathlib.Core.List.{_∷_}
 use borrow.Author.Needs.{needs}
-use Rattle.model.specs.Propagation.{doneNeighbours}
+use Rattle.propagation.specs.Rules.{ruleOf}
 use Rattle.graph.specs.Bytes.{sizeIn}
 use Rattle.propagation.specs.Joins.{workOf}
 use Rattle.propagation.proofs.Along.{Along, along-by, along-marked, along-more, along-full}
@@ -14,12 +14,12 @@ use Rattle.propagation.proofs.walk.Statement.{statement}
 use Rattle.propagation.proofs.walk.Tie as tie
 
 abbrev Inv-loop : tie.InvT-loop
-Inv-loop graph backward marks₀ sets₀ ws₀ optional₀ later changed n so-far₀ i₀ marks sets ws optional so-far i =
-    Along doneNeighbours graph backward later (orderFrom backward n i)
-    (walkEnd doneNeighbours graph backward (workOf (sizeIn graph) sets₀ ws₀ so-far₀)) marks sets ws optional so-far
+Inv-loop joining graph backward marks₀ sets₀ ws₀ optional₀ later changed n so-far₀ i₀ marks sets ws optional so-far i =
+    Along (ruleOf joining) graph backward later (orderFrom backward n i)
+    (walkEnd (ruleOf joining) graph backward (workOf (sizeIn graph) sets₀ ws₀ so-far₀)) marks sets ws optional so-far
 
 abbrev μ-loop : tie.MeasureT-loop
-μ-loop graph backward marks₀ sets₀ ws₀ optional₀ later changed n so-far₀ i₀ marks sets ws optional so-far i = n - i
+μ-loop joining graph backward marks₀ sets₀ ws₀ optional₀ later changed n so-far₀ i₀ marks sets ws optional so-far i = n - i
 
 -- The ways back.
 
@@ -34,9 +34,9 @@ of-visit a = to-visit a .before .before
 
 -- the block that is visited next is the first of those to come
 next : (o : tie.After-in-order Inv-loop μ-loop) → let l = o .before .before in let a = entry l .args in
-    Along doneNeighbours (a .graph .now) (a .backward) (a .later)
+    Along (ruleOf (a .joining)) (a .graph .now) (a .backward) (a .later)
     (o .in-order .result ∷ orderFrom (a .backward) (l .before .before .size .result) (l .loop .i + 1))
-    (walkEnd doneNeighbours (a .graph .now) (a .backward) (workOf (sizeIn (a .graph .now)) (a .sets .now) (a .ws .now) (a .changed)))
+    (walkEnd (ruleOf (a .joining)) (a .graph .now) (a .backward) (workOf (sizeIn (a .graph .now)) (a .sets .now) (a .ws .now) (a .changed)))
     (l .loop .marks) (l .loop .sets) (l .loop .ws) (l .loop .optional) (l .loop .so-far)
 next o = let l = o .before .before in walk-next (l .before .before .size .result) (l .loop .i) (l .loop .inv) (o .before .loop-test .taken)
     (o .in-order .ensures .0)
@@ -46,7 +46,7 @@ inside : (o : tie.After-in-order Inv-loop μ-loop) → o .in-order .result < siz
 inside o = let below = o .in-order .ensures .1 in let n = o .before .before .before .before .size .ensures in omega arith
 
 loop-holds : tie.Need-loop-holds Inv-loop μ-loop
-loop-holds c = let s = c .before .before in walk-start doneNeighbours (s .pre .0) (s .args .backward) (s .args .later) (s .pre .1)
+loop-holds c = let s = c .before .before in walk-start (ruleOf (s .args .joining)) (s .pre .0) (s .args .backward) (s .args .later) (s .pre .1)
     (c .before .size .result) (c .before .size .ensures) (s .args .changed)
 
 element-copy-out-if1 : tie.Need-element-copy-out-if1 Inv-loop μ-loop
