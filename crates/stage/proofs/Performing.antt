@@ -34,6 +34,7 @@ use Rattle.model.specs.Answer.{
   sheetOf,
   bufferAfter,
 }
+use Rattle.model.specs.Strict.{strictNeighbours, strictAnswerOf, strictSheetOf}
 use Rattle.registry.specs.Words.{registryOf, Held}
 use Rattle.registry.proofs.View.{registry-length}
 use Rattle.writer.specs.Writes.{Writes}
@@ -100,7 +101,7 @@ pub read-refused : (rule : JoiningRule) (op : Operation) (s : List ℕ) {r : Ref
 unfolding jobVerdict
 read-refused rule op s e = ap (onJob rule (operationBytes op spanWidth)) e
 
--- The two operations.
+-- The operations, each under its rule.
 
 pub answer-verdict : (s out : List ℕ) → verdictOf doneNeighbours operation.Answer s out ≡ answerOf s out
 unfolding verdictOf answerOf
@@ -109,3 +110,11 @@ answer-verdict s out = refl
 pub sheet-verdict : (s out : List ℕ) → verdictOf doneNeighbours operation.Sheet s out ≡ sheetOf s out
 unfolding verdictOf sheetOf
 sheet-verdict s out = refl
+
+pub strict-answer-verdict : (s out : List ℕ) → verdictOf strictNeighbours operation.Answer s out ≡ strictAnswerOf s out
+unfolding verdictOf strictAnswerOf
+strict-answer-verdict s out = refl
+
+pub strict-sheet-verdict : (s out : List ℕ) → verdictOf strictNeighbours operation.Sheet s out ≡ strictSheetOf s out
+unfolding verdictOf strictSheetOf
+strict-sheet-verdict s out = refl

@@ -55,7 +55,7 @@ pub record Meets (v : Verdict) (r : Outcome) (before after : List ℕ) : Type 0 
   pub buffer : after ≡ bufferAfter v before
 
 -- The verdict of an operation under a joining rule, on any bytes and any buffer (`answerOf`,
--- `sheetOf`).
+-- `sheetOf`, `strictAnswerOf`, `strictSheetOf`).
 unfoldable pub verdictOf : JoiningRule → Operation → List ℕ → List ℕ → Verdict
 unfolding verdict
 verdictOf rule op s out = verdict HD spanWidth rule (operationBytes op) s out

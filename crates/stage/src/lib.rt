@@ -1,15 +1,16 @@
-// The operations on a job's bytes: its answer, its sheet and its thin job, written into an out
-// buffer, or the refusal.
+// The operations on a job's bytes: its answer and its sheet, by the existing propagation or by the
+// strict one, and its thin job, written into an out buffer, or the refusal.
 ghost use mathlib.Core.Path.{_≡_};
 ghost use Prim.Native.Nat.{_≤_, _<_};
 ghost use lib.ListN.{length};
 ghost use Rattle.model.specs.Answer.{leastBuffer, answerOf, sheetOf, bufferAfter, numberReturned};
 ghost use Rattle.model.specs.Thin.{thinOf};
+ghost use Rattle.model.specs.Strict.{strictAnswerOf, strictSheetOf};
 ghost use Rattle.rows.specs.Rows.{Lent};
 ghost use Rattle.registry.specs.Words.{HoldsNone};
 ghost use Rattle.stage.specs.declared.Operation.the-variants.{Answer};
 ghost use Rattle.edges.specs.Fills.{NotedJob};
-ghost use Rattle.model.specs.Propagation.{doneNeighbours};
+ghost use Rattle.propagation.specs.Rules.{ruleOf};
 ghost use Rattle.stage.specs.Jobs.{
   AcceptedJob,
   Standing,
@@ -24,6 +25,7 @@ ghost use Rattle.stage.specs.Jobs.{
 use entries::Refusal;
 use job::JobHead;
 use job::ReadJob;
+use propagation::Joining;
 use propagation::Propagated;
 use propagation::RoundsRun;
 
@@ -41,6 +43,7 @@ pub enum Outcome {
 
 // Enters the assumed paths, fills the graph and propagates.
 fn propagate(
+    joining: Joining,
     s: &[u8],
     ids: &[u32; 128],
     places: &[usize; 128],
@@ -50,7 +53,7 @@ fn propagate(
     sets: &mut [u64; 1024],
 ) -> Propagated
     requires { ⌜ NotedJob (now s) (now ids) (now places) blocks × HoldsNone (now ws) (now optional) × Lent (now sets) ⌝ }
-    ensures { λ r. ⌜ PropagatesJob doneNeighbours (now (s .entry)) blocks r (now (sets .exit)) (now (ws .exit)) (now (optional .exit)) ⌝ }
+    ensures { λ r. ⌜ PropagatesJob (ruleOf joining) (now (s .entry)) blocks r (now (sets .exit)) (now (ws .exit)) (now (optional .exit)) ⌝ }
 {
     let entered = assumed::enter_blocks(s, places, blocks, ws, optional, sets);
     let assumed::BlocksEntered::All = entered else {
@@ -58,7 +61,7 @@ fn propagate(
     };
     let mut graph = [0u8; 10497];
     edges::fill_graph(s, ids, places, blocks, &mut graph);
-    propagation::propagate_non_null(&graph, sets, ws, optional)
+    propagation::propagate_non_null(joining, &graph, sets, ws, optional)
 }
 
 // The answer of a job that was propagated: the scope block's set is found by the block's place.
@@ -125,6 +128,7 @@ fn put(
 
 // The operation on a job that was read: refusal 9, or its bytes.
 fn perform_read(
+    joining: Joining,
     operation: Operation,
     s: &[u8],
     ids: &[u32; 128],
@@ -133,12 +137,13 @@ fn perform_read(
     out: &mut [u8],
 ) -> Outcome
     requires { ⌜ AcceptedJob (now s) (now ids) (now places) head × (leastBuffer ≤ length (now out)) ⌝ }
-    ensures { λ r. ⌜ Meets (jobVerdict doneNeighbours operation (now (s .entry))) r (now (out .entry)) (now (out .exit)) ⌝ }
+    ensures { λ r. ⌜ Meets (jobVerdict (ruleOf joining) operation (now (s .entry))) r (now (out .entry)) (now (out .exit)) ⌝ }
 {
     let mut ws = [0u64; 1665];
     let mut optional = [0u64; 8];
     let mut sets = [0u64; 1024];
     let propagated = propagate(
+        joining,
         s,
         ids,
         places,
@@ -154,9 +159,9 @@ fn perform_read(
     Outcome::Written(written)
 }
 
-// The operation on any bytes and any buffer.
-pub fn perform(operation: Operation, s: &[u8], out: &mut [u8]) -> Outcome
-    ensures { λ r. ⌜ Meets (verdictOf doneNeighbours operation (now (s .entry)) (now (out .entry))) r (now (out .entry))
+// The operation on any bytes and any buffer, by the propagation of a joining rule.
+pub fn perform(joining: Joining, operation: Operation, s: &[u8], out: &mut [u8]) -> Outcome
+    ensures { λ r. ⌜ Meets (verdictOf (ruleOf joining) operation (now (s .entry)) (now (out .entry))) r (now (out .entry))
         (now (out .exit)) ⌝ }
 {
     if out.len() < 24576 {
@@ -169,7 +174,7 @@ pub fn perform(operation: Operation, s: &[u8], out: &mut [u8]) -> Outcome
     let mut places = [0usize; 128];
     let read = reader::read_job(s, &mut ids, &mut places);
     match read {
-        ReadJob::Value(head) => perform_read(operation, s, &ids, &places, head, out),
+        ReadJob::Value(head) => perform_read(joining, operation, s, &ids, &places, head, out),
         ReadJob::Refused(refusal) => Outcome::Refused(refusal),
     }
 }
@@ -178,14 +183,28 @@ pub fn perform(operation: Operation, s: &[u8], out: &mut [u8]) -> Outcome
 pub fn answer(s: &[u8], out: &mut [u8]) -> Outcome
     ensures { λ r. ⌜ Meets (answerOf (now (s .entry)) (now (out .entry))) r (now (out .entry)) (now (out .exit)) ⌝ }
 {
-    perform(Operation::Answer, s, out)
+    perform(Joining::DoneNeighbours, Operation::Answer, s, out)
 }
 
 // The sheet of a job, in the out buffer, or the refusal.
 pub fn sheet(s: &[u8], out: &mut [u8]) -> Outcome
     ensures { λ r. ⌜ Meets (sheetOf (now (s .entry)) (now (out .entry))) r (now (out .entry)) (now (out .exit)) ⌝ }
 {
-    perform(Operation::Sheet, s, out)
+    perform(Joining::DoneNeighbours, Operation::Sheet, s, out)
+}
+
+// The answer of a job by the strict propagation, in the out buffer, or the refusal.
+pub fn strict_answer(s: &[u8], out: &mut [u8]) -> Outcome
+    ensures { λ r. ⌜ Meets (strictAnswerOf (now (s .entry)) (now (out .entry))) r (now (out .entry)) (now (out .exit)) ⌝ }
+{
+    perform(Joining::StrictNeighbours, Operation::Answer, s, out)
+}
+
+// The sheet of a job by the strict propagation, in the out buffer, or the refusal.
+pub fn strict_sheet(s: &[u8], out: &mut [u8]) -> Outcome
+    ensures { λ r. ⌜ Meets (strictSheetOf (now (s .entry)) (now (out .entry))) r (now (out .entry)) (now (out .exit)) ⌝ }
+{
+    perform(Joining::StrictNeighbours, Operation::Sheet, s, out)
 }
 
 // The thin job of a job, in the out buffer, or the refusal. Nothing is propagated, so that 9 does
@@ -238,6 +257,24 @@ pub extern "C" fn scope_deps_sheet(job: &[u8], out: &mut [u8]) -> i64
         (now (out .exit) ≡ bufferAfter (sheetOf (now (job .entry)) (now (out .entry))) (now (out .entry))) ⌝ }
 {
     let outcome = sheet(job, out);
+    outcome.number()
+}
+
+#[no_mangle]
+pub extern "C" fn scope_deps_strict_answer(job: &[u8], out: &mut [u8]) -> i64
+    ensures { λ r. ⌜ (r ≡ numberReturned (strictAnswerOf (now (job .entry)) (now (out .entry)))) ×
+        (now (out .exit) ≡ bufferAfter (strictAnswerOf (now (job .entry)) (now (out .entry))) (now (out .entry))) ⌝ }
+{
+    let outcome = strict_answer(job, out);
+    outcome.number()
+}
+
+#[no_mangle]
+pub extern "C" fn scope_deps_strict_sheet(job: &[u8], out: &mut [u8]) -> i64
+    ensures { λ r. ⌜ (r ≡ numberReturned (strictSheetOf (now (job .entry)) (now (out .entry)))) ×
+        (now (out .exit) ≡ bufferAfter (strictSheetOf (now (job .entry)) (now (out .entry))) (now (out .entry))) ⌝ }
+{
+    let outcome = strict_sheet(job, out);
     outcome.number()
 }
 

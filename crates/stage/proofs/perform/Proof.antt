@@ -6,8 +6,8 @@ use lib.ListN.{length, length-replicate}
 use denote.Ref.{now}
 use borrow.Author.Needs.{needs}
 use Rattle.model.specs.Answer.{Verdict}
+use Rattle.propagation.specs.Rules.{ruleOf}
 use Rattle.stage.specs.Jobs.{Meets}
-use Rattle.model.specs.Propagation.{doneNeighbours}
 use Rattle.stage.proofs.Performing.{refuses, short-refused, long-refused, by-job, read-refused}
 use Rattle.stage.proofs.Accepting.{accepts, refused-so}
 use Rattle.stage.proofs.perform.Statement.{statement}
@@ -15,11 +15,11 @@ use Rattle.stage.proofs.perform.Tie as tie
 
 returns : tie.Need-returns
 returns c = let a = c .before .before .before in refuses
-    (short-refused doneNeighbours (a .args .operation) (now (a .args .s)) (now (a .args .out)) (c .if1 .taken))
+    (short-refused (ruleOf (a .args .joining)) (a .args .operation) (now (a .args .s)) (now (a .args .out)) (c .if1 .taken))
 
 returns-2 : tie.Need-returns-2
 returns-2 c = let a = c .before .before .before .before in refuses
-    (long-refused doneNeighbours (a .args .operation) (now (a .args .s)) (now (a .args .out)) (c .before .if1 .left) (c .if2 .taken))
+    (long-refused (ruleOf (a .args .joining)) (a .args .operation) (now (a .args .s)) (now (a .args .out)) (c .before .if1 .left) (c .if2 .taken))
 
 perform-read-requires : tie.Need-perform-read-requires
 perform-read-requires c κs =
@@ -39,8 +39,9 @@ returns-3 c =
     let r = k .before .before in
     let i = r .before .before .before in
     let a = i .before .before .before .before in
-    subst (λ (v : Verdict). Meets v (p .perform-read .result) (now (a .args .out)) (p .perform-read .last .1 .1 .1 .1 .1 .0))
-    (sym (by-job doneNeighbours (a .args .operation) (now (a .args .s)) (now (a .args .out)) (i .before .if1 .left) (i .if2 .left))) (p .perform-read .ensures)
+    subst (λ (v : Verdict). Meets v (p .perform-read .result) (now (a .args .out)) (p .perform-read .last .1 .1 .1 .1 .1 .1 .0))
+    (sym (by-job (ruleOf (a .args .joining)) (a .args .operation) (now (a .args .s)) (now (a .args .out)) (i .before .if1 .left) (i .if2 .left)))
+    (p .perform-read .ensures)
 
 returns-4 : tie.Need-returns-4
 returns-4 c =
@@ -49,8 +50,8 @@ returns-4 c =
     let i = r .before .before .before in
     let a = i .before .before .before .before in
     let e = r .read-job .ensures in
-    refuses (by-job doneNeighbours (a .args .operation) (now (a .args .s)) (now (a .args .out)) (i .before .if1 .left) (i .if2 .left)
-    ∙ read-refused doneNeighbours (a .args .operation) (now (a .args .s)) (refused-so _ (sym (k .read2 .given .1) ∙ e .0)))
+    refuses (by-job (ruleOf (a .args .joining)) (a .args .operation) (now (a .args .s)) (now (a .args .out)) (i .before .if1 .left) (i .if2 .left)
+    ∙ read-refused (ruleOf (a .args .joining)) (a .args .operation) (now (a .args .s)) (refused-so _ (sym (k .read2 .given .1) ∙ e .0)))
 
 pub perform-spec : {M : Type 1} → statement M
 perform-spec =

@@ -6,10 +6,10 @@ use mathlib.Core.Path.{_≡_, sym, ap, _∙_}
 use lib.ListN.{length-replicate}
 use denote.Ref.{now}
 use borrow.Author.Needs.{needs}
-use Rattle.model.specs.Propagation.{doneNeighbours}
 use Rattle.model.specs.Stage.{propagated}
 use Rattle.laws.specs.Fits.{rounds-fit}
 use Rattle.registry.proofs.Noted.{zeros-hold-none}
+use Rattle.propagation.specs.Rules.{ruleOf}
 use Rattle.propagation.proofs.Answers.{propagated-ran, propagated-full, propagated-rounds}
 use Rattle.stage.proofs.Propagating.{job-propagated}
 use Rattle.stage.proofs.Performing.{refuses, stands-written, full-refused, room-written}
@@ -27,8 +27,9 @@ returns c =
     let a = r .before .before .before .before .before .before in
     let noted = a .pre .0 .noted in
     let x = r .propagate in
-    refuses (full-refused doneNeighbours (a .args .operation) (now (a .args .s)) (noted .job) (noted .blocks .end) (noted .blocks .reads)
-    (propagated-full _ _ (x .result) _ _ _ (job-propagated noted doneNeighbours (x .result) _ _ _ (x .ensures)) (c .enum-told .given .1)))
+    let rule = ruleOf (a .args .joining) in
+    refuses (full-refused rule (a .args .operation) (now (a .args .s)) (noted .job) (noted .blocks .end) (noted .blocks .reads)
+    (propagated-full _ _ (x .result) _ _ _ (job-propagated noted rule (x .result) _ _ _ (x .ensures)) (c .enum-told .given .1)))
 
 put-requires : tie.Need-put-requires
 put-requires c κs =
@@ -37,8 +38,9 @@ put-requires c κs =
     let a = r .before .before .before .before .before .before in
     let noted = a .pre .0 .noted in
     let x = r .propagate in
-    let held = propagated-ran _ _ (x .result) _ _ _ (job-propagated noted doneNeighbours (x .result) _ _ _ (x .ensures)) _ (k .propagated .given .1) in
-    let few = rounds-fit doneNeighbours (noted .job) in
+    let rule = ruleOf (a .args .joining) in
+    let held = propagated-ran _ _ (x .result) _ _ _ (job-propagated noted rule (x .result) _ _ _ (x .ensures)) _ (k .propagated .given .1) in
+    let few = rounds-fit rule (noted .job) in
     let same = propagated-rounds held in (
       a .pre .0,
       record { sized = held .stands .held .sized; sound = held .stands .held .sound; members = held .stands .members },
@@ -55,9 +57,10 @@ returns-2 c =
     let a = r .before .before .before .before .before .before in
     let noted = a .pre .0 .noted in
     let x = r .propagate in
-    let held = propagated-ran _ _ (x .result) _ _ _ (job-propagated noted doneNeighbours (x .result) _ _ _ (x .ensures)) _ (k .propagated .given .1) in
-    let put = w .put .ensures (noted .job) (noted .blocks .end) (noted .blocks .reads) (propagated doneNeighbours (noted .job .blocks)) (held .same) in
-    stands-written (room-written doneNeighbours (a .args .operation) (now (a .args .s)) (noted .job) (noted .blocks .end) (noted .blocks .reads) held)
+    let rule = ruleOf (a .args .joining) in
+    let held = propagated-ran _ _ (x .result) _ _ _ (job-propagated noted rule (x .result) _ _ _ (x .ensures)) _ (k .propagated .given .1) in
+    let put = w .put .ensures (noted .job) (noted .blocks .end) (noted .blocks .reads) (propagated rule (noted .job .blocks)) (held .same) in
+    stands-written (room-written rule (a .args .operation) (now (a .args .s)) (noted .job) (noted .blocks .end) (noted .blocks .reads) held)
     (put .0) (put .1)
 
 pub perform-read-spec : {M : Type 1} → statement M

@@ -3,7 +3,7 @@
 use lib.ListN.{length-replicate}
 use Prim.Native.Nat.{ℕ}
 use borrow.Author.Needs.{needs}
-use Rattle.model.specs.Propagation.{doneNeighbours}
+use Rattle.propagation.specs.Rules.{ruleOf}
 use Rattle.stage.proofs.Propagating.{full-start, ready, propagates, entered-all, entered-full, blocks-count}
 use Rattle.stage.proofs.propagate.Statement.{statement}
 use Rattle.stage.proofs.propagate.Tie as tie
@@ -36,7 +36,7 @@ returns-2 c =
     let e = t .before .before in
     let a = e .before .before .before .before .before in
     propagates (blocks-count (a .pre .0)) (entered-all _ _ _ _ _ _ (e .enter-blocks .ensures) (t .enum-told .given .1))
-    (f .fill-graph .ensures) doneNeighbours (r .result) (r .last .1 .0) (r .last .1 .1 .0) (r .last .1 .1 .1 .0) (r .ensures)
+    (f .fill-graph .ensures) (ruleOf (a .args .joining)) (r .result) (r .last .1 .1 .0) (r .last .1 .1 .1 .0) (r .last .1 .1 .1 .1 .0) (r .ensures)
 
 pub propagate-spec : {M : Type 1} → statement M
 propagate-spec =

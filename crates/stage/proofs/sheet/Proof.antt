@@ -12,7 +12,7 @@ returns : tie.Need-returns
 returns c =
     let p = c .before .before in
     let a = p .before .before .before .before in
-    subst (λ (v : Verdict). Meets v (p .perform .result) (now (a .args .out)) (p .perform .last .1 .1 .0))
+    subst (λ (v : Verdict). Meets v (p .perform .result) (now (a .args .out)) (p .perform .last .1 .1 .1 .0))
     (sheet-verdict (now (a .args .s)) (now (a .args .out))) (p .perform .ensures)
 
 pub sheet-spec : {M : Type 1} → statement M

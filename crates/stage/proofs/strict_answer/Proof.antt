@@ -1,0 +1,19 @@
+-- The operation `answer` is performed under the strict rule, and its verdict is the definition's.
+use mathlib.Core.Path.{_≡_, subst}
+use denote.Ref.{now}
+use borrow.Author.Needs.{needs}
+use Rattle.model.specs.Answer.{Verdict}
+use Rattle.stage.specs.Jobs.{Meets}
+use Rattle.stage.proofs.Performing.{strict-answer-verdict}
+use Rattle.stage.proofs.strict_answer.Statement.{statement}
+use Rattle.stage.proofs.strict_answer.Tie as tie
+
+returns : tie.Need-returns
+returns c =
+    let p = c .before .before in
+    let a = p .before .before .before .before in
+    subst (λ (v : Verdict). Meets v (p .perform .result) (now (a .args .out)) (p .perform .last .1 .1 .1 .0))
+    (strict-answer-verdict (now (a .args .s)) (now (a .args .out))) (p .perform .ensures)
+
+pub strict-answer-spec : {M : Type 1} → statement M
+strict-answer-spec = tie.close (tie.spec (λ c κs. search needs) (λ c. search needs) returns)
