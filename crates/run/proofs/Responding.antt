@@ -24,6 +24,8 @@ use Rattle.model.specs.Answer.{
   bufferAfter,
   programOutput,
 }
+use Rattle.model.specs.Propagation.{doneNeighbours}
+use Rattle.model.specs.Strict.{strictNeighbours, strictAnswerOf, strictAnswerProgram, strictSheetOf, strictSheetProgram}
 use Rattle.model.specs.Thin.{leastThinBuffer, thinOf, thinProgram}
 use Rattle.stage.specs.declared.Outcome.{Outcome}
 use Rattle.stage.specs.declared.Outcome.the-variants.{Written, Refused}
@@ -41,9 +43,11 @@ by-room least s out rest wide =
 
 -- A buffer of the program's length gives the program's output.
 output : (p : Program) (s out : List ℕ) → length out ≡ bytesLent → programOutput (operationOf p s out) ≡ programOf p s
-unfolding answerProgram answerOf sheetProgram sheetOf thinProgram thinOf
-output program.Answer s out e = ap programOutput (by-room leastBuffer s out (readAnd answerBytes s) (omega arith))
-output program.Sheet s out e = ap programOutput (by-room leastBuffer s out (readAnd sheetBytes s) (omega arith))
+unfolding answerProgram answerOf sheetProgram sheetOf strictAnswerProgram strictAnswerOf strictSheetProgram strictSheetOf thinProgram thinOf
+output program.Answer s out e = ap programOutput (by-room leastBuffer s out (readAnd doneNeighbours answerBytes s) (omega arith))
+output program.Sheet s out e = ap programOutput (by-room leastBuffer s out (readAnd doneNeighbours sheetBytes s) (omega arith))
+output program.StrictAnswer s out e = ap programOutput (by-room leastBuffer s out (readAnd strictNeighbours answerBytes s) (omega arith))
+output program.StrictSheet s out e = ap programOutput (by-room leastBuffer s out (readAnd strictNeighbours sheetBytes s) (omega arith))
 output program.Thin s out e = ap programOutput (by-room leastThinBuffer s out (readAndThin s) (omega arith))
 
 -- What an outcome says of the verdict and the buffer.

@@ -1,4 +1,4 @@
--- What the programs `answer`, `sheet` and `thin` write.
+-- What the programs `answer`, `sheet`, `strict_answer`, `strict_sheet` and `thin` write.
 use Prim.Native.Nat.{ℕ, _≤_, _<_}
 use native.Mathlib.Omega.{arith}
 use mathlib.Core.Path.{_≡_, ap}
@@ -9,7 +9,7 @@ use lib.Seq.{length-take-le, take-all}
 use lib.Dec.{ltb}
 use Rattle.model.specs.Tests.{decide, ltb-true, ltb-false, ltb-less}
 use Rattle.model.specs.Rounds.{Rounds}
-use Rattle.model.specs.Propagation.{Work, doneNeighbours}
+use Rattle.model.specs.Propagation.{Work, JoiningRule, doneNeighbours}
 use Rattle.model.specs.Job.{Job, HD, readJob}
 use Rattle.model.specs.Answer.{
   Verdict,
@@ -26,21 +26,26 @@ use Rattle.model.specs.Answer.{
   sheetProgram,
   programOutput,
 }
+use Rattle.model.specs.Strict.{strictNeighbours, strictAnswerOf, strictAnswerProgram, strictSheetOf, strictSheetProgram}
 use Rattle.model.specs.Thin.{leastThinBuffer, onThinJob, thinOf, thinProgram}
 use Rattle.run.specs.declared.Program.{Program}
 use Rattle.run.specs.declared.Program.the-variants as program
 
 -- "Program `answer` reads a job from standard input and writes the answer, or RF and the number as
--- one byte; `sheet` likewise", and so does `thin`.
+-- one byte; `sheet` likewise", and so do the others.
 abbrev pub programOf : Program → List ℕ → List ℕ
 programOf program.Answer = answerProgram
 programOf program.Sheet = sheetProgram
+programOf program.StrictAnswer = strictAnswerProgram
+programOf program.StrictSheet = strictSheetProgram
 programOf program.Thin = thinProgram
 
 -- The operation of a program, on any bytes and any buffer.
 abbrev pub operationOf : Program → List ℕ → List ℕ → Verdict
 operationOf program.Answer = answerOf
 operationOf program.Sheet = sheetOf
+operationOf program.StrictAnswer = strictAnswerOf
+operationOf program.StrictSheet = strictSheetOf
 operationOf program.Thin = thinOf
 
 -- What the program writes of the job are the buffer's first n bytes, and those beyond
@@ -75,16 +80,22 @@ first-bytes-verdict least rest s out =
     rw (ltb-less longestJob (length (take bytesRead s)) (omega arith), ltb-less longestJob (length s) (omega arith)))
     (λ e. rw (take-all bytesRead s (ltb-false bytesRead (length s) e)))
 
--- What an operation does beside 1 and 2.
-abbrev pub readAnd : (ℕ → Job → Rounds Work → List ℕ) → List ℕ → Verdict
-readAnd bytes s = onJob doneNeighbours (bytes spanWidth) (readJob HD spanWidth s)
+-- What an operation does beside 1 and 2, under a joining rule.
+abbrev pub readAnd : JoiningRule → (ℕ → Job → Rounds Work → List ℕ) → List ℕ → Verdict
+readAnd rule bytes s = onJob rule (bytes spanWidth) (readJob HD spanWidth s)
 
 abbrev pub readAndThin : List ℕ → Verdict
 readAndThin s = onThinJob HD spanWidth (readJob HD spanWidth s)
 
 -- So what a program writes of a job's first bytes, it writes of the job.
 pub first-bytes : (p : Program) (s : List ℕ) → programOf p (take bytesRead s) ≡ programOf p s
-unfolding answerProgram answerOf sheetProgram sheetOf thinProgram thinOf
-first-bytes program.Answer s = ap programOutput (first-bytes-verdict leastBuffer (readAnd answerBytes) s (replicate leastBuffer 0))
-first-bytes program.Sheet s = ap programOutput (first-bytes-verdict leastBuffer (readAnd sheetBytes) s (replicate leastBuffer 0))
+unfolding answerProgram answerOf sheetProgram sheetOf strictAnswerProgram strictAnswerOf strictSheetProgram strictSheetOf thinProgram thinOf
+first-bytes program.Answer s =
+    ap programOutput (first-bytes-verdict leastBuffer (readAnd doneNeighbours answerBytes) s (replicate leastBuffer 0))
+first-bytes program.Sheet s =
+    ap programOutput (first-bytes-verdict leastBuffer (readAnd doneNeighbours sheetBytes) s (replicate leastBuffer 0))
+first-bytes program.StrictAnswer s =
+    ap programOutput (first-bytes-verdict leastBuffer (readAnd strictNeighbours answerBytes) s (replicate leastBuffer 0))
+first-bytes program.StrictSheet s =
+    ap programOutput (first-bytes-verdict leastBuffer (readAnd strictNeighbours sheetBytes) s (replicate leastBuffer 0))
 first-bytes program.Thin s = ap programOutput (first-bytes-verdict leastThinBuffer readAndThin s (replicate leastThinBuffer 0))

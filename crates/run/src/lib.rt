@@ -1,5 +1,6 @@
-// The programs `answer`, `sheet` and `thin`, which differ in the operation only: a job on standard
-// input, and on standard output what the operation writes, or RF and the number of the refusal.
+// The programs `answer`, `sheet`, `strict_answer`, `strict_sheet` and `thin`, which differ in the
+// operation only: a job on standard input, and on standard output what the operation writes, or RF
+// and the number of the refusal.
 ghost use mathlib.Core.Path.{_≡_};
 ghost use Prim.Native.Nat.{_≤_};
 ghost use lib.ListN.{length, take};
@@ -11,6 +12,8 @@ use stage::Outcome;
 pub enum Program {
     Answer,
     Sheet,
+    StrictAnswer,
+    StrictSheet,
     Thin,
 }
 
@@ -21,6 +24,8 @@ pub fn perform(program: Program, s: &[u8], out: &mut [u8]) -> Outcome
     match program {
         Program::Answer => stage::answer(s, out),
         Program::Sheet => stage::sheet(s, out),
+        Program::StrictAnswer => stage::strict_answer(s, out),
+        Program::StrictSheet => stage::strict_sheet(s, out),
         Program::Thin => stage::thin(s, out),
     }
 }

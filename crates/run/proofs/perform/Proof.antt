@@ -32,7 +32,19 @@ returns-3 : tie.Need-returns-3
 returns-3 c =
     let call = c .before .before in
     let t = call .before .before in
-    meets-as _ (now (t .before .before .before .before .args .s)) (t .enum-told3 .given .1) (call .thin .ensures)
+    meets-as _ (now (t .before .before .before .before .args .s)) (t .enum-told3 .given .1) (call .strict-answer .ensures)
+
+returns-4 : tie.Need-returns-4
+returns-4 c =
+    let call = c .before .before in
+    let t = call .before .before in
+    meets-as _ (now (t .before .before .before .before .args .s)) (t .enum-told4 .given .1) (call .strict-sheet .ensures)
+
+returns-5 : tie.Need-returns-5
+returns-5 c =
+    let call = c .before .before in
+    let t = call .before .before in
+    meets-as _ (now (t .before .before .before .before .args .s)) (t .enum-told5 .given .1) (call .thin .ensures)
 
 pub perform-spec : {M : Type 1} → statement M
 perform-spec =
@@ -45,8 +57,16 @@ perform-spec =
     (λ c. search needs)
     (λ c κs. search needs)
     (λ c. search needs)
+    (λ c κs. search needs)
+    (λ c. search needs)
+    (λ c κs. search needs)
+    (λ c. search needs)
     returns
     (λ c. search needs)
     returns-2
     (λ c. search needs)
-    returns-3)
+    returns-3
+    (λ c. search needs)
+    returns-4
+    (λ c. search needs)
+    returns-5)
