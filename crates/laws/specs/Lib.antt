@@ -4,6 +4,7 @@ pub mod CountLaws
 -- the graph and its walks
 pub mod Places
 pub mod VisitOrder
+pub mod WalksAgree
 pub mod GraphLaws
 pub mod GraphsAgree
 -- the trees

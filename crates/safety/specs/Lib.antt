@@ -12,8 +12,9 @@ pub mod RunLaws
 pub mod StageSafe
 -- the tree
 pub mod TreeSafe
--- the theorem, and what stands beside it
+-- the theorems, and what stands beside them
 pub mod Demand3
+pub mod StrictSame
 pub mod Notation
 pub mod Witness
 pub mod Counterexamples

@@ -1,6 +1,7 @@
--- The sets of a run's blocks stay non-nullish through walks and rounds. Loop-freedom enters by
--- `VisitOrder` alone: when a block is joined each of its neighbours is Done, so the run's block
--- beside it is among the joined ones.
+-- The sets of a run's blocks stay non-nullish through walks and rounds: the run's block beside one
+-- that is joined is among the joined neighbours, or none is. Under the rule of Done neighbours
+-- loop-freedom enters, by `VisitOrder` alone: when a block is joined each of its neighbours is Done.
+-- The strict rule joins all neighbours or none, so nothing is asked of loops.
 use Prim.Native.Nat.{ℕ, zero, _<_}
 use mathlib.Core.Path.{_≡_, refl, sym, ap, subst}
 use mathlib.Core.Logic.{_⊎_, inl, inr}
@@ -9,6 +10,7 @@ use mathlib.Core.List.{List, [], _∷_}
 use lib.ListN.{getD}
 use Rattle.model.specs.ReadingPaths.{Store}
 use Rattle.model.specs.Lists.{select}
+use Rattle.model.specs.Tests.{by-cond}
 use Rattle.model.specs.Sets.{NodeSet}
 use Rattle.model.specs.Registry.{PropertyPathRegistry}
 use Rattle.model.specs.Visit.{TraversalState, Unmarked, isDone}
@@ -29,9 +31,10 @@ use Rattle.model.specs.Propagation.{
   propagateWith,
   propagateNonNull,
 }
+use Rattle.model.specs.Strict.{allDone, strictNeighbours}
 use Rattle.model.specs.ListLaws.{All}
 use Rattle.model.specs.VisitLaws.{Preorder}
-use Rattle.model.specs.RoundsLaws.{rounds-do}
+use Rattle.model.specs.RoundsLaws.{walk-does, rounds-do}
 use Rattle.laws.specs.Membership.{Some, some-both, some-select, all-reverse}
 use Rattle.laws.specs.Places.{order-below}
 use Rattle.laws.specs.VisitOrder.{Reach, IsDone, walk-keeps}
@@ -55,40 +58,49 @@ module _ {X : Type 0} (S : Store X) (On : ℕ → Type 0) where
       go (inl e) = inl (ap (doneNeighbours marks) e)
       go (inr s) = inr (some-select On (λ c. isDone (getD marks c Unmarked)) (near b) (some-both (IsDone marks) On (near b) done s))
 
-  -- a walk over a graph without loops
-  pub walk-safe : (n : ℕ) (near : ℕ → List ℕ) → Beside On n near → ((b : ℕ) → Reach near b b → ⊥) → (order : List ℕ) → All
-      (λ b. b < n) order → (w : Work) → NonNullOn S On w
-      → NonNullOn S On (walk n near (join reduceMaybeOptionalChains doneNeighbours near) order w)
-  walk-safe n near d noLoop order i w h = walk-keeps (NonNullOn S On) n near (join reduceMaybeOptionalChains doneNeighbours near)
+  -- and a join by the strict rule whatever the marks are
+  strict-join : (n : ℕ) (near : ℕ → List ℕ) → Beside On n near → (b : ℕ) (marks : List TraversalState) (w : Work)
+      → NonNullOn S On w → NonNullOn S On (join reduceMaybeOptionalChains strictNeighbours near b marks w)
+  unfolding join strictNeighbours
+  strict-join n near d b marks w h =
+      join-safe S On (strictNeighbours marks (near b)) b w h
+      (λ on. by-cond (λ ns. (ns ≡ []) ⊎ Some On ns) (allDone marks (near b)) (λ e. d .beside b on) (λ e. inl refl))
+
+  -- what is kept from one work to another
+  abbrev Kept : Work → Work → Type 0
+  Kept u w = NonNullOn S On u → NonNullOn S On w
+
+  kept-order : Preorder Kept
+  kept-order = record { none = λ w p. p; after = λ u v w a b p. b (a p) }
+
+  -- Under the rule, walks over n blocks with these neighbours keep the run's sets non-nullish.
+  abbrev pub SafeWalks : JoiningRule → ℕ → (ℕ → List ℕ) → Type 0
+  SafeWalks rule n near = (order : List ℕ) → All (λ b. b < n) order → (w : Work) → Kept w
+      (walk n near (join reduceMaybeOptionalChains rule near) order w)
+
+  -- over a graph without loops
+  pub done-walks : (n : ℕ) (near : ℕ → List ℕ) → Beside On n near → ((b : ℕ) → Reach near b b → ⊥) → SafeWalks doneNeighbours n near
+  done-walks n near d noLoop order i w h = walk-keeps (NonNullOn S On) n near (join reduceMaybeOptionalChains doneNeighbours near)
       (d .inGraph) (done-join n near d) noLoop order w i h
 
-  -- rounds under any rule whose walks keep the sets non-nullish
-  module _ (rule : JoiningRule) (g : Graph)
-      (forward-safe : (w : Work) → NonNullOn S On w → NonNullOn S On (forward reduceMaybeOptionalChains rule g w))
-      (backward-safe : (w : Work) → NonNullOn S On w → NonNullOn S On (backward reduceMaybeOptionalChains rule g w)) where
-    round-safe : (w : Work) → NonNullOn S On w → NonNullOn S On (round reduceMaybeOptionalChains rule g w)
-    unfolding round
+  -- over any graph
+  pub strict-walks : (n : ℕ) (near : ℕ → List ℕ) → Beside On n near → SafeWalks strictNeighbours n near
+  strict-walks n near d order i w h = walk-does Kept kept-order near (join reduceMaybeOptionalChains strictNeighbours near)
+      (strict-join n near d) n order w h
+
+  -- rounds under any rule whose walks do so
+  module _ (rule : JoiningRule) (g : Graph) (back : SafeWalks rule (g .size) (g .predecessors))
+      (onward : SafeWalks rule (g .size) (g .successors)) where
+    round-safe : (w : Work) → Kept w (round reduceMaybeOptionalChains rule g w)
+    unfolding round forward backward reverseJobOrder
     round-safe w h =
         let start = roundStart (w .registry) (w .sets) in
-        backward-safe (forward reduceMaybeOptionalChains rule g start) (forward-safe start (record { sound = h .sound; safe = h .safe }))
+        onward (reverseJobOrder (g .size)) (all-reverse (λ b. b < g .size) (jobOrder (g .size)) (order-below (g .size)))
+        (forward reduceMaybeOptionalChains rule g start)
+        (back (jobOrder (g .size)) (order-below (g .size)) start (record { sound = h .sound; safe = h .safe }))
 
     pub propagation-safe : (reg : PropertyPathRegistry) (sets : List NodeSet) → NonNullOn S On (roundStart reg sets)
         → NonNullOn S On (propagateNonNull rule g reg sets .work)
     unfolding propagateNonNull propagateWith
-    propagation-safe reg sets h =
-        rounds-do hasChanged (round reduceMaybeOptionalChains rule g) (λ u w. NonNullOn S On u → NonNullOn S On w)
-        (record { none = λ w p. p; after = λ u v w a b p. b (a p) }) round-safe 100 zero (roundStart reg sets) h
-
-  -- the two walks of a round, in a graph without loops
-  module _ (g : Graph) (back : Beside On (g .size) (g .predecessors)) (onward : Beside On (g .size) (g .successors)) where
-    pub forward-done : ((b : ℕ) → Reach (g .predecessors) b b → ⊥) → (w : Work) → NonNullOn S On w → NonNullOn S On
-        (forward reduceMaybeOptionalChains doneNeighbours g w)
-    unfolding forward
-    forward-done noLoop w h = walk-safe (g .size) (g .predecessors) back noLoop (jobOrder (g .size)) (order-below (g .size)) w h
-
-    pub backward-done : ((b : ℕ) → Reach (g .successors) b b → ⊥) → (w : Work) → NonNullOn S On w → NonNullOn S On
-        (backward reduceMaybeOptionalChains doneNeighbours g w)
-    unfolding backward reverseJobOrder
-    backward-done noLoop w h =
-        walk-safe (g .size) (g .successors) onward noLoop (reverseJobOrder (g .size))
-        (all-reverse (λ b. b < g .size) (jobOrder (g .size)) (order-below (g .size))) w h
+    propagation-safe reg sets h = rounds-do hasChanged (round reduceMaybeOptionalChains rule g) Kept kept-order round-safe 100 zero
+        (roundStart reg sets) h

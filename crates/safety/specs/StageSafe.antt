@@ -1,6 +1,6 @@
 -- On a run whose assumed paths all read to non-nullish values, the paths of the scope block's set
--- do too: under any rule that keeps the run's sets so, and under the rule of Done neighbours in a
--- job without loops.
+-- do too: under any rule that keeps the run's sets so, under the rule of Done neighbours in a job
+-- without loops, and under the strict rule in any job.
 use Prim.Native.Nat.{ℕ, zero, suc}
 use mathlib.Core.Path.{_≡_, refl, sym, ap, subst, _∙_}
 use mathlib.Core.List.{List, [], _∷_, map}
@@ -10,6 +10,7 @@ use Rattle.model.specs.ReadingPaths.{Store}
 use Rattle.model.specs.Sets.{NodeSet, insert}
 use Rattle.model.specs.Registry.{PropertyPathRegistry, ownMark, getOrCreateProperty, fullPathOf}
 use Rattle.model.specs.Propagation.{Work, JoiningRule, setOf, roundStart, doneNeighbours, propagateNonNull}
+use Rattle.model.specs.Strict.{strictNeighbours}
 use Rattle.model.specs.Job.{Block, Job}
 use Rattle.model.specs.Stage.{blockAt, placeOf, graphOf, enterPaths, enterBlock, enterBlocks, propagated, hoistablePaths}
 use Rattle.model.specs.ListLaws.{All, all-map}
@@ -21,7 +22,7 @@ use Rattle.safety.specs.Runs.{WithoutLoops, Run, AssumedHold}
 use Rattle.safety.specs.ReadingPathsLaws.{NonNull}
 use Rattle.safety.specs.RegistrySafe.{NonNullNode, NonNullSet, set-extends, path-safe}
 use Rattle.safety.specs.JoinSafe.{NonNullOn}
-use Rattle.safety.specs.PropagationSafe.{propagation-safe, forward-done, backward-done}
+use Rattle.safety.specs.PropagationSafe.{done-walks, strict-walks, propagation-safe}
 use Rattle.laws.specs.GraphLaws.{ProperBlocks}
 use Rattle.safety.specs.RunLaws.{no-loop-back, no-loop-onward, OnRun, back, onward, on-via}
 
@@ -77,9 +78,19 @@ module _ {X : Type 0} (S : Store X) where
   unfolding graphOf
   hoistable-safe j ok free s run assumed =
       let g = graphOf (j .blocks) in
+      let On = OnRun (j .blocks) s in
       hoistable-by doneNeighbours j ok s run assumed
-      (propagation-safe S (OnRun (j .blocks) s) doneNeighbours g
-      (forward-done S (OnRun (j .blocks) s) g (back (j .blocks) (j .scope) ok s run)
-      (onward (j .blocks) (j .scope) ok s run) (no-loop-back (j .blocks) ok free))
-      (backward-done S (OnRun (j .blocks) s) g (back (j .blocks) (j .scope) ok s run)
-      (onward (j .blocks) (j .scope) ok s run) (no-loop-onward (j .blocks) ok free)))
+      (propagation-safe S On doneNeighbours g
+      (done-walks S On (g .size) (g .predecessors) (back (j .blocks) (j .scope) ok s run) (no-loop-back (j .blocks) ok free))
+      (done-walks S On (g .size) (g .successors) (onward (j .blocks) (j .scope) ok s run) (no-loop-onward (j .blocks) ok free)))
+
+  -- under the strict rule, with or without loops
+  pub hoistable-strict : (j : Job) → ProperBlocks (j .blocks) → (s : List Block) → Run j s → AssumedHold S s
+      → All (NonNull S) (hoistablePaths j (propagated strictNeighbours (j .blocks) .work))
+  hoistable-strict j ok s run assumed =
+      let g = graphOf (j .blocks) in
+      let On = OnRun (j .blocks) s in
+      hoistable-by strictNeighbours j ok s run assumed
+      (propagation-safe S On strictNeighbours g
+      (strict-walks S On (g .size) (g .predecessors) (back (j .blocks) (j .scope) ok s run))
+      (strict-walks S On (g .size) (g .successors) (onward (j .blocks) (j .scope) ok s run)))

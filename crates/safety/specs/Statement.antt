@@ -1,4 +1,6 @@
--- Demand 3, as one claim about a whole job: its statement. The proof is `demand-3` in `Demand3`.
+-- Demand 3, as one claim about a whole job, and what document 02, E2 promises of the strict
+-- propagation: the statements. The proofs are `demand-3` and `strict-demand-3` in `Demand3`, and
+-- `strict-same` in `StrictSame`.
 use Prim.Native.Nat.{ℕ, _<_}
 use mathlib.Core.Path.{_≡_}
 use mathlib.Core.Bool.{true}
@@ -10,7 +12,9 @@ use Rattle.model.specs.ListLaws.{All}
 use Rattle.model.specs.ReadingPaths.{Store, read, Throws}
 use Rattle.model.specs.ReadingBytes.{got}
 use Rattle.model.specs.Job.{Block, Job, HD, readJob}
-use Rattle.model.specs.Answer.{Verdict, writes, spanWidth, answerOf, Answered, readAnswer}
+use Rattle.model.specs.Answer.{Verdict, writes, spanWidth, answerOf, sheetOf, Answered, readAnswer}
+use Rattle.model.specs.Strict.{strictAnswerOf, strictSheetOf}
+use Rattle.laws.specs.Fits.{HoldsIfRead}
 use Rattle.safety.specs.Runs.{WithoutLoops, Run, AssumedHold}
 
 -- Exactness: for each candidate exactly one place in the list of returned paths holds a path with
@@ -25,8 +29,8 @@ pub record Exact (candidates returned : List ReactiveScopeDependency) : Type 0 w
 abbrev pub Safety : Job → List ReactiveScopeDependency → Type 1
 Safety j returned = (X : Type 0) (S : Store X) (s : List Block) → Run j s → AssumedHold S s → All (λ d. Throws (read S d) → ⊥) returned
 
--- Safety where the job's blocks meet a hypothesis (`WithoutLoops`: "Without loops: ..", which
--- another joining rule may not need), and exactness for every job ("With or without loops").
+-- Safety where the job's blocks meet a hypothesis (`WithoutLoops`: "Without loops: ..", which the
+-- strict rule does not need), and exactness for every job ("With or without loops").
 pub record Demand3 (Hypothesis : List Block → Type 0) (j : Job) (returned : List ReactiveScopeDependency) : Type 1 where
   pub safety : Hypothesis (j .blocks) → Safety j returned
   pub exactness : Exact (j .candidates) returned
@@ -52,3 +56,21 @@ OperationMeetsDemand3 head spanBytes Hypothesis operation =
 -- The claim: of the bytes of any job that `answer` does not refuse, with any out buffer.
 abbrev pub EveryAnswerMeetsDemand3 : Type 1
 EveryAnswerMeetsDemand3 = OperationMeetsDemand3 HD spanWidth WithoutLoops answerOf
+
+-- E2: "Every job, loops included": nothing is asked of a job's blocks.
+abbrev pub AnyBlocks : List Block → Type 0
+AnyBlocks bs = Unit {0}
+
+-- E2: "For it the throwing part of the third demand covers every job, loops included, over finite
+-- sequences from a block with no predecessor, by way of the scope block, to one with no successor."
+-- `Safety` has these sequences.
+abbrev pub EveryStrictAnswerMeetsDemand3 : Type 1
+EveryStrictAnswerMeetsDemand3 = OperationMeetsDemand3 HD spanWidth AnyBlocks strictAnswerOf
+
+-- E2: "On loop-free jobs it writes the same bytes as the existing one." Of any bytes and any out
+-- buffer: where they are read as a job, it is without loops. The verdicts are the same, and so are
+-- the refusals.
+abbrev pub StrictSame : Type 0
+StrictSame =
+    (job out : List ℕ) → HoldsIfRead (λ (j : Job). WithoutLoops (j .blocks)) (readJob HD spanWidth job)
+    → (strictAnswerOf job out ≡ answerOf job out) × (strictSheetOf job out ≡ sheetOf job out)
