@@ -1,6 +1,6 @@
 -- In a graph without loops each neighbour of a block is Done when the block is joined
--- (`VisitOrder`). So two joins that agree there give the same walk, and two joining rules that agree
--- there the same propagation. The two walks are walked as one, over pairs of works that stay equal.
+-- (`VisitOrder`). So two joins that agree there give the same walk, and two joining rules that
+-- agree there the same propagation.
 use Prim.Native.Nat.{ℕ, zero, _<_}
 use mathlib.Core.Path.{_≡_, refl, sym, ap, _∙_}
 use mathlib.Core.List.{List}
@@ -33,6 +33,7 @@ pub record LoopFree (n : ℕ) (near : ℕ → List ℕ) : Type 0 where
   pub inGraph : (b : ℕ) → All (λ c. c < n) (near b)
   pub noLoop : (b : ℕ) → Reach near b b → ⊥
 
+-- The two walks are walked as one, over pairs of works that stay equal.
 module _ {W : Type 0} (n : ℕ) (near : ℕ → List ℕ) (free : LoopFree n near) (f g : ℕ → List TraversalState → W → W)
     (same : (b : ℕ) (marks : List TraversalState) (w : W) → All (IsDone marks) (near b) → f b marks w ≡ g b marks w) where
   record Pair : Type 0 where
@@ -69,7 +70,8 @@ module _ (reduce : Reducer) (f g : JoiningRule)
       (walks-agree (h .size) (h .predecessors) back (join reduce f (h .predecessors)) (join reduce g (h .predecessors))
       (joins-agree (h .predecessors)) (jobOrder (h .size)) (order-below (h .size)) start)
 
-  pub rules-agree : (reg : PropertyPathRegistry) (sets : List NodeSet) → propagateWith reduce f h reg sets ≡ propagateWith reduce g h reg sets
+  pub rules-agree : (reg : PropertyPathRegistry) (sets : List NodeSet)
+      → propagateWith reduce f h reg sets ≡ propagateWith reduce g h reg sets
   unfolding propagateWith
   rules-agree reg sets = rounds-same (λ w. Unit {0}) hasChanged (round reduce f h) (round reduce g h) (λ w u. tt)
       (λ w u. round-agrees w) 100 zero (roundStart reg sets) tt

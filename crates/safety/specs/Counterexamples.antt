@@ -1,7 +1,8 @@
 -- Each hypothesis of safety is needed: for each, a job in bytes that is answered, a store and a run
--- that satisfy all the others, and on which a returned path throws. And the worthless versions of
--- document 01 that demand 3 shuts out, or leaves to demand 2.
-use Prim.Native.Nat.{ℕ, zero, suc, _<_}
+-- that satisfy all the others, and on which a returned path throws. The strict answer needs each
+-- but loop-freedom. And the worthless versions of document 01 that demand 3 shuts out, or leaves to
+-- demand 2.
+use Prim.Native.Nat.{ℕ}
 use native.Mathlib.Omega.{arith}
 use mathlib.Core.Path.{_≡_, refl, sym, ap, subst, _∙_}
 use mathlib.Core.Logic.{_⊎_, inl, inr}
@@ -16,53 +17,54 @@ use Rattle.model.specs.Lists.{select, anyOf, countOf, sumOf}
 use Rattle.model.specs.Tests.{decide, never, eqb-same, eqb-true, eqb-false, or-second}
 use Rattle.model.specs.ListLaws.{All, all-map, all-select}
 use Rattle.model.specs.ReadingPaths.{null, Store, read, Throws, NonNullish}
-use Rattle.model.specs.ReadingBytes.{got, refused}
+use Rattle.model.specs.ReadingBytes.{refused}
 use Rattle.model.specs.Propagation.{doneNeighbours}
-use Rattle.model.specs.Job.{Block, Job, HD, readJob}
+use Rattle.model.specs.Job.{Block, Job, readJob}
 use Rattle.model.specs.Stage.{propagated, hoistablePaths, returnedPaths}
-use Rattle.model.specs.Answer.{writes, spanWidth, answerOf, Answered, readAnswer}
+use Rattle.model.specs.Answer.{Verdict, spanWidth, answerOf, Answered, readAnswer}
+use Rattle.model.specs.Strict.{strictAnswerOf}
 use Rattle.laws.specs.Membership.{Some, Member, none-any}
 use Rattle.safety.specs.Runs.{ControlSequence, WithoutLoops, NoPredecessor, NoSuccessor, FirstHas, LastHas, Run, AssumedHold}
 use Rattle.safety.specs.Statement.{Exact, Demand3}
 use Rattle.laws.specs.CountLaws.{count-agree}
 use Rattle.model.specs.JobBytes.{jobBytes}
-use Rattle.safety.specs.Notation.{path5, path5-10, block, jobOf, bytesOf, buffer, all-bytes, not-named}
+use Rattle.laws.specs.Fits.{HoldsIfRead}
+use Rattle.safety.specs.Demand3.{strict-demand-3}
+use Rattle.safety.specs.StrictSame.{strict-same}
+use Rattle.safety.specs.Notation.{
+  path5,
+  path5-10,
+  block,
+  jobOf,
+  bytesOf,
+  buffer,
+  all-bytes,
+  not-named,
+  AnsweredJob,
+  answered-meets,
+  Returns5-10,
+}
 use Rattle.safety.specs.Witness.{no-loops}
 
--- Safety of all answered jobs under a hypothesis on store, job and sequence of blocks.
-abbrev pub SafeUnder : ((X : Type 0) → Store X → Job → List Block → Type 0) → Type 1
-SafeUnder H =
-    (job out answer : List ℕ) (j : Job) (end : ℕ) (a : Answered) → All (λ b. b < 256) job → readJob HD spanWidth job ≡ got j end
-    → answerOf job out ≡ writes answer
-    → readAnswer spanWidth answer 0 ≡ got a (length answer) → (X : Type 0) (S : Store X) (s : List Block) → H X S j s → All
-    (λ d. Throws (read S d) → ⊥) (a .paths)
+-- what may be asked of a store, a job and a sequence of blocks
+abbrev pub Hypotheses : Type 1
+Hypotheses = (X : Type 0) → Store X → Job → List Block → Type 0
+
+-- Safety of all jobs that an operation answers, under hypotheses.
+abbrev pub SafeUnder : (List ℕ → List ℕ → Verdict) → Hypotheses → Type 1
+SafeUnder operation H =
+    (job out answer : List ℕ) (j : Job) (end : ℕ) (a : Answered) → AnsweredJob operation job out answer j end a → (X : Type 0)
+    (S : Store X) (s : List Block) → H X S j s → All (λ d. Throws (read S d) → ⊥) (a .paths)
 
 -- a store in which nothing is there
 abbrev pub nothing : Store (Unit {0})
 nothing = record { ofIdentifier = λ i. null; ofProperty = λ x p. null }
 
--- the answer that returns 5.10 after so many rounds
-abbrev pub returning : ℕ → List ℕ
-returning rounds =
-    0x41 ∷ 0x4E ∷ 1 ∷ 0 ∷ rounds ∷ 1
-    ∷ 0x44 ∷ 0x45 ∷ 5 ∷ 0 ∷ 0 ∷ 0 ∷ 1 ∷ 0 ∷ 0 ∷ 0 ∷ 0 ∷ 1 ∷ 0 ∷ 0 ∷ 10 ∷ 0 ∷ 0 ∷ 0 ∷ 0 ∷ 0 ∷ 0 ∷ 0 ∷ 0 ∷ 0 ∷ 0 ∷ 0 ∷ []
-
--- A job in bytes is answered by it.
-pub record Returns5-10 (j : Job) (rounds : ℕ) : Type 0 where
-  pub bytes : All (λ b. b < 256) (bytesOf j)
-  pub reads : readJob HD spanWidth (bytesOf j) ≡ got j (length (bytesOf j))
-  pub answers : answerOf (bytesOf j) buffer ≡ writes (returning rounds)
-  pub holds : readAnswer spanWidth (returning rounds) 0 ≡ got (record { paths = path5-10 ∷ []; rounds = rounds; settled = true })
-      (length (returning rounds))
-
--- Then a hypothesis that the job meets on some sequence, where nothing is there, does not make
--- answers safe.
-refuted : (H : (X : Type 0) → Store X → Job → List Block → Type 0) (j : Job) (rounds : ℕ) → Returns5-10 j rounds → (s : List Block)
-    → H (Unit {0}) nothing j s → SafeUnder H → ⊥
-refuted H j rounds r s h safe =
-    safe (bytesOf j) buffer (returning rounds) j (length (bytesOf j))
-    (record { paths = path5-10 ∷ []; rounds = rounds; settled = true }) (r .bytes) (r .reads) (r .answers) (r .holds)
-    (Unit {0}) nothing s h .0 tt
+-- Hypotheses that a job answered by 5.10 meets on some sequence, where nothing is there, do not
+-- make an operation's answers safe.
+refuted : (operation : List ℕ → List ℕ → Verdict) (H : Hypotheses) (j : Job) (rounds : ℕ) → Returns5-10 operation j rounds
+    → (s : List Block) → H (Unit {0}) nothing j s → SafeUnder operation H → ⊥
+refuted operation H j rounds r s h safe = safe _ _ _ _ _ _ r (Unit {0}) nothing s h .0 tt
 
 -- Loops: P3 of document 01, with scope block 3.
 
@@ -106,57 +108,107 @@ pub p3-has-a-loop : WithoutLoops (p3 .blocks) → ⊥
 p3-has-a-loop free = free (block 1 (0 ∷ 3 ∷ []) []) (block 0 [] [] ∷ []) (block 3 (1 ∷ 2 ∷ []) [] ∷ []) (block 4 (1 ∷ []) [] ∷ [])
     (p3-run .sequence)
 
-p3-returns : Returns5-10 p3 2
+pub p3-returns : Returns5-10 answerOf p3 2
 unfolding jobBytes readJob answerOf readAnswer
 p3-returns = record { bytes = all-bytes (bytesOf p3) refl; reads = refl; answers = refl; holds = refl }
 
-pub loop-freedom-needed : SafeUnder (λ X S j s. Run j s × AssumedHold S s) → ⊥
-loop-freedom-needed = refuted (λ X S j s. Run j s × AssumedHold S s) p3 2 p3-returns avoiding (p3-run, p3-assumed)
+-- the hypotheses but for loop-freedom
+abbrev pub OnRuns : Hypotheses
+OnRuns X S j s = Run j s × AssumedHold S s
 
--- The other hypotheses, in jobs without loops in which the scope block comes to hold 5.
+pub loop-freedom-needed : SafeUnder answerOf OnRuns → ⊥
+loop-freedom-needed = refuted answerOf OnRuns p3 2 p3-returns avoiding (p3-run, p3-assumed)
+
+-- Of strict answers the same claim holds: "covers every job, loops included".
+pub strict-loop-freedom-not-needed : SafeUnder strictAnswerOf OnRuns
+strict-loop-freedom-not-needed job out answer j end a r X S s h = answered-meets strict-demand-3 r .safety tt X S s (h .0) (h .1)
+
+-- The other hypotheses, each needed for both operations, even in jobs without loops: there the two
+-- answers are the same (`strict-same`). In these jobs the scope block comes to hold 5.
+
+-- hypotheses in jobs without loops
+abbrev pub InLoopFreeJobs : Hypotheses → Hypotheses
+InLoopFreeJobs H X S j s = WithoutLoops (j .blocks) × H X S j s
+
+-- a job without loops that is answered by 5.10, and a sequence that meets the hypotheses where
+-- nothing is there
+pub record Counterexample (H : Hypotheses) : Type 0 where
+  pub job : Job
+  pub rounds : ℕ
+  pub returns : Returns5-10 answerOf job rounds
+  pub noLoops : WithoutLoops (job .blocks)
+  pub sequence : List Block
+  pub meets : H (Unit {0}) nothing job sequence
+
+pub existing-refuted : (H : Hypotheses) → Counterexample H → SafeUnder answerOf (InLoopFreeJobs H) → ⊥
+existing-refuted H c = refuted answerOf (InLoopFreeJobs H) (c .job) (c .rounds) (c .returns) (c .sequence) (c .noLoops, c .meets)
+
+pub strict-refuted : (H : Hypotheses) → Counterexample H → SafeUnder strictAnswerOf (InLoopFreeJobs H) → ⊥
+strict-refuted H c =
+    let r = c .returns in
+    let free = subst (HoldsIfRead (λ (j : Job). WithoutLoops (j .blocks))) (sym (r .reads)) (c .noLoops) in
+    refuted strictAnswerOf (InLoopFreeJobs H) (c .job) (c .rounds)
+    (record { bytes = r .bytes; reads = r .reads; answers = strict-same (bytesOf (c .job)) buffer free .0 ∙ r .answers; holds = r .holds })
+    (c .sequence) (c .noLoops, c .meets)
 
 abbrev pub assuming : Block
 assuming = block 0 [] (path5 ∷ [])
 
 -- the assumed paths: the run's one block assumes 5
-known5-returns : Returns5-10 (jobOf 0 (assuming ∷ [])) 1
-unfolding jobBytes readJob answerOf readAnswer
-known5-returns = record { bytes = all-bytes (bytesOf (jobOf 0 (assuming ∷ []))) refl; reads = refl; answers = refl; holds = refl }
+abbrev pub WithoutAssumed : Hypotheses
+WithoutAssumed X S j s = Run j s
 
-pub assumed-needed : SafeUnder (λ X S j s. WithoutLoops (j .blocks) × Run j s) → ⊥
-assumed-needed =
-    refuted (λ X S j s. WithoutLoops (j .blocks) × Run j s) (jobOf 0 (assuming ∷ [])) 1 known5-returns (assuming ∷ []) (
-      no-loops (assuming ∷ []) (tt, tt),
-      record {
-        sequence = record { blocks = (inl refl, tt); some = tt; linked = tt };
-        starts = refl;
-        ends = not-named
-            (assuming ∷ []) assuming refl;
-        passes = inl refl;
-      },
-    )
+assumed-case : Counterexample WithoutAssumed
+unfolding jobBytes readJob answerOf readAnswer
+assumed-case = record {
+  job = jobOf 0 (assuming ∷ []);
+  rounds = 1;
+  returns = record { bytes = all-bytes (bytesOf (jobOf 0 (assuming ∷ []))) refl; reads = refl; answers = refl; holds = refl };
+  noLoops = no-loops (assuming ∷ []) (tt, tt);
+  sequence = assuming ∷ [];
+  meets = record {
+    sequence = record { blocks = (inl refl, tt); some = tt; linked = tt };
+    starts = refl;
+    ends = not-named (assuming ∷ []) assuming refl;
+    passes = inl refl;
+  };
+}
+
+pub assumed-needed : SafeUnder answerOf (InLoopFreeJobs WithoutAssumed) → ⊥
+assumed-needed = existing-refuted WithoutAssumed assumed-case
+
+pub strict-assumed-needed : SafeUnder strictAnswerOf (InLoopFreeJobs WithoutAssumed) → ⊥
+strict-assumed-needed = strict-refuted WithoutAssumed assumed-case
 
 -- the first block has no predecessor: 1 comes after 0, which assumes 5; the run is 1 alone
 abbrev pub after : Block
 after = block 1 (0 ∷ []) []
 
-after-returns : Returns5-10 (jobOf 1 (assuming ∷ after ∷ [])) 2
+abbrev pub WithoutStart : Hypotheses
+WithoutStart X S j s = ControlSequence (j .blocks) s × LastHas (NoSuccessor (j .blocks)) s × Some (λ b. b .id ≡ j .scope) s
+    × AssumedHold S s
+
+start-case : Counterexample WithoutStart
 unfolding jobBytes readJob answerOf readAnswer
-after-returns = record { bytes = all-bytes (bytesOf (jobOf 1 (assuming ∷ after ∷ []))) refl; reads = refl; answers = refl; holds = refl }
+start-case = record {
+  job = jobOf 1 (assuming ∷ after ∷ []);
+  rounds = 2;
+  returns = record { bytes = all-bytes (bytesOf (jobOf 1 (assuming ∷ after ∷ []))) refl; reads = refl; answers = refl; holds = refl };
+  noLoops = no-loops (assuming ∷ after ∷ []) (tt, ((omega arith, tt), tt));
+  sequence = after ∷ [];
+  meets = (
+    record { blocks = (inr (inl refl), tt); some = tt; linked = tt },
+    not-named (assuming ∷ after ∷ []) after refl,
+    inl refl,
+    (tt, tt),
+  );
+}
 
-abbrev pub WithoutStart : (X : Type 0) → Store X → Job → List Block → Type 0
-WithoutStart X S j s = WithoutLoops (j .blocks) × ControlSequence (j .blocks) s × LastHas (NoSuccessor (j .blocks)) s × Some
-    (λ b. b .id ≡ j .scope) s × AssumedHold S s
+pub start-needed : SafeUnder answerOf (InLoopFreeJobs WithoutStart) → ⊥
+start-needed = existing-refuted WithoutStart start-case
 
-pub start-needed : SafeUnder WithoutStart → ⊥
-start-needed =
-    refuted WithoutStart (jobOf 1 (assuming ∷ after ∷ [])) 2 after-returns (after ∷ []) (
-      no-loops (assuming ∷ after ∷ []) (tt, ((omega arith, tt), tt)),
-      record { blocks = (inr (inl refl), tt); some = tt; linked = tt },
-      not-named (assuming ∷ after ∷ []) after refl,
-      inl refl,
-      (tt, tt),
-    )
+pub strict-start-needed : SafeUnder strictAnswerOf (InLoopFreeJobs WithoutStart) → ⊥
+strict-start-needed = strict-refuted WithoutStart start-case
 
 -- the last block has no successor: 0 comes before 1, which assumes 5; the run is 0 alone
 abbrev pub first : Block
@@ -165,51 +217,60 @@ first = block 0 [] []
 abbrev pub assumingAfter : Block
 assumingAfter = block 1 (0 ∷ []) (path5 ∷ [])
 
-before-returns : Returns5-10 (jobOf 0 (first ∷ assumingAfter ∷ [])) 2
+abbrev pub WithoutEnd : Hypotheses
+WithoutEnd X S j s = ControlSequence (j .blocks) s × FirstHas NoPredecessor s × Some (λ b. b .id ≡ j .scope) s × AssumedHold S s
+
+end-case : Counterexample WithoutEnd
 unfolding jobBytes readJob answerOf readAnswer
-before-returns = record {
-  bytes = all-bytes
-      (bytesOf (jobOf 0 (first ∷ assumingAfter ∷ []))) refl;
-  reads = refl;
-  answers = refl;
-  holds = refl;
+end-case = record {
+  job = jobOf 0 (first ∷ assumingAfter ∷ []);
+  rounds = 2;
+  returns = record { bytes = all-bytes (bytesOf (jobOf 0 (first ∷ assumingAfter ∷ []))) refl; reads = refl; answers = refl; holds = refl };
+  noLoops = no-loops (first ∷ assumingAfter ∷ []) (tt, ((omega arith, tt), tt));
+  sequence = first ∷ [];
+  meets = (
+    record { blocks = (inl refl, tt); some = tt; linked = tt },
+    refl,
+    inl refl,
+    (tt, tt),
+  );
 }
 
-abbrev pub WithoutEnd : (X : Type 0) → Store X → Job → List Block → Type 0
-WithoutEnd X S j s = WithoutLoops (j .blocks) × ControlSequence (j .blocks) s × FirstHas NoPredecessor s × Some
-    (λ b. b .id ≡ j .scope) s × AssumedHold S s
+pub end-needed : SafeUnder answerOf (InLoopFreeJobs WithoutEnd) → ⊥
+end-needed = existing-refuted WithoutEnd end-case
 
-pub end-needed : SafeUnder WithoutEnd → ⊥
-end-needed =
-    refuted WithoutEnd (jobOf 0 (first ∷ assumingAfter ∷ [])) 2 before-returns (first ∷ []) (
-      no-loops (first ∷ assumingAfter ∷ []) (tt, ((omega arith, tt), tt)),
-      record { blocks = (inl refl, tt); some = tt; linked = tt },
-      refl,
-      inl refl,
-      (tt, tt),
-    )
+pub strict-end-needed : SafeUnder strictAnswerOf (InLoopFreeJobs WithoutEnd) → ⊥
+strict-end-needed = strict-refuted WithoutEnd end-case
 
 -- by way of the scope block: 0, the scope block, assumes 5; the run is 1, which is not beside it
 abbrev pub alone : Block
 alone = block 1 [] []
 
-alone-returns : Returns5-10 (jobOf 0 (assuming ∷ alone ∷ [])) 1
+abbrev pub WithoutScope : Hypotheses
+WithoutScope X S j s = ControlSequence (j .blocks) s × FirstHas NoPredecessor s × LastHas (NoSuccessor (j .blocks)) s
+    × AssumedHold S s
+
+scope-case : Counterexample WithoutScope
 unfolding jobBytes readJob answerOf readAnswer
-alone-returns = record { bytes = all-bytes (bytesOf (jobOf 0 (assuming ∷ alone ∷ []))) refl; reads = refl; answers = refl; holds = refl }
+scope-case = record {
+  job = jobOf 0 (assuming ∷ alone ∷ []);
+  rounds = 1;
+  returns = record { bytes = all-bytes (bytesOf (jobOf 0 (assuming ∷ alone ∷ []))) refl; reads = refl; answers = refl; holds = refl };
+  noLoops = no-loops (assuming ∷ alone ∷ []) (tt, (tt, tt));
+  sequence = alone ∷ [];
+  meets = (
+    record { blocks = (inr (inl refl), tt); some = tt; linked = tt },
+    refl,
+    not-named (assuming ∷ alone ∷ []) alone refl,
+    (tt, tt),
+  );
+}
 
-abbrev pub WithoutScope : (X : Type 0) → Store X → Job → List Block → Type 0
-WithoutScope X S j s = WithoutLoops (j .blocks) × ControlSequence (j .blocks) s × FirstHas NoPredecessor s × LastHas
-    (NoSuccessor (j .blocks)) s × AssumedHold S s
+pub scope-needed : SafeUnder answerOf (InLoopFreeJobs WithoutScope) → ⊥
+scope-needed = existing-refuted WithoutScope scope-case
 
-pub scope-needed : SafeUnder WithoutScope → ⊥
-scope-needed =
-    refuted WithoutScope (jobOf 0 (assuming ∷ alone ∷ [])) 1 alone-returns (alone ∷ []) (
-      no-loops (assuming ∷ alone ∷ []) (tt, (tt, tt)),
-      record { blocks = (inr (inl refl), tt); some = tt; linked = tt },
-      refl,
-      not-named (assuming ∷ alone ∷ []) alone refl,
-      (tt, tt),
-    )
+pub strict-scope-needed : SafeUnder strictAnswerOf (InLoopFreeJobs WithoutScope) → ⊥
+strict-scope-needed = strict-refuted WithoutScope scope-case
 
 -- Worthless versions (document 01, "What the promises shut out").
 

@@ -18,3 +18,4 @@ pub mod StrictSame
 pub mod Notation
 pub mod Witness
 pub mod Counterexamples
+pub mod StrictWitness

@@ -1,7 +1,7 @@
--- The sets of a run's blocks stay non-nullish through walks and rounds: the run's block beside one
--- that is joined is among the joined neighbours, or none is. Under the rule of Done neighbours
--- loop-freedom enters, by `VisitOrder` alone: when a block is joined each of its neighbours is Done.
--- The strict rule joins all neighbours or none, so nothing is asked of loops.
+-- The sets of a run's blocks stay non-nullish through walks and rounds: where a block of the run is
+-- joined, the run's block beside it is among the joined ones, or nothing joins. Under the rule of
+-- Done neighbours this needs that each neighbour is Done then, for which there must be no loop
+-- (`VisitOrder`). The strict rule joins all neighbours or none, so it asks nothing of loops.
 use Prim.Native.Nat.{ℕ, zero, _<_}
 use mathlib.Core.Path.{_≡_, refl, sym, ap, subst}
 use mathlib.Core.Logic.{_⊎_, inl, inr}

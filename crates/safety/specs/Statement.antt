@@ -67,9 +67,9 @@ AnyBlocks bs = Unit {0}
 abbrev pub EveryStrictAnswerMeetsDemand3 : Type 1
 EveryStrictAnswerMeetsDemand3 = OperationMeetsDemand3 HD spanWidth AnyBlocks strictAnswerOf
 
--- E2: "On loop-free jobs it writes the same bytes as the existing one." Of any bytes and any out
--- buffer: where they are read as a job, it is without loops. The verdicts are the same, and so are
--- the refusals.
+-- E2: "On loop-free jobs it writes the same bytes as the existing one." For all bytes that are read
+-- as a job without loops, or as none, and any out buffer: the verdicts are the same, and so are the
+-- refusals, 1 and 9 included.
 abbrev pub StrictSame : Type 0
 StrictSame =
     (job out : List ℕ) → HoldsIfRead (λ (j : Job). WithoutLoops (j .blocks)) (readJob HD spanWidth job)

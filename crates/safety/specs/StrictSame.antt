@@ -1,6 +1,6 @@
--- Document 02, E2: "On loop-free jobs it writes the same bytes as the existing one." Where there are
--- no loops each neighbour of a block is Done when the block is joined, and then both rules join all
--- of them.
+-- Document 02, E2: "On loop-free jobs it writes the same bytes as the existing one." Where there
+-- are no loops each neighbour of a block is Done when the block is joined, and then both rules join
+-- all of them.
 use Prim.Native.Nat.{ℕ}
 use mathlib.Core.Path.{_≡_, refl, sym, ap, _∙_}
 use mathlib.Core.Bool.{Bool, true}

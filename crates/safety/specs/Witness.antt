@@ -2,23 +2,19 @@
 -- them.
 use Prim.Native.Nat.{ℕ, _<_}
 use native.Mathlib.Omega.{arith}
-use mathlib.Core.Path.{_≡_, refl, sym, ap, subst, _∙_}
+use mathlib.Core.Path.{_≡_, refl}
 use mathlib.Core.Logic.{_⊎_, inl, inr}
-use mathlib.Core.Bool.{true, false}
 use mathlib.Core.List.{List, [], _∷_, _++_}
-use lib.ListN.{length}
-use Rattle.entries.specs.Path.{ReactiveScopeDependency}
 use Rattle.model.specs.ListLaws.{All, all-map}
 use Rattle.model.specs.ReadingPaths.{null, value, Store, read, Throws}
-use Rattle.model.specs.ReadingBytes.{got}
-use Rattle.model.specs.Job.{Block, Job, HD, readJob}
-use Rattle.model.specs.Answer.{writes, spanWidth, answerOf, Answered, readAnswer}
+use Rattle.model.specs.Job.{Block, Job, readJob}
+use Rattle.model.specs.Answer.{answerOf, readAnswer}
 use Rattle.laws.specs.Membership.{Member, all-at}
 use Rattle.safety.specs.Runs.{Precedes, Linked, WithoutLoops, Run, AssumedHold}
-use Rattle.safety.specs.Statement.{AnswerMeetsDemand3}
+use Rattle.safety.specs.Statement.{Demand3}
 use Rattle.safety.specs.Demand3.{demand-3}
 use Rattle.model.specs.JobBytes.{jobBytes}
-use Rattle.safety.specs.Notation.{path5, path5-10, block, jobOf, bytesOf, buffer, all-bytes, not-named}
+use Rattle.safety.specs.Notation.{path5, path5-10, block, jobOf, bytesOf, all-bytes, not-named, answered-meets, Returns5-10}
 
 -- Where each block's predecessors have smaller ids than it has, there is no loop.
 module _ (bs : List Block) (smaller : All (λ b. All (λ i. i .0 < b .id .0) (b .predecessors)) bs) where
@@ -56,23 +52,9 @@ module _ (bs : List Block) (smaller : All (λ b. All (λ i. i .0 < b .id .0) (b 
 abbrev pub p1 : Job
 p1 = jobOf 3 (block 0 [] [] ∷ block 1 (0 ∷ []) (path5 ∷ []) ∷ block 2 (0 ∷ []) (path5 ∷ []) ∷ block 3 (1 ∷ 2 ∷ []) [] ∷ [])
 
--- AN, 1 path, 2 rounds, settled; DE 5.10
-abbrev pub p1-answer : List ℕ
-p1-answer =
-    0x41 ∷ 0x4E ∷ 1 ∷ 0 ∷ 2 ∷ 1
-    ∷ 0x44 ∷ 0x45 ∷ 5 ∷ 0 ∷ 0 ∷ 0 ∷ 1 ∷ 0 ∷ 0 ∷ 0 ∷ 0 ∷ 1 ∷ 0 ∷ 0 ∷ 10 ∷ 0 ∷ 0 ∷ 0 ∷ 0 ∷ 0 ∷ 0 ∷ 0 ∷ 0 ∷ 0 ∷ 0 ∷ 0 ∷ []
-
-p1-bytes : All (λ b. b < 256) (bytesOf p1)
-unfolding jobBytes
-p1-bytes = all-bytes (bytesOf p1) refl
-
-p1-reads : readJob HD spanWidth (bytesOf p1) ≡ got p1 (length (bytesOf p1))
-unfolding readJob jobBytes
-p1-reads = refl
-
-pub p1-answered : answerOf (bytesOf p1) buffer ≡ writes p1-answer
-unfolding answerOf jobBytes
-p1-answered = refl
+pub p1-returns : Returns5-10 answerOf p1 2
+unfolding jobBytes readJob answerOf readAnswer
+p1-returns = record { bytes = all-bytes (bytesOf p1) refl; reads = refl; answers = refl; holds = refl }
 
 pub p1-no-loops : WithoutLoops (p1 .blocks)
 p1-no-loops = no-loops (p1 .blocks) (tt, ((omega arith, tt), ((omega arith, tt), ((omega arith, (omega arith, tt)), tt))))
@@ -106,21 +88,8 @@ p1-assumed = (tt, ((tt, tt), (tt, tt)))
 
 -- So the theorem speaks of this job, this store and this run, and of the path 5.10.
 
-pub met : AnswerMeetsDemand3 HD spanWidth WithoutLoops (bytesOf p1) p1-answer
-met = demand-3 (bytesOf p1) buffer p1-answer p1-bytes p1-answered
+pub met : Demand3 WithoutLoops p1 (path5-10 ∷ [])
+met = answered-meets demand-3 p1-returns
 
-met-job : met .j ≡ p1
-met-job = let e : got (met .j) (met .end) ≡ got p1 (length (bytesOf p1)) = sym (met .readsJob) ∙ p1-reads in cc
-
-pub met-paths : met .answered .paths ≡ path5-10 ∷ []
-unfolding readAnswer
-met-paths =
-    let held : Answered = record { paths = path5-10 ∷ []; rounds = 2; settled = true } in
-    let reads : readAnswer spanWidth p1-answer 0 ≡ got held (length p1-answer) = refl in
-    let e : got (met .answered) (length p1-answer) ≡ got held (length p1-answer) = sym (met .readsAnswer) ∙ reads in
-    let same : met .answered ≡ held = cc in
-    ap (λ (a : Answered). a .paths) same
-
-pub p1-no-throw : All (λ d. Throws (read store d) → ⊥) (met .answered .paths)
-p1-no-throw = met .holds .safety (subst (λ (j : Job). WithoutLoops (j .blocks)) (sym met-job) p1-no-loops) (Unit {0}) store run
-    (subst (λ j. Run j run) (sym met-job) p1-run) p1-assumed
+pub p1-no-throw : All (λ d. Throws (read store d) → ⊥) (path5-10 ∷ [])
+p1-no-throw = met .safety p1-no-loops (Unit {0}) store run p1-run p1-assumed
