@@ -14,6 +14,7 @@ use Rattle.model.specs.ListLaws.{All}
 use Rattle.model.specs.ReadingBytes.{got}
 use Rattle.model.specs.Job.{Block, Job, HD, readJob}
 use Rattle.model.specs.Answer.{Verdict, writes, turnsBack, leastBuffer, spanWidth, answerOf, sheetOf}
+use Rattle.model.specs.Strict.{strictAnswerOf, strictSheetOf}
 use Rattle.model.specs.Thin.{samePath, thinnedPaths, leastThinBuffer, thinOf}
 
 -- "Without repeats".
@@ -77,11 +78,14 @@ pub record WithoutRepeats : Type 0 where
 -- The other promises.
 
 -- "The thin job has the same answer and sheet bytes, or the same refusal 9, as the original." For
--- the same out buffer, so that refusal 1 is the same too.
+-- the same out buffer, so that refusal 1 is the same too; and under the strict propagation of E2,
+-- "with its own answer and sheet operations".
 abbrev pub ThinSame : Type 0
 ThinSame =
     (job o t : List ℕ) → All (λ b. b < 256) job → thinOf job o ≡ writes t
-    → (out : List ℕ) → (answerOf t out ≡ answerOf job out) × (sheetOf t out ≡ sheetOf job out)
+    → (out : List ℕ)
+    → (answerOf t out ≡ answerOf job out) × (sheetOf t out ≡ sheetOf job out)
+    × (strictAnswerOf t out ≡ strictAnswerOf job out) × (strictSheetOf t out ≡ strictSheetOf job out)
 
 -- "Thinning a thin job yields its own bytes." Into any buffer that is long enough.
 abbrev pub ThinAgain : Type 0

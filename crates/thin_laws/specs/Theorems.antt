@@ -35,6 +35,7 @@ use Rattle.model.specs.Answer.{
   answerOf,
   sheetOf,
 }
+use Rattle.model.specs.Strict.{strictNeighbours, strictAnswerOf, strictSheetOf}
 use Rattle.model.specs.Thin.{thinned, leastThinBuffer, onThinJob, thinVerdict, thinOf}
 use Rattle.laws.specs.JobBack.{job-reads}
 use Rattle.laws.specs.Fits.{read-acceptable}
@@ -248,11 +249,14 @@ without-repeats = record {
 }
 
 pub thin-same : ThinSame
-unfolding thinOf answerOf sheetOf
-thin-same job o t bytes e out = (
-  same-verdict HD spanWidth (omega arith) job o t bytes e doneNeighbours answerBytes (answer-thinned spanWidth) out,
-  same-verdict HD spanWidth (omega arith) job o t bytes e doneNeighbours sheetBytes (sheet-thinned spanWidth) out,
-)
+unfolding thinOf answerOf sheetOf strictAnswerOf strictSheetOf
+thin-same job o t bytes e out =
+    let same = same-verdict HD spanWidth (omega arith) job o t bytes e in (
+      same doneNeighbours answerBytes (answer-thinned spanWidth) out,
+      same doneNeighbours sheetBytes (sheet-thinned spanWidth) out,
+      same strictNeighbours answerBytes (answer-thinned spanWidth) out,
+      same strictNeighbours sheetBytes (sheet-thinned spanWidth) out,
+    )
 
 pub thin-again : ThinAgain
 unfolding thinOf
