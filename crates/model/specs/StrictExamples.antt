@@ -84,6 +84,16 @@ pub two-entries-strict : PropagatesTo strictNeighbours twoEntries ((five ∷ [])
 unfolding propagated strictNeighbours
 two-entries-strict = (refl, refl, refl)
 
+-- An Active neighbour that holds the path joins as little as another: 0 (after 2) and 1 assume 5, 2
+-- comes after both, and 3 after 2. The walk comes to 2 by way of 0, so 2 takes nothing over, though
+-- every block before it holds 5.
+pub active-holds-strict :
+    PropagatesTo strictNeighbours
+    (block 0 (2 ∷ []) (five ∷ []) ∷ block 1 [] (five ∷ []) ∷ block 2 (0 ∷ 1 ∷ []) [] ∷ block 3 (2 ∷ []) [] ∷ [])
+    ((five ∷ []) ∷ (five ∷ []) ∷ [] ∷ [] ∷ []) 1
+unfolding propagated strictNeighbours
+active-holds-strict = (refl, refl, refl)
+
 -- A block without a neighbour joins nothing, and its set is still reduced.
 pub alone-strict :
     PropagatesTo strictNeighbours (block 7 [] (one [] ∷ one (optional 10 ∷ []) ∷ []) ∷ []) ((one [] ∷ one (plain 10 ∷ []) ∷ []) ∷ []) 2
