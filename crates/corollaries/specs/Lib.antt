@@ -1,3 +1,4 @@
 pub mod Leaves
 pub mod Demand3
+pub mod StrictSame
 pub mod Thin

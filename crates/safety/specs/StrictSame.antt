@@ -2,13 +2,11 @@
 -- are no loops each neighbour of a block is Done when the block is joined, and then both rules join
 -- all of them.
 use Prim.Native.Nat.{ℕ}
-use mathlib.Core.Path.{_≡_, refl, sym, ap, _∙_}
-use mathlib.Core.Bool.{Bool, true}
+use mathlib.Core.Path.{_≡_, refl, ap}
+use mathlib.Core.Bool.{true}
 use mathlib.Core.List.{List, [], _∷_}
-use lib.ListN.{getD}
-use Rattle.model.specs.Lists.{select}
 use Rattle.model.specs.ListLaws.{All}
-use Rattle.model.specs.Visit.{TraversalState, Unmarked, isDone}
+use Rattle.model.specs.Visit.{TraversalState}
 use Rattle.model.specs.Rounds.{Rounds}
 use Rattle.model.specs.Reduction.{reduceMaybeOptionalChains}
 use Rattle.model.specs.Propagation.{Work, doneNeighbours, propagateNonNull}
@@ -29,6 +27,7 @@ use Rattle.model.specs.Answer.{
   sheetOf,
 }
 use Rattle.model.specs.Strict.{allDone, strictNeighbours, strictAnswerOf, strictSheetOf}
+use Rattle.model.specs.StrictLaws.{strict-joins}
 use Rattle.laws.specs.VisitOrder.{IsDone}
 use Rattle.laws.specs.WalksAgree.{LoopFree, rules-agree}
 use Rattle.laws.specs.GraphLaws.{ProperBlocks, predecessors-inside, successors-inside}
@@ -40,17 +39,12 @@ use Rattle.safety.specs.RunLaws.{no-loop-back, no-loop-onward}
 
 -- Where all are Done, both rules join all.
 
-select-all : {A : Type 0} (test : A → Bool) (xs : List A) → All (λ x. test x ≡ true) xs → select test xs ≡ xs
-select-all test [] a = refl
-select-all test (x ∷ xs) a = rw (a .0, select-all test xs (a .1))
-
 all-done : (marks : List TraversalState) (bs : List ℕ) → All (IsDone marks) bs → allDone marks bs ≡ true
 all-done marks [] a = refl
 all-done marks (b ∷ bs) a = rw (a .0, all-done marks bs (a .1))
 
 both-join-all : (marks : List TraversalState) (bs : List ℕ) → All (IsDone marks) bs → strictNeighbours marks bs ≡ doneNeighbours marks bs
-unfolding strictNeighbours doneNeighbours
-both-join-all marks bs a = rw (all-done marks bs a) (sym (select-all (λ b. isDone (getD marks b Unmarked)) bs a))
+both-join-all marks bs a = strict-joins marks bs (all-done marks bs a)
 
 pub propagated-same : (bs : List Block) → ProperBlocks bs → WithoutLoops bs → propagated strictNeighbours bs ≡ propagated doneNeighbours bs
 unfolding propagated propagateNonNull graphOf
