@@ -20,19 +20,18 @@ allDone marks (b ∷ bs) = isDone (getD marks b Unmarked) && allDone marks bs
 unfoldable pub strictNeighbours : JoiningRule
 strictNeighbours marks bs = cond (allDone marks bs) bs []
 
--- "Its own answer .. operation": the answer by the strict propagation. "9 counts the strict run's
--- own nodes."
+-- The answer by the strict propagation. "9 counts the strict run's own nodes."
 unfoldable pub strictAnswerOf : List ℕ → List ℕ → Verdict
 unfolding verdict answerBytes strictNeighbours
 strictAnswerOf job out = verdict HD spanWidth strictNeighbours answerBytes job out
 
--- "And sheet".
+-- And the sheet.
 unfoldable pub strictSheetOf : List ℕ → List ℕ → Verdict
 unfolding verdict sheetBytes strictNeighbours
 strictSheetOf job out = verdict HD spanWidth strictNeighbours sheetBytes job out
 
--- Program `strict_answer`: its input is the job, and its buffer has the least length, so that 1
--- does not occur.
+-- Program `strict_answer`: its input is the job. A buffer of the least length stands for the
+-- program's, which is longer; 1 does not occur, and what is written is the same.
 unfoldable pub strictAnswerProgram : List ℕ → List ℕ
 unfolding strictAnswerOf
 strictAnswerProgram input = programOutput (strictAnswerOf input (replicate leastBuffer 0))

@@ -5,7 +5,7 @@ use mathlib.Core.Path.{_≡_, refl}
 use mathlib.Core.List.{List, [], _∷_}
 use lib.ListN.{length}
 use Rattle.model.specs.Visit.{Unmarked, Active, Done}
-use Rattle.model.specs.Propagation.{JoiningRule, doneNeighbours}
+use Rattle.model.specs.Propagation.{JoiningRule, setOf, doneNeighbours}
 use Rattle.model.specs.Job.{Block}
 use Rattle.model.specs.Stage.{propagated}
 use Rattle.model.specs.Strict.{strictNeighbours}
@@ -29,8 +29,8 @@ pub none-of-none : strictNeighbours (Done ∷ Done ∷ []) [] ≡ []
 unfolding strictNeighbours
 none-of-none = refl
 
--- P3 of document 01, "a block holding a path that a run avoids": 3 holds 5 no more, since 1 is
--- Active where 3 is joined.
+-- P3 of document 01, of which document 02 says: "a block holding a path that a run avoids". That
+-- is 3, which does not hold 5 here, since 1 is Active where 3 is joined.
 abbrev pub p3 : List Block
 p3 =
     block 0 [] [] ∷ block 1 (0 ∷ 3 ∷ []) [] ∷ block 2 (1 ∷ []) (five ∷ []) ∷ block 3 (1 ∷ 2 ∷ []) [] ∷ block 4 (1 ∷ []) [] ∷ []
@@ -94,6 +94,23 @@ pub active-holds-strict :
 unfolding propagated strictNeighbours
 active-holds-strict = (refl, refl, refl)
 
+-- What a block holds under the strict rule need not be part of what it holds under the existing
+-- one: 0 assumes 1, 1 (after 1, 0) and 2 assume 1?.10, and 3 comes after 1 and 2. Under the
+-- existing rule 1 comes to block 1 and makes 1.10 of 1?.10, which 2 does not have, so that 3 holds
+-- nothing; under the strict one 1?.10 stays in both, and comes to 3.
+abbrev pub otherPaths : List Block
+otherPaths =
+    block 0 [] (one [] ∷ []) ∷ block 1 (1 ∷ 0 ∷ []) (one (optional 10 ∷ []) ∷ []) ∷ block 2 [] (one (optional 10 ∷ []) ∷ [])
+    ∷ block 3 (1 ∷ 2 ∷ []) [] ∷ []
+
+-- how many paths block k holds in the end
+abbrev pub heldIn : JoiningRule → List Block → ℕ → ℕ
+heldIn rule bs k = length (setOf (propagated rule bs .work .sets) k)
+
+pub other-paths : (heldIn doneNeighbours otherPaths 3 ≡ 0) × (heldIn strictNeighbours otherPaths 3 ≡ 1)
+unfolding propagated doneNeighbours strictNeighbours
+other-paths = (refl, refl)
+
 -- A block without a neighbour joins nothing, and its set is still reduced.
 pub alone-strict :
     PropagatesTo strictNeighbours (block 7 [] (one [] ∷ one (optional 10 ∷ []) ∷ []) ∷ []) ((one [] ∷ one (plain 10 ∷ []) ∷ []) ∷ []) 2
@@ -104,8 +121,9 @@ alone-strict = (refl, refl, refl)
 abbrev pub nodesOf : JoiningRule → List Block → ℕ
 nodesOf rule bs = length (propagated rule bs .work .registry)
 
--- More under the strict rule: where 1 comes in from 0, 1?.10?.10 is reduced at once; where it does
--- not, ..
+-- More under the strict rule. Where 1 comes in from block 0, 1?.10?.10 becomes 1.10.10 at once.
+-- Where it does not, it becomes 1?.10.10, since 1?.10 is there, and 1.10.10 only in block 0, which
+-- joins backward.
 abbrev pub moreStrict : List Block
 moreStrict = block 0 [] (one [] ∷ []) ∷ block 1 (1 ∷ 0 ∷ []) (one (optional 10 ∷ []) ∷ one (optional 10 ∷ optional 10 ∷ []) ∷ []) ∷ []
 
