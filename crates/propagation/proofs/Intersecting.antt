@@ -43,12 +43,12 @@ module _ (marks sets : List ℕ) (k : ℕ) where
   unfolding setsToJoin doneNeighbours
   joins h n bs l = rw (is-done n marks k l h, row-at sets n k l)
 
-  pub not-done : (m : Intersection) → getD marks k 0 < 2 → Intersects doneNeighbours marks sets k m m
+  pub not-done : (m : Intersection) → getD marks k 0 < 2 → Intersects marks sets k m m
   not-done m h n bs l = ap (intersectionWith m) (sym (passed h n bs l))
 
   -- a set of a Done block is the first, or intersected with what there is
   module _ (done : 2 ≤ getD marks k 0) (m : Intersection) (any : Bool) (m-any : m .any ≡ any) (r : Intersection) (r-any : r .any ≡ true) where
-    pub taken-in : membersOf (r .set .words) ≡ nextBy any (membersOf (m .set .words)) (rowOf sets k) → Intersects doneNeighbours marks sets k m r
+    pub taken-in : membersOf (r .set .words) ≡ nextBy any (membersOf (m .set .words)) (rowOf sets k) → Intersects marks sets k m r
     taken-in e n bs l =
         let ss = setsToJoin doneNeighbours n marks sets bs in
         let s = membersOf (m .set .words) in
@@ -126,7 +126,7 @@ module _ {joining : Joining} {g : List ℕ} {backward : Bool} {b : ℕ} {marks s
       ∙ to-come bs (to .rest)
 
   pub intersecting-more : {k next : ℕ} → Next g backward b from k next → asksAll joining ≡ false ⊎ 2 ≤ getD marks k 0
-      → (r : Intersection) → Intersects doneNeighbours marks sets k m r → Intersecting joining g backward b marks sets r next
+      → (r : Intersection) → Intersects marks sets k m r → Intersecting joining g backward b marks sets r next
   intersecting-more {k} {next} to kept r taken =
       let bs = neighboursFrom g backward b next in
       record {

@@ -10,7 +10,7 @@ use Rattle.model.specs.Registry.{nodeLimit}
 use Rattle.model.specs.Reduction.{reduceMaybeOptionalChains}
 use Rattle.model.specs.ReductionLaws.{Members, IsReduced}
 use Rattle.model.specs.Visit.{TraversalState, Unmarked, Active, Done, Visited, visit}
-use Rattle.model.specs.Propagation.{Work, setOf, JoiningRule, intersectionOf, join}
+use Rattle.model.specs.Propagation.{Work, setOf, JoiningRule, doneNeighbours, intersectionOf, join}
 use Rattle.rows.specs.Members.{membersOf}
 use Rattle.rows.specs.Rows.{Lent, rowsOf}
 use Rattle.registry.specs.Words.{registryOf, Held}
@@ -58,11 +58,12 @@ intersectionBy false s ss = intersectionOf ss
 abbrev pub intersectionWith : Intersection → List NodeSet → NodeSet
 intersectionWith x ss = intersectionBy (x .any) (membersOf (x .set .words)) ss
 
--- Block k is taken in, among however many blocks: where it joins, its set is no more to come.
-abbrev pub Intersects : JoiningRule → List ℕ → List ℕ → ℕ → Intersection → Intersection → Type 0
-Intersects rule marks sets k before after =
+-- Block k is taken in, among however many blocks: where it is Done, its set is no more to come.
+abbrev pub Intersects : List ℕ → List ℕ → ℕ → Intersection → Intersection → Type 0
+Intersects marks sets k before after =
     (n : ℕ) (bs : List ℕ) → k < n
-    → intersectionWith after (setsToJoin rule n marks sets bs) ≡ intersectionWith before (setsToJoin rule n marks sets (k ∷ bs))
+    → intersectionWith after (setsToJoin doneNeighbours n marks sets bs)
+    ≡ intersectionWith before (setsToJoin doneNeighbours n marks sets (k ∷ bs))
 
 -- What the lent arrays are between two joins: each of n rows is a set of the registry's nodes.
 pub record RowsStand (n : ℕ) (sets ws os : List ℕ) : Type 0 where

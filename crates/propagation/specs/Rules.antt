@@ -10,7 +10,7 @@ abbrev pub ruleOf : Joining → JoiningRule
 ruleOf joining.DoneNeighbours = doneNeighbours
 ruleOf joining.StrictNeighbours = strictNeighbours
 
--- "Every neighbour is Done" is asked before any joins
+-- "Every neighbour is Done" is asked: one that is not keeps all from joining
 abbrev pub asksAll : Joining → Bool
 asksAll joining.DoneNeighbours = false
 asksAll joining.StrictNeighbours = true

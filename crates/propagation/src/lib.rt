@@ -7,7 +7,7 @@ ghost use Prim.Native.Nat.{_<_};
 ghost use lib.ListN.{length, getD};
 ghost use Rattle.model.specs.Reduction.{reduceMaybeOptionalChains};
 ghost use Rattle.model.specs.Visit.{leave};
-ghost use Rattle.model.specs.Propagation.{doneNeighbours, intersectionOf, round, propagateNonNull};
+ghost use Rattle.model.specs.Propagation.{intersectionOf, round, propagateNonNull};
 ghost use Rattle.rows.specs.Members.{membersOf};
 ghost use Rattle.rows.specs.Rows.{rowsOf};
 ghost use Rattle.registry.specs.Words.{registryOf};
@@ -102,7 +102,7 @@ fn with_neighbour(
     before: Intersection,
 ) -> Intersection
     requires { ⌜ k < 128 ⌝ }
-    ensures { λ r. ⌜ Intersects doneNeighbours (now (marks .entry)) (now (sets .entry)) k before r ⌝ }
+    ensures { λ r. ⌜ Intersects (now (marks .entry)) (now (sets .entry)) k before r ⌝ }
 {
     if marks[k] < 2 {
         return before;
@@ -139,7 +139,7 @@ fn intersection_of_joining(
         let Neighbour::At(k, next) = graph::next_neighbour(graph, backward, b, from) else {
             return found.or_empty();
         };
-        if asks_all(joining) && marks[k] < 2 {
+        if marks[k] < 2 && asks_all(joining) {
             return NodeBits::empty();
         }
         found = with_neighbour(marks, sets, k, found);

@@ -8,7 +8,6 @@ use mathlib.Core.Logic.{_⊎_, inl, inr, ⊎-elim}
 use mathlib.Core.Bool.{false}
 use lib.ListN.{getD}
 use borrow.Author.Needs.{needs}
-use Rattle.model.specs.Tests.{ltb-true, ltb-false}
 use Rattle.graph.specs.Bytes.{Next}
 use Rattle.graph.proofs.Neighbours.{found-at, found-nothing}
 use Rattle.propagation.specs.Rules.{asksAll}
@@ -34,24 +33,24 @@ loop-holds c =
     intersecting-start (a .joining) (a .graph .now) (a .backward) (a .b) (a .marks .now) (a .sets .now) (c .of-none .result) (c .of-none .ensures)
 
 -- the neighbour that is found
-next : (a : tie.After-asks-all Inv-loop μ-loop) → let k = a .before .before in let l = k .before .before .before in let s = l .before .before .args in
+next : (t : tie.After-known-told Inv-loop μ-loop) → let k = t .before in let l = k .before .before .before in let s = l .before .before .args in
     Next (s .graph .now) (s .backward) (s .b) (l .loop .from) (k .k .given .0 .0) (k .k .given .0 .1 .0)
-next a =
-    let k = a .before .before in
+next t =
+    let k = t .before in
     let n = k .before .before in
     found-at _ _ _ _ (n .next-neighbour .result) (n .next-neighbour .ensures) _ _ (k .k .given .1)
 
 -- it is one of 128 blocks
-inside : (a : tie.After-asks-all Inv-loop μ-loop) → a .before .before .k .given .0 .0 < 128
-inside a =
-    let few = a .before .before .before .before .before .before .before .pre .0 .size in
-    let here = next a .inside in
+inside : (t : tie.After-known-told Inv-loop μ-loop) → t .before .k .given .0 .0 < 128
+inside t =
+    let few = t .before .before .before .before .before .before .pre .0 .size in
+    let here = next t .inside in
     omega arith
 
 -- it is Done, or its being so is not asked
 kept : (j : tie.Joined1 Inv-loop μ-loop) → let k = j .before .before .before in let s = k .before .before .before .before .before .args in
     asksAll (s .joining) ≡ false ⊎ 2 ≤ getD (s .marks .now) (k .k .given .0 .0) 0
-kept j = ⊎-elim (λ w. inr (ltb-false _ 2 (w .2 .left))) (λ w. inl (sym (j .before .asks-all .ensures) ∙ w .left)) (j .if1 .came)
+kept j = ⊎-elim (λ w. inl (sym (w .1 .ensures) ∙ w .2 .left)) (λ w. let high = w .left in inr (omega arith)) (j .if1 .came)
 
 returns : tie.Need-returns Inv-loop μ-loop
 returns c =
@@ -59,31 +58,31 @@ returns c =
     c .or-empty .ensures ∙ intersecting-end (n .before .loop .inv)
     (found-nothing _ _ _ _ (n .next-neighbour .result) (n .next-neighbour .ensures) (c .before .enum-told .given .1))
 
-element-copy-out-if2 : tie.Need-element-copy-out-if2 Inv-loop μ-loop
-element-copy-out-if2 c = inside (c .before)
+element-copy-out-if1 : tie.Need-element-copy-out-if1 Inv-loop μ-loop
+element-copy-out-if1 c = inside c
 
 returns-2 : tie.Need-returns-2 Inv-loop μ-loop
 returns-2 c =
-    let t = c .before in
-    let f = t .before .before in
-    let a = f .before in
-    c .empty .ensures ∙ intersecting-none (a .before .before .before .before .before .loop .inv) (next a)
-    (sym (a .asks-all .ensures) ∙ f .if1 .taken) (ltb-true _ 2 (t .if2 .taken))
+    let a = c .before .before in
+    let f = a .before in
+    let t = f .before .before in
+    c .empty .ensures ∙ intersecting-none (t .before .before .before .before .loop .inv) (next t)
+    (sym (a .asks-all .ensures) ∙ c .before .if2 .taken) (f .if1 .taken)
 
 with-neighbour-requires : tie.Need-with-neighbour-requires Inv-loop μ-loop
-with-neighbour-requires c κs = inside (c .before)
+with-neighbour-requires c κs = inside (c .before .before)
 
 loop-less : tie.Need-loop-less Inv-loop μ-loop
 loop-less c =
-    let at = next (c .before .before) in
+    let at = next (c .before .before .before) in
     let onward = at .onward in
     let within = at .within in
     omega arith
 
 loop-again : tie.Need-loop-again Inv-loop μ-loop
 loop-again c =
-    let a = c .before .before in
-    intersecting-more (a .before .before .before .before .before .loop .inv) (next a) (kept (c .before)) (c .with-neighbour .result)
+    let t = c .before .before .before in
+    intersecting-more (t .before .before .before .before .loop .inv) (next t) (kept (c .before)) (c .with-neighbour .result)
     (c .with-neighbour .ensures)
 
 pub intersection-of-joining-spec : {M : Type 1} → statement M
@@ -99,8 +98,8 @@ intersection-of-joining-spec =
     (λ c. search needs)
     (λ c κs. search needs)
     returns
+    element-copy-out-if1
     (λ c κs. search needs)
-    element-copy-out-if2
     (λ c κs. search needs)
     returns-2
     with-neighbour-requires
