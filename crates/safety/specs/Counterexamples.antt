@@ -24,7 +24,7 @@ use Rattle.model.specs.Stage.{propagated, hoistablePaths, returnedPaths}
 use Rattle.model.specs.Answer.{Verdict, spanWidth, answerOf, Answered, readAnswer}
 use Rattle.model.specs.Strict.{strictAnswerOf}
 use Rattle.laws.specs.Membership.{Some, Member, none-any}
-use Rattle.safety.specs.Runs.{ControlSequence, WithoutLoops, NoPredecessor, NoSuccessor, FirstHas, LastHas, Run, AssumedHold}
+use Rattle.safety.specs.Runs.{Linked, ControlSequence, WithoutLoops, NoPredecessor, NoSuccessor, FirstHas, LastHas, Run, AssumedHold}
 use Rattle.safety.specs.Statement.{Exact, Demand3}
 use Rattle.laws.specs.CountLaws.{count-agree}
 use Rattle.model.specs.JobBytes.{jobBytes}
@@ -180,7 +180,7 @@ assumed-needed = existing-refuted WithoutAssumed assumed-case
 pub strict-assumed-needed : SafeUnder strictAnswerOf (InLoopFreeJobs WithoutAssumed) → ⊥
 strict-assumed-needed = strict-refuted WithoutAssumed assumed-case
 
--- the first block has no predecessor: 1 comes after 0, which assumes 5; the run is 1 alone
+-- the first block has no predecessor: 1 comes after 0, which assumes 5; the sequence is 1 alone
 abbrev pub after : Block
 after = block 1 (0 ∷ []) []
 
@@ -210,7 +210,7 @@ start-needed = existing-refuted WithoutStart start-case
 pub strict-start-needed : SafeUnder strictAnswerOf (InLoopFreeJobs WithoutStart) → ⊥
 strict-start-needed = strict-refuted WithoutStart start-case
 
--- the last block has no successor: 0 comes before 1, which assumes 5; the run is 0 alone
+-- the last block has no successor: 0 comes before 1, which assumes 5; the sequence is 0 alone
 abbrev pub first : Block
 first = block 0 [] []
 
@@ -242,7 +242,8 @@ end-needed = existing-refuted WithoutEnd end-case
 pub strict-end-needed : SafeUnder strictAnswerOf (InLoopFreeJobs WithoutEnd) → ⊥
 strict-end-needed = strict-refuted WithoutEnd end-case
 
--- by way of the scope block: 0, the scope block, assumes 5; the run is 1, which is not beside it
+-- by way of the scope block: 0, the scope block, assumes 5; the sequence is 1, which is not beside
+-- it
 abbrev pub alone : Block
 alone = block 1 [] []
 
@@ -271,6 +272,65 @@ scope-needed = existing-refuted WithoutScope scope-case
 
 pub strict-scope-needed : SafeUnder strictAnswerOf (InLoopFreeJobs WithoutScope) → ⊥
 strict-scope-needed = strict-refuted WithoutScope scope-case
+
+-- "Each a predecessor of the next": 1 (after 0) assumes 5, and 2 comes after it; the sequence is 0,
+-- 2
+abbrev pub behind : Block
+behind = block 2 (1 ∷ []) []
+
+abbrev pub WithoutLinks : Hypotheses
+WithoutLinks X S j s = All (λ b. Member b (j .blocks)) s × FirstHas NoPredecessor s × LastHas (NoSuccessor (j .blocks)) s × Some
+    (λ b. b .id ≡ j .scope) s × AssumedHold S s
+
+links-case : Counterexample WithoutLinks
+unfolding jobBytes readJob answerOf readAnswer
+links-case = record {
+  job = jobOf 2 (first ∷ assumingAfter ∷ behind ∷ []);
+  rounds = 2;
+  returns = record {
+    bytes = all-bytes (bytesOf (jobOf 2 (first ∷ assumingAfter ∷ behind ∷ []))) refl;
+    reads = refl;
+    answers = refl;
+    holds = refl;
+  };
+  noLoops = no-loops (first ∷ assumingAfter ∷ behind ∷ []) (tt, ((omega arith, tt), ((omega arith, tt), tt)));
+  sequence = first ∷ behind ∷ [];
+  meets = (
+    (inl refl, (inr (inr (inl refl)), tt)),
+    refl,
+    not-named (first ∷ assumingAfter ∷ behind ∷ []) behind refl,
+    inr (inl refl),
+    (tt, (tt, tt)),
+  );
+}
+
+pub links-needed : SafeUnder answerOf (InLoopFreeJobs WithoutLinks) → ⊥
+links-needed = existing-refuted WithoutLinks links-case
+
+pub strict-links-needed : SafeUnder strictAnswerOf (InLoopFreeJobs WithoutLinks) → ⊥
+strict-links-needed = strict-refuted WithoutLinks links-case
+
+-- blocks of the job: 0 assumes 5; the sequence is another block with that id, which assumes nothing
+abbrev pub WithoutMembers : Hypotheses
+WithoutMembers X S j s = Linked s × FirstHas NoPredecessor s × LastHas (NoSuccessor (j .blocks)) s × Some (λ b. b .id ≡ j .scope) s
+    × AssumedHold S s
+
+members-case : Counterexample WithoutMembers
+unfolding jobBytes readJob answerOf readAnswer
+members-case = record {
+  job = jobOf 0 (assuming ∷ []);
+  rounds = 1;
+  returns = record { bytes = all-bytes (bytesOf (jobOf 0 (assuming ∷ []))) refl; reads = refl; answers = refl; holds = refl };
+  noLoops = no-loops (assuming ∷ []) (tt, tt);
+  sequence = first ∷ [];
+  meets = (tt, refl, not-named (assuming ∷ []) first refl, inl refl, (tt, tt));
+}
+
+pub members-needed : SafeUnder answerOf (InLoopFreeJobs WithoutMembers) → ⊥
+members-needed = existing-refuted WithoutMembers members-case
+
+pub strict-members-needed : SafeUnder strictAnswerOf (InLoopFreeJobs WithoutMembers) → ⊥
+strict-members-needed = strict-refuted WithoutMembers members-case
 
 -- Worthless versions (document 01, "What the promises shut out").
 

@@ -1,6 +1,5 @@
 -- The strict answer beside the existing one: a job with a loop, a store and a run that meet all
--- hypotheses of `strict-demand-3`; and P3 of document 01, "a block holding a path that a run
--- avoids", under both rules.
+-- hypotheses of `strict-demand-3`; and P3 of document 01 under both rules.
 use Prim.Native.Nat.{ℕ}
 use native.Mathlib.Omega.{arith}
 use mathlib.Core.Path.{_≡_, refl, ap}
@@ -100,18 +99,30 @@ pub body-alone : deriveMinimalDependencies (body .assumed) (looped .candidates) 
 unfolding deriveMinimalDependencies
 body-alone = refl
 
--- P3, with scope block 3, on the run 0, 1, 3, 1, 4 and where nothing is there. The existing answer
--- returns 5.10 (`p3-returns`), which throws.
-pub p3-throws : Throws (read nothing path5-10)
-p3-throws = tt
-
--- The strict answer returns 5, which does not.
-pub p3-strict-returns : Returns5 strictAnswerOf p3 1
+-- P3, with scope block 3, on the run 0, 1, 3, 1, 4 and where nothing is there. The strict answer
+-- returns 5 after 1 round ..
+p3-strict-returns : Returns5 strictAnswerOf p3 1
 unfolding jobBytes readJob strictAnswerOf readAnswer
 p3-strict-returns = record { bytes = all-bytes (bytesOf p3) refl; reads = refl; answers = refl; holds = refl }
 
-pub p3-strict-no-throw : All (λ d. Throws (read nothing d) → ⊥) (path5 ∷ [])
-p3-strict-no-throw = answered-meets strict-demand-3 p3-strict-returns .safety tt (Unit {0}) nothing avoiding p3-run p3-assumed
+-- .. and the existing one 5.10 after 2, which throws; 5 does not.
+pub record P3UnderBoth : Type 0 where
+  pub existing : Returns5-10 answerOf p3 2
+  pub existingThrows : Throws (read nothing path5-10)
+  pub strict : Returns5 strictAnswerOf p3 1
+  pub strictDoesNot : Throws (read nothing path5) → ⊥
+  pub run : Run p3 avoiding
+  pub assumed : AssumedHold nothing avoiding
+
+pub p3-under-both : P3UnderBoth
+p3-under-both = record {
+  existing = p3-returns;
+  existingThrows = tt;
+  strict = p3-strict-returns;
+  strictDoesNot = answered-meets strict-demand-3 p3-strict-returns .safety tt (Unit {0}) nothing avoiding p3-run p3-assumed .0;
+  run = p3-run;
+  assumed = p3-assumed;
+}
 
 -- So loop-freedom is needed for `strict-same`: on P3 answers and sheets differ, the rounds already.
 
