@@ -26,6 +26,11 @@
 //! # Ok::<(), Box<dyn std::error::Error>>(())
 //! ```
 //!
+//! What a block assumes is passed on to others by a propagation, of which there are two. That of
+//! [`answer()`] and [`sheet()`] is promised to be safe, so that no returned path throws, for jobs
+//! without loops. The strict one, of [`strict_answer`] and [`strict_sheet`], is so for all jobs;
+//! where there are no loops, the two give the same.
+//!
 //! The stage itself is the proved library behind the C interface; no answer, no sheet and no thin
 //! job ([`Job::thin`], the same job without repeated paths) comes from anywhere else. Jobs, answers
 //! and sheets are written as text too, and jobs are read from it (`docs/NOTATION.md`).
@@ -33,8 +38,9 @@
 //! propagation, and [`draw`](mod@draw) makes a picture.
 //!
 //! Three features are on by default. `library` links the library; without it there are no `answer`,
-//! `sheet`, `Job::thin`, `Stage` and `raw`, and jobs are built, read and written. `explain` and
-//! `draw` are the modules of these names, and `replay` belongs to `explain`.
+//! `sheet`, `strict_answer`, `strict_sheet`, `Job::thin`, `Stage` and `raw`, and jobs are built,
+//! read and written. `explain` and `draw` are the modules of these names, and `replay` belongs to
+//! `explain`.
 
 #![deny(missing_docs)]
 #![deny(unsafe_code)]
@@ -81,7 +87,7 @@ pub use path::{Entry, Path, Property};
 pub use refusal::{ManyNodes, Place, Record, Refusal};
 pub use sheet::{Node, Sheet};
 #[cfg(feature = "library")]
-pub use stage::{answer, sheet, Stage};
+pub use stage::{answer, sheet, strict_answer, strict_sheet, Stage};
 
 /// Tests the examples of the package's README.
 #[cfg(all(doctest, feature = "library"))]

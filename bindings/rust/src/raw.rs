@@ -1,4 +1,4 @@
-//! The three operations on bytes, for those who have bytes.
+//! The five operations on bytes, for those who have bytes.
 //!
 //! Any bytes are allowed. A refusal of 3 to 8 says where in the job it was met.
 
@@ -33,6 +33,36 @@ pub fn answer(job: &[u8]) -> Result<Vec<u8>, Refusal> {
 /// As for [`answer`].
 pub fn sheet(job: &[u8]) -> Result<Vec<u8>, Refusal> {
     written(limits::OUT_BYTES, |out| sheet_into(job, out))
+}
+
+/// The answer's bytes by the strict propagation, as [`strict_answer`](crate::strict_answer) has
+/// them, for a job's bytes.
+///
+/// # Errors
+///
+/// The refusal from 2 to 9 that the stage gives these bytes. 9 counts the nodes of the strict
+/// propagation; the others are those of [`answer`].
+///
+/// ```
+/// use scope_deps::{raw, Job};
+///
+/// let with_loop: Job = "scope 1 block 0 assumes 1 block 1 after 1, 0 candidate 1.10".parse()?;
+/// assert_ne!(raw::strict_answer(with_loop.as_bytes())?, raw::answer(with_loop.as_bytes())?);
+/// let without: Job = "scope 1 block 0 assumes 1 block 1 after 0 candidate 1.10".parse()?;
+/// assert_eq!(raw::strict_answer(without.as_bytes())?, raw::answer(without.as_bytes())?);
+/// # Ok::<(), Box<dyn std::error::Error>>(())
+/// ```
+pub fn strict_answer(job: &[u8]) -> Result<Vec<u8>, Refusal> {
+    written(limits::OUT_BYTES, |out| strict_answer_into(job, out))
+}
+
+/// The sheet's bytes by the strict propagation for a job's bytes.
+///
+/// # Errors
+///
+/// As for [`strict_answer`].
+pub fn strict_sheet(job: &[u8]) -> Result<Vec<u8>, Refusal> {
+    written(limits::OUT_BYTES, |out| strict_sheet_into(job, out))
 }
 
 /// The bytes of the thin job for a job's bytes: the same job without repeated paths, as
@@ -75,6 +105,24 @@ pub fn answer_into(job: &[u8], out: &mut [u8]) -> Result<usize, Refusal> {
 /// As for [`answer_into`].
 pub fn sheet_into(job: &[u8], out: &mut [u8]) -> Result<usize, Refusal> {
     interface::sheet(job, out).map_err(|number| refusal(number, job))
+}
+
+/// Writes the answer by the strict propagation to the start of `out`, on the same terms.
+///
+/// # Errors
+///
+/// As for [`answer_into`], but for 9, which counts the nodes of the strict propagation.
+pub fn strict_answer_into(job: &[u8], out: &mut [u8]) -> Result<usize, Refusal> {
+    interface::strict_answer(job, out).map_err(|number| refusal(number, job))
+}
+
+/// Writes the sheet by the strict propagation to the start of `out`, on the same terms.
+///
+/// # Errors
+///
+/// As for [`strict_answer_into`].
+pub fn strict_sheet_into(job: &[u8], out: &mut [u8]) -> Result<usize, Refusal> {
+    interface::strict_sheet(job, out).map_err(|number| refusal(number, job))
 }
 
 /// Writes the thin job to the start of `out`, on the same terms.

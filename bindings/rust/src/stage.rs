@@ -10,6 +10,10 @@ use crate::refusal::{ManyNodes, Refusal};
 use crate::sheet::Sheet;
 use std::fmt;
 
+/// An operation of the stage: it writes to a buffer what it makes of a job's bytes, and gives the
+/// length or the number of a refusal.
+type Operation = fn(&[u8], &mut [u8]) -> Result<usize, u8>;
+
 /// The stage, for one job after the other.
 ///
 /// Its buffers are allocated once, when it is made. A job has its bytes already, and the answer or
@@ -53,11 +57,7 @@ impl Stage {
     ///
     /// Where the library that is linked is another than the stage's.
     pub fn answer(&mut self, job: &Job) -> Result<&Answer, ManyNodes> {
-        let written = only_many_nodes(interface::answer(job.as_bytes(), &mut self.out))?;
-        self.answer
-            .read(&self.out[..written], &mut self.spare)
-            .expect("the stage writes answers of its format");
-        Ok(&self.answer)
+        self.answer_by(interface::answer, job)
     }
 
     /// The sheet of a job, until the next call.
@@ -70,7 +70,46 @@ impl Stage {
     ///
     /// Where the library that is linked is another than the stage's.
     pub fn sheet(&mut self, job: &Job) -> Result<&Sheet, ManyNodes> {
-        let written = only_many_nodes(interface::sheet(job.as_bytes(), &mut self.out))?;
+        self.sheet_by(interface::sheet, job)
+    }
+
+    /// The answer of a job by the strict propagation, as [`strict_answer()`] has it, until the next
+    /// call.
+    ///
+    /// # Errors
+    ///
+    /// Where the registry has more than 512 nodes when the strict propagation ends.
+    ///
+    /// # Panics
+    ///
+    /// Where the library that is linked is another than the stage's.
+    pub fn strict_answer(&mut self, job: &Job) -> Result<&Answer, ManyNodes> {
+        self.answer_by(interface::strict_answer, job)
+    }
+
+    /// The sheet of a job by the strict propagation, until the next call.
+    ///
+    /// # Errors
+    ///
+    /// Where the registry has more than 512 nodes when the strict propagation ends.
+    ///
+    /// # Panics
+    ///
+    /// Where the library that is linked is another than the stage's.
+    pub fn strict_sheet(&mut self, job: &Job) -> Result<&Sheet, ManyNodes> {
+        self.sheet_by(interface::strict_sheet, job)
+    }
+
+    fn answer_by(&mut self, operation: Operation, job: &Job) -> Result<&Answer, ManyNodes> {
+        let written = only_many_nodes(operation(job.as_bytes(), &mut self.out))?;
+        self.answer
+            .read(&self.out[..written], &mut self.spare)
+            .expect("the stage writes answers of its format");
+        Ok(&self.answer)
+    }
+
+    fn sheet_by(&mut self, operation: Operation, job: &Job) -> Result<&Sheet, ManyNodes> {
+        let written = only_many_nodes(operation(job.as_bytes(), &mut self.out))?;
         self.sheet.read(&self.out[..written]).expect("the stage writes sheets of its format");
         Ok(&self.sheet)
     }
@@ -116,6 +155,27 @@ impl Stage {
         Ok(&self.out[..written])
     }
 
+    /// The answer's bytes by the strict propagation for a job's bytes, until the next call.
+    ///
+    /// # Errors
+    ///
+    /// As for [`answer_bytes`](Self::answer_bytes), but for 9, which counts the nodes of the strict
+    /// propagation.
+    pub fn strict_answer_bytes(&mut self, job: &[u8]) -> Result<&[u8], Refusal> {
+        let written = raw::strict_answer_into(job, &mut self.out)?;
+        Ok(&self.out[..written])
+    }
+
+    /// The sheet's bytes by the strict propagation for a job's bytes, until the next call.
+    ///
+    /// # Errors
+    ///
+    /// As for [`strict_answer_bytes`](Self::strict_answer_bytes).
+    pub fn strict_sheet_bytes(&mut self, job: &[u8]) -> Result<&[u8], Refusal> {
+        let written = raw::strict_sheet_into(job, &mut self.out)?;
+        Ok(&self.out[..written])
+    }
+
     /// The thin job's bytes for a job's bytes, until the next call.
     ///
     /// # Errors
@@ -158,9 +218,9 @@ impl Job {
     /// earlier one of the same list has the same variable and the same entries. Optional marks
     /// count; spans and whether a path is reactive do not, and the first keeps its own.
     ///
-    /// The thin job has the answer and the sheet of this one, or is refused by 9 as this one is,
-    /// and its thin job is itself. Names are kept. For many jobs, [`Stage::thin`] gives its bytes
-    /// without allocating.
+    /// The thin job has the answer and the sheet of this one, by either propagation, or is refused
+    /// by 9 as this one is, and its thin job is itself. Names are kept. For many jobs,
+    /// [`Stage::thin`] gives its bytes without allocating.
     ///
     /// # Panics
     ///
@@ -218,9 +278,7 @@ impl Job {
 /// # Ok::<(), Box<dyn std::error::Error>>(())
 /// ```
 pub fn answer(job: &Job) -> Result<Answer, ManyNodes> {
-    let mut out = vec![0; limits::OUT_BYTES];
-    let written = only_many_nodes(interface::answer(job.as_bytes(), &mut out))?;
-    Ok(Answer::from_bytes(&out[..written]).expect("the stage writes answers of its format"))
+    answer_by(interface::answer, job)
 }
 
 /// The sheet of a job.
@@ -244,7 +302,73 @@ pub fn answer(job: &Job) -> Result<Answer, ManyNodes> {
 /// # Ok::<(), Box<dyn std::error::Error>>(())
 /// ```
 pub fn sheet(job: &Job) -> Result<Sheet, ManyNodes> {
+    sheet_by(interface::sheet, job)
+}
+
+/// The answer of a job by the strict propagation, which is safe where the job has loops, too.
+///
+/// A block takes paths over from its neighbours only where it has one and every one of them is
+/// done; the existing propagation, that of [`answer`], takes them over from those that are. So no
+/// returned path throws on a finite run from a block with no predecessor, by way of the scope
+/// block, to one with no successor, where what the run's blocks assume is there. Where a job has no
+/// loops, both give the same.
+///
+/// # Errors
+///
+/// Where the registry has more than 512 nodes when the strict propagation ends. That may be more
+/// nodes than by the existing one, or fewer. A [`Job`] is refused for nothing else.
+///
+/// # Panics
+///
+/// Where the library that is linked is another than the stage's.
+///
+/// ```
+/// use scope_deps::{answer, strict_answer, Job};
+///
+/// // Block 1 is its own predecessor, and not done when it takes over.
+/// let job: Job = "scope 1 block 0 assumes 1 block 1 after 1, 0 candidate 1.10".parse()?;
+/// assert_eq!(answer(&job)?.to_string(), "rounds 2, settled\nreturned 1.10\n");
+/// assert_eq!(strict_answer(&job)?.to_string(), "rounds 1, settled\nreturned 1\n");
+/// # Ok::<(), Box<dyn std::error::Error>>(())
+/// ```
+pub fn strict_answer(job: &Job) -> Result<Answer, ManyNodes> {
+    answer_by(interface::strict_answer, job)
+}
+
+/// The sheet of a job by the strict propagation.
+///
+/// # Errors
+///
+/// Where the strict answer is refused too: the registry has more than 512 nodes when the strict
+/// propagation ends.
+///
+/// # Panics
+///
+/// Where the library that is linked is another than the stage's.
+///
+/// ```
+/// use scope_deps::{strict_sheet, Job};
+///
+/// let job: Job = "scope 1 block 0 assumes 1 block 1 after 1, 0".parse()?;
+/// let sheet = strict_sheet(&job)?;
+/// assert_eq!(
+///     sheet.to_string(),
+///     "rounds 1, settled\nnode 0 1\nblock 0 holds 1\nblock 1 holds nothing\n"
+/// );
+/// # Ok::<(), Box<dyn std::error::Error>>(())
+/// ```
+pub fn strict_sheet(job: &Job) -> Result<Sheet, ManyNodes> {
+    sheet_by(interface::strict_sheet, job)
+}
+
+fn answer_by(operation: Operation, job: &Job) -> Result<Answer, ManyNodes> {
     let mut out = vec![0; limits::OUT_BYTES];
-    let written = only_many_nodes(interface::sheet(job.as_bytes(), &mut out))?;
+    let written = only_many_nodes(operation(job.as_bytes(), &mut out))?;
+    Ok(Answer::from_bytes(&out[..written]).expect("the stage writes answers of its format"))
+}
+
+fn sheet_by(operation: Operation, job: &Job) -> Result<Sheet, ManyNodes> {
+    let mut out = vec![0; limits::OUT_BYTES];
+    let written = only_many_nodes(operation(job.as_bytes(), &mut out))?;
     Ok(Sheet::from_bytes(&out[..written]).expect("the stage writes sheets of its format"))
 }

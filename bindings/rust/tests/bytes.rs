@@ -74,15 +74,21 @@ fn every_prefix_and_every_changed_byte_is_refused_alike() {
 
 #[test]
 fn the_stored_answers_and_sheets_are_read() {
-    let mut read = 0;
+    let mut read = [0, 0];
     for record in stored().iter().filter(|record| has_usual_buffer(record)) {
         let Ok(job) = Job::from_bytes(&record.job) else { continue };
-        let Ok(answer) = scope_deps::answer(&job) else { continue };
-        read += 1;
-        assert_eq!(Answer::from_bytes(&record.answer).unwrap(), answer);
-        assert_eq!(Sheet::from_bytes(&record.sheet).unwrap(), scope_deps::sheet(&job).unwrap());
+        if let (Ok(answer), Ok(sheet)) = (scope_deps::answer(&job), scope_deps::sheet(&job)) {
+            read[0] += 1;
+            assert_eq!(Answer::from_bytes(&record.answer).unwrap(), answer);
+            assert_eq!(Sheet::from_bytes(&record.sheet).unwrap(), sheet);
+        }
+        if let (Ok(answer), Ok(sheet)) = (scope_deps::strict_answer(&job), scope_deps::strict_sheet(&job)) {
+            read[1] += 1;
+            assert_eq!(Answer::from_bytes(&record.strict_answer).unwrap(), answer);
+            assert_eq!(Sheet::from_bytes(&record.strict_sheet).unwrap(), sheet);
+        }
     }
-    assert!(read > 100, "{read}");
+    assert!(read.iter().all(|&read| read > 100), "{read:?}");
 }
 
 #[test]

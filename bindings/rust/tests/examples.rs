@@ -3,8 +3,8 @@
 mod common;
 
 use common::repository;
-use scope_deps::draw::draw;
-use scope_deps::{answer, sheet, Job};
+use scope_deps::draw::{draw, draw_strict};
+use scope_deps::{answer, sheet, strict_answer, strict_sheet, Job};
 use std::fs;
 use std::path::PathBuf;
 
@@ -39,6 +39,18 @@ fn each_example_has_the_answer_beside_it() {
 }
 
 #[test]
+fn the_loop_has_its_strict_answer_beside_it_too_and_the_others_have_no_other() {
+    let expected = read(repository("examples/loop.strict-answer"));
+    for name in names() {
+        let job = job(&name);
+        let (answer, strict) = (answer(&job).unwrap(), strict_answer(&job).unwrap());
+        let shown = strict.with_names(job.names()).to_string();
+        assert!(if name == "loop" { shown == expected } else { strict == answer }, "{name}: {shown}");
+    }
+    assert_ne!(read(repository("examples/loop.answer")), expected);
+}
+
+#[test]
 fn each_example_says_what_it_shows_and_the_readme_lists_it() {
     let readme = read(repository("README.md"));
     for name in names() {
@@ -50,12 +62,18 @@ fn each_example_says_what_it_shows_and_the_readme_lists_it() {
 #[test]
 fn the_pictures_in_the_readme_are_those_that_are_drawn() {
     let readme = read(repository("README.md"));
+    let check = |file: &str, svg: String| {
+        assert!(svg == read(repository(file)), "{file}: draw it again by `scope-deps draw`");
+        assert!(readme.contains(file), "{file}");
+    };
     for name in ["no-last-session", "loop"] {
-        let (job, file) = (job(name), format!("docs/pictures/{name}.svg"));
+        let job = job(name);
         let svg = draw(&job, &sheet(&job).unwrap(), &answer(&job).unwrap()).unwrap();
-        assert!(svg == read(repository(&file)), "{file}: draw it again by `scope-deps draw`");
-        assert!(readme.contains(&file));
+        check(&format!("docs/pictures/{name}.svg"), svg);
     }
+    let job = job("loop");
+    let strict = draw_strict(&job, &strict_sheet(&job).unwrap(), &strict_answer(&job).unwrap()).unwrap();
+    check("docs/pictures/loop-strict.svg", strict);
 }
 
 /// The indented parts of a document that start a job.

@@ -3,14 +3,22 @@
 mod common;
 
 use common::{jobs, repository};
-use scope_deps::explain::{blocks_that_matter, explain, Elsewhere, End, Explanation, Mismatch};
-use scope_deps::{answer, raw, sheet, BlockId, Job, Sheet};
+use scope_deps::explain::{
+    blocks_that_matter, explain, explain_strict, Base, Elsewhere, End, Explanation, Mismatch,
+};
+use scope_deps::{answer, raw, sheet, strict_answer, strict_sheet, BlockId, Job, Sheet};
 use std::collections::BTreeSet;
 use std::process::Command;
 
 fn explained(job: &Job) -> Option<Explanation> {
     let (sheet, answer) = (sheet(job).ok()?, answer(job).ok()?);
     Some(explain(job, &sheet, &answer).unwrap_or_else(|why| panic!("{why}:\n{job}")))
+}
+
+/// The same by the strict propagation.
+fn strictly_explained(job: &Job) -> Option<Explanation> {
+    let (sheet, answer) = (strict_sheet(job).ok()?, strict_answer(job).ok()?);
+    Some(explain_strict(job, &sheet, &answer).unwrap_or_else(|why| panic!("{why}:\n{job}")))
 }
 
 fn explained_text(job: &str) -> Explanation {
@@ -29,7 +37,15 @@ fn full(job: &str) -> String {
 
 /// What is said of why the last entry of the last candidate is cut.
 fn cut(job: &str) -> Vec<String> {
-    let said = short(job);
+    cut_in(&short(job))
+}
+
+/// The same by the strict propagation.
+fn strictly_cut(job: &str) -> Vec<String> {
+    cut_in(&strictly_explained(&job.parse().unwrap()).unwrap().to_string())
+}
+
+fn cut_in(said: &str) -> Vec<String> {
     let lines = said.lines().skip_while(|line| !line.contains("  is cut: ")).skip(1);
     lines.map(|line| line.trim().to_string()).collect()
 }
@@ -215,6 +231,94 @@ fn a_loop_from_which_nothing_is_taken_over() {
 }
 
 #[test]
+fn the_loop_by_the_strict_propagation() {
+    let job: Job = std::fs::read_to_string(repository("examples/loop.job")).unwrap().parse().unwrap();
+    let explanation = strictly_explained(&job).unwrap();
+    assert_eq!(
+        explanation.in_full().to_string(),
+        "\
+strict propagation: a block takes paths over from the blocks before it, or after it, only where all of these are finished
+
+candidate beat.rate
+ returned beat
+    .rate  is cut: beat is not known to be there in block 3
+           beat is there in block 2 [1]
+           it stops at block 3: block 3 takes nothing over from the blocks before it, since block 1 is on a loop with it and not finished
+           it stops at block 1: block 1 takes nothing over from the blocks after it, since block 3 is on a loop with it and not finished
+
+[1] how beat came there
+    block 2 assumes beat
+"
+    );
+}
+
+#[test]
+fn by_the_strict_propagation_one_block_that_is_not_finished_keeps_all_from_being_taken_over() {
+    let loop_of_both =
+        "scope 3 block 0 block 1 after 0, 3 assumes 5 block 2 after 1 assumes 5 block 3 after 1, 2 \
+                        block 4 after 3 candidate 5.10";
+    assert_eq!(
+        strictly_cut(loop_of_both),
+        ["blocks 1 and 2 assume 5, but block 3 takes nothing over from the blocks before it, \
+          since block 1 is on a loop with it and not finished"]
+    );
+    assert!(cut(loop_of_both).is_empty(), "the existing one leaves block 1 out");
+    let on_the_way =
+        "scope 5 block 0 assumes 5 block 2 after 1 block 1 after 0, 1, 2 block 5 after 1 candidate 5.10";
+    assert_eq!(
+        strictly_cut(on_the_way),
+        ["block 0 assumes 5, but on the way to block 5 it stops at block 1: block 1 takes nothing over from the \
+          blocks before it, since blocks 1 and 2 are on a loop with it and not finished"]
+    );
+    let turned = "scope 0 block 0 block 1 after 0, 1 block 2 after 1 assumes 5 candidate 5.10";
+    assert_eq!(
+        strictly_cut(turned),
+        ["block 2 assumes 5, but on the way to block 0 it stops at block 1: block 1 takes nothing over from the \
+          blocks after it, since it is itself one of them and not finished"]
+    );
+    let all = "scope 2 block 1 after 2 assumes 5 block 2 after 1 block 3 after 2 candidate 5.10";
+    assert_eq!(strictly_cut(all), cut(all));
+}
+
+/// Block 1 is on a loop, and block 2 takes over from it alone.
+#[test]
+fn by_the_strict_propagation_a_job_with_a_loop_keeps_what_finished_blocks_have() {
+    let job = "scope 2 block 0 assumes 5 block 1 after 0, 1 assumes 6 block 2 after 1 candidate 5.10, 6.11";
+    let explanation = strictly_explained(&job.parse().unwrap()).unwrap();
+    let said = explanation.to_string();
+    let known = "6 is known to be there in block 2; it comes from block 1, which assumes it\n";
+    assert!(said.contains(known) && said.contains("5 is not known to be there in block 2\n"), "{said}");
+    let way = "
+    block 1 assumes 6
+    block 2 took 6 over from block 1, the only block that control comes from\n";
+    assert!(explanation.in_full().to_string().contains(way), "{}", explanation.in_full());
+}
+
+#[test]
+fn by_the_strict_propagation_no_block_is_left_out() {
+    let mut known = 0;
+    for job in jobs(34, 1_500) {
+        let Some(explanation) = strictly_explained(&job) else { continue };
+        assert!(!explanation.in_full().to_string().contains("left out"), "{explanation}");
+        let bases = explanation.reasons.iter().flat_map(|reason| &reason.bases);
+        known += bases.filter(|base| matches!(base, Base::Known(_))).count();
+    }
+    assert!(known > 100, "{known}");
+}
+
+#[test]
+fn a_sheet_and_an_answer_by_the_other_propagation_are_not_explained() {
+    let job: Job = "scope 1 block 0 assumes 1 block 1 after 1, 0 candidate 1.10".parse().unwrap();
+    let (existing, strict) = (sheet(&job).unwrap(), strict_sheet(&job).unwrap());
+    let (answered, strictly) = (answer(&job).unwrap(), strict_answer(&job).unwrap());
+    assert_eq!(explain(&job, &strict, &strictly), Err(Mismatch));
+    assert_eq!(explain(&job, &existing, &strictly), Err(Mismatch));
+    assert_eq!(explain_strict(&job, &existing, &answered), Err(Mismatch));
+    assert_eq!(explain_strict(&job, &strict, &answered), Err(Mismatch));
+    assert!(explain(&job, &existing, &answered).is_ok() && explain_strict(&job, &strict, &strictly).is_ok());
+}
+
+#[test]
 fn a_base_that_no_block_assumes() {
     assert_eq!(cut("scope 7 block 7 assumes 1 candidate 1.10.11"), ["no block assumes 1.10"]);
     assert_eq!(
@@ -347,6 +451,11 @@ fn a_job_that_does_not_settle_says_so_at_each_cut() {
 fn a_job_without_candidates_is_explained_too() {
     assert_eq!(short("scope 7 block 7"), "the job has no candidate, so no path is returned\n");
     assert_eq!(full("scope 7 block 7"), "the job has no candidate, so no path is returned\n");
+    let strict = strictly_explained(&"scope 7 block 7".parse().unwrap()).unwrap().to_string();
+    assert!(
+        strict.starts_with("strict propagation: ") && strict.ends_with(&short("scope 7 block 7")),
+        "{strict}"
+    );
 }
 
 #[test]
@@ -364,8 +473,8 @@ fn no_sentence_has_inner_words_and_a_cut_has_few_lines() {
         "holds",
         "reads",
     ];
-    for job in jobs(32, 1_500) {
-        let Some(explanation) = explained(&job) else { continue };
+    let all = jobs(32, 1_500).flat_map(|job| [explained(&job), strictly_explained(&job)]);
+    for explanation in all.flatten() {
         let (short, full) = (explanation.to_string(), explanation.in_full().to_string());
         for text in [&short, &full] {
             let words: BTreeSet<&str> = text.split(|c: char| !c.is_alphabetic()).collect();
@@ -373,20 +482,23 @@ fn no_sentence_has_inner_words_and_a_cut_has_few_lines() {
         }
         let entries: usize = explanation.reasons.iter().map(|reason| reason.bases.len() + 1).sum();
         let most = 3 + usize::from(!explanation.settled);
-        assert!(short.lines().count() <= 1 + 4 * explanation.reasons.len() + most * entries, "{short}");
+        assert!(short.lines().count() <= 3 + 4 * explanation.reasons.len() + most * entries, "{short}");
     }
 }
 
 #[test]
 fn the_blocks_that_matter_are_those_that_the_text_names() {
-    let mut some_left_out = 0;
+    let mut some_left_out = [0, 0];
     for job in jobs(33, 1_500) {
-        let Some(explanation) = explained(&job) else { continue };
-        let named = blocks_named(&explanation.in_full().to_string());
-        assert_eq!(blocks_that_matter(&explanation), named, "{job}");
-        some_left_out += usize::from(!named.is_empty() && named.len() < job.blocks().len());
+        for (count, explanation) in some_left_out.iter_mut().zip([explained(&job), strictly_explained(&job)])
+        {
+            let Some(explanation) = explanation else { continue };
+            let named = blocks_named(&explanation.in_full().to_string());
+            assert_eq!(blocks_that_matter(&explanation), named, "{job}");
+            *count += usize::from(!named.is_empty() && named.len() < job.blocks().len());
+        }
     }
-    assert!(some_left_out > 100, "{some_left_out}");
+    assert!(some_left_out.iter().all(|&count| count > 100), "{some_left_out:?}");
 }
 
 /// The numbers after `block`, and those of the list after `blocks`.

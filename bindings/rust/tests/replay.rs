@@ -3,17 +3,24 @@
 mod common;
 
 use common::{all_bytes, jobs};
-use scope_deps::replay::{Replay, Side, Visit};
-use scope_deps::{raw, sheet, Job, NodeId, Refusal, Sheet};
+use scope_deps::replay::{Propagation, Replay, Side, Visit};
+use scope_deps::{raw, sheet, strict_sheet, Job, ManyNodes, NodeId, Sheet};
 use std::collections::{BTreeSet, HashMap};
 
-#[test]
-fn the_replay_ends_with_the_library_s_sheet_or_where_it_refuses_by_nine() {
-    let (mut same, mut refused, mut unsettled, mut many_rounds) = (0, 0, 0, 0);
+/// A replay, and the library's sheet by the same propagation.
+type Pair = (fn(&Job) -> Result<Replay, ManyNodes>, fn(&Job) -> Result<Sheet, ManyNodes>);
+
+const EXISTING: Pair = (Replay::new, sheet);
+const STRICT: Pair = (Replay::strict, strict_sheet);
+
+/// How many replays ended with the library's sheet, and how many where the library refuses by 9;
+/// and how many of the first did not settle, or took more than so many rounds.
+fn ended_alike((replay, sheet): Pair, rounds: u8) -> [usize; 4] {
+    let [mut same, mut refused, mut unsettled, mut many_rounds] = [0; 4];
     for bytes in all_bytes(11, 20_000) {
         let Ok(job) = Job::from_bytes(&bytes) else { continue };
-        let Ok(replay) = Replay::new(&job) else {
-            assert_eq!(raw::sheet(&bytes), Err(Refusal::ManyNodes), "{job}");
+        let Ok(replay) = replay(&job) else {
+            assert_eq!(sheet(&job), Err(ManyNodes), "{job}");
             refused += 1;
             continue;
         };
@@ -21,10 +28,23 @@ fn the_replay_ends_with_the_library_s_sheet_or_where_it_refuses_by_nine() {
         assert!(replay.agrees_with(&job, &sheet), "{job}");
         same += 1;
         unsettled += usize::from(!replay.is_settled());
-        many_rounds += usize::from(replay.rounds() > 3);
+        many_rounds += usize::from(replay.rounds() > rounds);
     }
+    [same, refused, unsettled, many_rounds]
+}
+
+#[test]
+fn the_replay_ends_with_the_library_s_sheet_or_where_it_refuses_by_nine() {
+    let [same, refused, unsettled, many_rounds] = ended_alike(EXISTING, 3);
     assert!(same > 10_000, "{same}");
     assert!(refused > 50 && unsettled > 10 && many_rounds > 100, "{refused} {unsettled} {many_rounds}");
+}
+
+#[test]
+fn so_does_the_strict_one() {
+    let [same, refused, _, many_rounds] = ended_alike(STRICT, 1);
+    assert!(same > 10_000, "{same}");
+    assert!(refused > 50 && many_rounds > 1_000, "{refused} {many_rounds}");
 }
 
 /// The neighbours of each block on a side, in the order in which document 01 takes them.
@@ -129,10 +149,16 @@ fn check_walks(job: &Job, replay: &Replay) {
         assert_eq!(left, orders[&side], "{job}");
         for (at, visit) in walk.iter().enumerate() {
             assert_eq!((usize::from(visit.round), visit.side), (round, side));
+            let near = neighbours(job, visit.block, side);
             let done = |near: &usize| left[..at].contains(near);
-            let (joined, passed_over): (Vec<usize>, Vec<usize>) =
-                neighbours(job, visit.block, side).into_iter().partition(done);
-            assert_eq!((&joined, &passed_over), (&visit.joined, &visit.passed_over), "{job}");
+            let (finished, unfinished): (Vec<usize>, Vec<usize>) = near.iter().copied().partition(done);
+            let (joined, passed_over) = match replay.propagation() {
+                Propagation::Existing => (finished, unfinished.clone()),
+                Propagation::Strict if unfinished.is_empty() => (near, Vec::new()),
+                Propagation::Strict => (Vec::new(), near),
+            };
+            let traced = (&visit.joined, &visit.passed_over, &visit.unfinished);
+            assert_eq!((&joined, &passed_over, &unfinished), traced, "{job}");
         }
     }
 }
@@ -148,19 +174,38 @@ fn check_sets(job: &Job, replay: &Replay, sheet: &Sheet) {
 
 #[test]
 fn the_trace_is_a_run_of_the_walks_and_its_events_make_the_sheet() {
-    let (mut came_in, mut replaced, mut passed_over) = (0, 0, 0);
-    for job in jobs(12, 3_000) {
-        let Ok(replay) = Replay::new(&job) else { continue };
-        check_walks(&job, &replay);
-        check_sets(&job, &replay, &sheet(&job).unwrap());
-        came_in += replay.visits().iter().map(|visit| visit.came_in.len()).sum::<usize>();
-        replaced += replay.visits().iter().map(|visit| visit.replaced.len()).sum::<usize>();
-        passed_over += replay.visits().iter().map(|visit| visit.passed_over.len()).sum::<usize>();
+    for (propagation, (replay, sheet)) in [(Propagation::Existing, EXISTING), (Propagation::Strict, STRICT)] {
+        let [mut came_in, mut replaced, mut passed_over, mut unfinished] = [0; 4];
+        for job in jobs(12, 3_000) {
+            let Ok(replay) = replay(&job) else { continue };
+            assert_eq!(replay.propagation(), propagation);
+            check_walks(&job, &replay);
+            check_sets(&job, &replay, &sheet(&job).unwrap());
+            let count = |of: fn(&Visit) -> usize| replay.visits().iter().map(of).sum::<usize>();
+            came_in += count(|visit| visit.came_in.len());
+            replaced += count(|visit| visit.replaced.len());
+            passed_over += count(|visit| visit.passed_over.len());
+            unfinished += count(|visit| visit.unfinished.len());
+        }
+        let counts = [came_in, replaced, passed_over, unfinished];
+        assert!(came_in > 10_000 && replaced > 1_000 && unfinished > 10_000, "{counts:?}");
+        assert_eq!(passed_over > unfinished, propagation == Propagation::Strict, "{counts:?}");
     }
-    assert!(
-        came_in > 10_000 && replaced > 1_000 && passed_over > 10_000,
-        "{came_in} {replaced} {passed_over}"
-    );
+}
+
+#[test]
+fn without_loops_both_replays_are_the_same_and_with_loops_some_differ() {
+    let [mut without_loops, mut differ] = [0; 2];
+    for job in jobs(13, 5_000) {
+        let (Ok(existing), Ok(strict)) = (Replay::new(&job), Replay::strict(&job)) else { continue };
+        if existing.visits().iter().all(|visit| visit.unfinished.is_empty()) {
+            assert_eq!(existing.visits(), strict.visits(), "{job}");
+            without_loops += 1;
+        } else {
+            differ += usize::from(!strict.agrees_with(&job, &sheet(&job).unwrap()));
+        }
+    }
+    assert!(without_loops > 500 && differ > 500, "{without_loops} {differ}");
 }
 
 #[test]
@@ -200,12 +245,31 @@ fn a_block_that_is_being_visited_is_passed_over() {
     assert_eq!((&visit.joined[..], &visit.passed_over[..]), (&[place(3)][..], &[place(1)][..]));
 }
 
+/// Block 0 has predecessors that are all done, block 3 one that is and one that is being visited,
+/// and block 1 none.
+#[test]
+fn the_strict_one_joins_all_or_none() {
+    let text = "scope 2 block 2 block 0 after 3, 1, 2 block 3 after 0, 1 block 1 assumes 2 candidate 2.10";
+    let job: Job = text.parse().unwrap();
+    let replay = Replay::strict(&job).unwrap();
+    let place = |id| job.place_of(scope_deps::BlockId(id)).unwrap();
+    let of = |id| {
+        let of_block = |visit: &&Visit| visit.block == place(id) && visit.side == Side::Predecessors;
+        replay.visits().iter().find(of_block).unwrap()
+    };
+    assert_eq!(of(0).joined, [place(3), place(1), place(2)]);
+    assert!(of(0).passed_over.is_empty() && of(0).unfinished.is_empty());
+    assert!(of(3).joined.is_empty() && of(3).came_in.is_empty());
+    assert_eq!((&of(3).passed_over[..], &of(3).unfinished[..]), (&[place(0), place(1)][..], &[place(0)][..]));
+    assert!(of(1).joined.is_empty() && of(1).passed_over.is_empty());
+}
+
 #[test]
 fn debug_shows_nodes_and_not_the_bits_of_sets() {
     let job: Job = "scope 1 block 0 assumes 1?.10 block 1 after 0 assumes 1".parse().unwrap();
     let shown = format!("{:?}", Replay::new(&job).unwrap());
     let nodes = r#"nodes: {NodeId(0): "1", NodeId(1): "1?.10", NodeId(2): "1.10"}"#;
-    assert!(shown.contains(nodes), "{shown}");
+    assert!(shown.contains(nodes) && shown.contains("propagation: Existing"), "{shown}");
     assert!(shown.contains("sets: [{NodeId(0), NodeId(2)}, {NodeId(0), NodeId(2)}]"), "{shown}");
 }
 
@@ -216,4 +280,5 @@ fn a_job_with_too_many_nodes_is_refused_as_the_stage_refuses_it() {
         paths.chunks(64).enumerate().map(|(id, paths)| format!("block {id} assumes {}", paths.join(", ")));
     let job: Job = format!("scope 0 {}", blocks.collect::<Vec<_>>().join(" ")).parse().unwrap();
     assert_eq!(Replay::new(&job).unwrap_err(), sheet(&job).unwrap_err());
+    assert_eq!(Replay::strict(&job).unwrap_err(), strict_sheet(&job).unwrap_err());
 }

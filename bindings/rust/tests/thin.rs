@@ -3,7 +3,7 @@
 mod common;
 
 use common::{all_bytes, jobs, stored};
-use scope_deps::{answer, limits, raw, sheet, Job, Path, Stage};
+use scope_deps::{answer, limits, raw, sheet, strict_answer, strict_sheet, Job, Path, Stage};
 
 fn thin(text: &str) -> String {
     text.parse::<Job>().unwrap().thin().to_string()
@@ -44,12 +44,13 @@ fn has_repeat(paths: &[Path]) -> bool {
 
 #[test]
 fn a_thin_job_has_no_repeats_and_the_same_answer_and_sheet() {
-    let (mut shorter, mut refused) = (0, 0);
+    let [mut shorter, mut refused, mut differ] = [0; 3];
     for job in jobs(21, 4_000) {
         let thin = job.thin();
         assert_eq!(Job::from_bytes(thin.as_bytes()).unwrap(), thin);
         assert_eq!(thin.to_string().parse::<Job>().unwrap(), thin);
         assert_eq!((answer(&thin), sheet(&thin)), (answer(&job), sheet(&job)));
+        assert_eq!((strict_answer(&thin), strict_sheet(&thin)), (strict_answer(&job), strict_sheet(&job)));
         assert_eq!(thin.thin(), thin);
         assert!(!has_repeat(thin.candidates()));
         assert!(thin.blocks().iter().all(|block| !has_repeat(block.assumed())));
@@ -57,8 +58,9 @@ fn a_thin_job_has_no_repeats_and_the_same_answer_and_sheet() {
         assert_eq!(thin == job, !has_repeats && !has_repeat(job.candidates()));
         shorter += usize::from(thin != job);
         refused += usize::from(thin != job && answer(&job).is_err());
+        differ += usize::from(thin != job && strict_sheet(&job) != sheet(&job));
     }
-    assert!(shorter > 500 && refused > 20, "{shorter} {refused}");
+    assert!(shorter > 500 && refused > 20 && differ > 20, "{shorter} {refused} {differ}");
 }
 
 #[test]

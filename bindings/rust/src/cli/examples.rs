@@ -15,7 +15,11 @@ const EXAMPLES: [(&str, &str, &str); 5] = [
         "what both branches assume is known after them, and what one assumes is not",
         include_str!("jobs/diamond.job"),
     ),
-    ("loop", "a block of a loop holds a path that a run avoids", include_str!("jobs/loop.job")),
+    (
+        "loop",
+        "a block of a loop holds a path that a run avoids, but not with `--strict`",
+        include_str!("jobs/loop.job"),
+    ),
     ("repeats", "a thin job has each path of a list once", include_str!("jobs/repeats.job")),
 ];
 

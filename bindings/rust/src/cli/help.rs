@@ -24,6 +24,7 @@ FILE holds one job. Where it is missing or `-`, standard input is read. `answer`
   --from FORM          take the job as `text`, `bytes` or `hex` (a dump of xxd or hexdump -C)
   --names FILE         names of variables and properties, for a job that does not give them
   --bytes              of `answer`, `sheet` and `thin`: write bytes, and not text
+  --strict             of `answer`, `sheet`, `explain` and `draw`: by the strict propagation
   --all                of `explain`: write all that is known, step by step
   --focus              of `draw`: draw only the blocks that matter to the candidates
   -h, --help           this, or after a command help on it
@@ -50,6 +51,7 @@ usage: scope-deps examples [NAME]
 Lists jobs to try, or writes the one of this name as text, to be read and answered:
 
   $ scope-deps examples loop | scope-deps explain
+  $ scope-deps examples loop | scope-deps explain --strict
 ";
 
 const NOTATION: &str = "\
@@ -113,7 +115,7 @@ means, and for 3 to 8 at which byte and in which record:
 ";
 
 const ANSWER: &str = "\
-usage: scope-deps answer [-o FILE] [--bytes] [--from FORM] [--names FILE] [FILE]
+usage: scope-deps answer [-o FILE] [--bytes] [--strict] [--from FORM] [--names FILE] [FILE]
 
 Writes what the stage returns for a job: how many rounds propagation took, whether it settled, and
 each returned path.
@@ -121,10 +123,23 @@ each returned path.
   $ echo 'scope 7 block 7 assumes reactive 1 candidate reactive 1@5.10@6' | scope-deps answer
   rounds 1, settled
   returned reactive 1@6.10@6
+
+Where blocks are on a loop, a block may hold a path that a run of control avoids, and a returned path may
+then throw on that run. With `--strict`, a block takes paths over from the blocks before it, or after it,
+only where all of these are finished. So no returned path throws, loops or not, on a run from a block
+with no predecessor, by way of the scope block, to one with no successor, where what the run's blocks
+assume is there. Without loops both are the same.
+
+  $ echo 'scope 1 block 0 assumes 1 block 1 after 1, 0 candidate 1.10' | scope-deps answer
+  rounds 2, settled
+  returned 1.10
+  $ echo 'scope 1 block 0 assumes 1 block 1 after 1, 0 candidate 1.10' | scope-deps answer --strict
+  rounds 1, settled
+  returned 1
 ";
 
 const SHEET: &str = "\
-usage: scope-deps sheet [-o FILE] [--bytes] [--from FORM] [--names FILE] [FILE]
+usage: scope-deps sheet [-o FILE] [--bytes] [--strict] [--from FORM] [--names FILE] [FILE]
 
 Writes what propagation arrived at: the nodes of all paths, by number, and the paths that each block
 holds, that is those known in it to be neither null nor undefined.
@@ -135,6 +150,8 @@ holds, that is those known in it to be neither null nor undefined.
   node 1 1?.10
   node 2 1.10
   block 0 holds 1, 1.10
+
+With `--strict` it is the sheet of the strict propagation; `scope-deps help answer` says how that differs.
 ";
 
 const THIN: &str = "\
@@ -142,9 +159,9 @@ usage: scope-deps thin [-o FILE] [--bytes] [--from FORM] [--names FILE] [FILE]
 
 Writes a job without repeats: in each block, and among the candidates, a path is dropped where an earlier
 one has the same variable and the same entries, optional marks included. Spans and `reactive` may differ;
-the first keeps its own. The thin job has the same answer and the same sheet; where these are refused by 9,
-so are those of the thin job. In bytes, which is what a cache stores, the thin job of a thin job is the same
-again.
+the first keeps its own. The thin job has the same answer and the same sheet, with `--strict` too; where
+these are refused by 9, so are those of the thin job. In bytes, which is what a cache stores, the thin job
+of a thin job is the same again.
 
 It is written as text, or with `--bytes` in bytes. A text keeps its names and loses its comments; where paths
 were dropped, a comment says how many.
@@ -160,14 +177,15 @@ were dropped, a comment says how many.
 ";
 
 const EXPLAIN: &str = "\
-usage: scope-deps explain [--all] [-o FILE] [--from FORM] [--names FILE] [FILE]
+usage: scope-deps explain [--all] [--strict] [-o FILE] [--from FORM] [--names FILE] [FILE]
 
 Says for each candidate why its returned path is what it is. An entry reads a property of its base. It
 is returned plain where the base is known to be there, neither null nor undefined, in the scope block;
 otherwise an optional entry stays optional, and at a plain one the path is cut. A block has what it
 assumes, and what all blocks have that control comes from, or all that it goes on to. So a cut has one
 of these reasons: no block assumes the base, or it stopped on the way, at a block beside which another
-does not have it. On a loop, blocks that are not finished are left out.
+does not have it. On a loop, blocks that are not finished are left out. With `--strict`, nothing is taken
+over where one would be left out, and that is a reason for a cut, too.
 
   $ echo 'scope 2 block 0 assumes 1 block 1 after 0 assumes 1.10 block 2 after 0, 1 candidate 1.10.11' | scope-deps explain
   candidate 1.10.11
@@ -176,15 +194,24 @@ does not have it. On a loop, blocks that are not finished are left out.
       .11  is cut: 1.10 is not known to be there in block 2
            block 1 assumes 1.10, but control can also come to block 2 from block 0, which does not have it
 
-  --all    every block that has such a base, every block at which it stopped, and in sections with
-           numbers every step by which a path came to a block
+  $ echo 'scope 1 block 0 assumes 1 block 1 after 1, 0 candidate 1.10' | scope-deps explain --strict
+  strict propagation: a block takes paths over from the blocks before it, or after it, only where all of these are finished
+
+  candidate 1.10
+   returned 1
+      .10  is cut: 1 is not known to be there in block 1
+           block 0 assumes 1, but block 1 takes nothing over from the blocks before it, since it is itself one of them and not finished
+
+  --all       every block that has such a base, every block at which it stopped, and in sections with
+              numbers every step by which a path came to a block
+  --strict    the answer by the strict propagation; `scope-deps help answer` says how that differs
 
 All this is from a second run of the propagation, with a trace. Where that does not end with what the
 library says, nothing is explained, and the exit status is 1.
 ";
 
 const DRAW: &str = "\
-usage: scope-deps draw [-o FILE.svg] [--focus] [--from FORM] [--names FILE] [FILE]
+usage: scope-deps draw [-o FILE.svg] [--focus] [--strict] [--from FORM] [--names FILE] [FILE]
 
 Draws a job, with its sheet and its answer, as one SVG file that a browser shows: the blocks in layers
 from the first down, arrows for control, those that close a loop dashed; in each block the paths that
@@ -195,7 +222,8 @@ Under the pointer, a block's arrows are lit and the others dimmed; after a click
 which a box has no more lines are there under the pointer. On a dark screen the picture is dark.
 
 With `--focus`, only the blocks are drawn that matter to the candidates: those that bring a known path
-to the scope block, and those that stop one. Where others are left out, it says how many.
+to the scope block, and those that stop one. Where others are left out, it says how many. With `--strict`,
+sheet and answer are those of the strict propagation, and the title says so.
 
   $ scope-deps draw -o job.svg job.txt
   $ scope-deps draw --focus -o job.svg job.txt

@@ -52,6 +52,8 @@ pub struct Run {
     pub names: Option<String>,
     /// Whether an answer, a sheet or a thin job is written in bytes.
     pub bytes: bool,
+    /// Whether the propagation is the strict one.
+    pub strict: bool,
     /// Whether an explanation is written in full.
     pub all: bool,
     /// Whether a picture has only the blocks that matter to the candidates.
@@ -107,6 +109,7 @@ impl Run {
             from: None,
             names: None,
             bytes: false,
+            strict: false,
             all: false,
             focus: false,
         };
@@ -134,11 +137,14 @@ impl Run {
             value.ok_or_else(|| misused(format!("a value is missing after `{option}`")))
         };
         let asks_to_show = matches!(self.command, Command::Answer | Command::Sheet | Command::Thin);
+        let propagates =
+            matches!(self.command, Command::Answer | Command::Sheet | Command::Explain | Command::Draw);
         match option {
             "-o" | "--output" => self.output = Some(value()?.to_string()),
             "--from" => self.from = Some(form(value()?)?),
             "--names" => self.names = Some(value()?.to_string()),
             "--bytes" if asks_to_show && given.is_none() => self.bytes = true,
+            "--strict" if propagates && given.is_none() => self.strict = true,
             "--all" if self.command == Command::Explain && given.is_none() => self.all = true,
             "--focus" if self.command == Command::Draw && given.is_none() => self.focus = true,
             _ => return Err(misused(format!("`{word}` is no option of this command"))),

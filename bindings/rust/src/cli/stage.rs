@@ -3,20 +3,38 @@
 use super::failure::Failure;
 use super::input::Input;
 use super::options::{Command, Run};
-use scope_deps::{answer, raw, sheet, Answer, Job, ManyNodes, Refusal, Sheet};
+use scope_deps::{answer, raw, sheet, strict_answer, strict_sheet, Answer, Job, ManyNodes, Refusal, Sheet};
+
+/// What the stage does by one of its propagations.
+struct Operations {
+    answer: fn(&Job) -> Result<Answer, ManyNodes>,
+    sheet: fn(&Job) -> Result<Sheet, ManyNodes>,
+    answer_bytes: fn(&[u8]) -> Result<Vec<u8>, Refusal>,
+    sheet_bytes: fn(&[u8]) -> Result<Vec<u8>, Refusal>,
+}
+
+const EXISTING: Operations = Operations { answer, sheet, answer_bytes: raw::answer, sheet_bytes: raw::sheet };
+
+const STRICT: Operations = Operations {
+    answer: strict_answer,
+    sheet: strict_sheet,
+    answer_bytes: raw::strict_answer,
+    sheet_bytes: raw::strict_sheet,
+};
 
 /// What the command makes of the job that was read.
 pub fn made(run: &Run, input: &Input, job: &Job) -> Result<Vec<u8>, Failure> {
     let refused = |why: Refusal| Failure::Refused { place: input.place.clone(), why };
+    let stage = operations(run);
     match run.command {
-        Command::Answer if run.bytes => raw::answer(job.as_bytes()).map_err(refused),
-        Command::Sheet if run.bytes => raw::sheet(job.as_bytes()).map_err(refused),
+        Command::Answer if run.bytes => (stage.answer_bytes)(job.as_bytes()).map_err(refused),
+        Command::Sheet if run.bytes => (stage.sheet_bytes)(job.as_bytes()).map_err(refused),
         Command::Answer => {
-            let answer = answer(job).map_err(|why| refused(why.into()))?;
+            let answer = (stage.answer)(job).map_err(|why| refused(why.into()))?;
             Ok(answer.with_names(job.names()).to_string().into_bytes())
         }
         Command::Sheet => {
-            let sheet = sheet(job).map_err(|why| refused(why.into()))?;
+            let sheet = (stage.sheet)(job).map_err(|why| refused(why.into()))?;
             Ok(sheet.with_names(job.names()).to_string().into_bytes())
         }
         Command::Thin if run.bytes => Ok(job.thin().into_bytes()),
@@ -24,6 +42,15 @@ pub fn made(run: &Run, input: &Input, job: &Job) -> Result<Vec<u8>, Failure> {
         Command::Explain => asked(run, input, job, explained),
         Command::Draw => asked(run, input, job, drawn),
         Command::Encode | Command::Decode => unreachable!("these ask nothing of the stage"),
+    }
+}
+
+/// Those of the propagation that was asked for.
+fn operations(run: &Run) -> Operations {
+    if run.strict {
+        STRICT
+    } else {
+        EXISTING
     }
 }
 
@@ -50,14 +77,30 @@ fn asked(
     make: impl Fn(&Run, &Job, &Sheet, &Answer) -> Result<String, Failure>,
 ) -> Result<Vec<u8>, Failure> {
     let refused = |why: ManyNodes| Failure::Refused { place: input.place.clone(), why: why.into() };
-    let (sheet, answer) = (sheet(job).map_err(refused)?, answer(job).map_err(refused)?);
+    let stage = operations(run);
+    let (sheet, answer) = ((stage.sheet)(job).map_err(refused)?, (stage.answer)(job).map_err(refused)?);
     make(run, job, &sheet, &answer).map(String::into_bytes)
 }
 
 #[cfg(feature = "explain")]
 fn explained(run: &Run, job: &Job, sheet: &Sheet, answer: &Answer) -> Result<String, Failure> {
-    let explanation = scope_deps::explain::explain(job, sheet, answer).map_err(Failure::Mismatch)?;
-    Ok(if run.all { explanation.in_full().to_string() } else { explanation.to_string() })
+    use scope_deps::explain::{explain, explain_strict};
+    let explain = if run.strict { explain_strict } else { explain };
+    let explanation = explain(job, sheet, answer).map_err(Failure::Mismatch)?;
+    let text = if run.all { explanation.in_full().to_string() } else { explanation.to_string() };
+    Ok(if leaves_out(&explanation) { format!("{text}\n{LEFT_OUT}\n") } else { text })
+}
+
+/// What is said where a returned path rests on one that came past a block without it.
+#[cfg(feature = "explain")]
+const LEFT_OUT: &str = "with `--strict`, nothing is taken over where a block would be left out";
+
+/// Whether an explanation tells of a block that was left out and does not have the base.
+#[cfg(feature = "explain")]
+fn leaves_out(explanation: &scope_deps::explain::Explanation) -> bool {
+    use scope_deps::explain::Base;
+    let mut bases = explanation.reasons.iter().flat_map(|reason| &reason.bases);
+    bases.any(|base| matches!(base, Base::Known(known) if known.left_out.is_some()))
 }
 
 #[cfg(not(feature = "explain"))]
@@ -67,8 +110,13 @@ fn explained(_: &Run, _: &Job, _: &Sheet, _: &Answer) -> Result<String, Failure>
 
 #[cfg(feature = "draw")]
 fn drawn(run: &Run, job: &Job, sheet: &Sheet, answer: &Answer) -> Result<String, Failure> {
-    use scope_deps::draw::{draw, draw_focused};
-    let draw = if run.focus { draw_focused } else { draw };
+    use scope_deps::draw::{draw, draw_focused, draw_focused_strict, draw_strict};
+    let draw = match (run.focus, run.strict) {
+        (false, false) => draw,
+        (true, false) => draw_focused,
+        (false, true) => draw_strict,
+        (true, true) => draw_focused_strict,
+    };
     draw(job, sheet, answer).map_err(Failure::Mismatch)
 }
 

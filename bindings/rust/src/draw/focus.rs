@@ -7,8 +7,8 @@ use std::collections::BTreeSet;
 
 /// The scope block; the blocks by way of which the paths came there that decide about bases; and of
 /// each base that is not known there the nearest block at which it stopped, with the neighbours
-/// that have it and those that do not, and the blocks by way of which one of them came to have it;
-/// or those that assume it, where they are not connected with the scope block.
+/// that have it and those that kept it from there, and the blocks by way of which one of them came
+/// to have it; or those that assume it, where they are not connected with the scope block.
 pub(super) fn blocks_in_focus(explanation: &Explanation) -> BTreeSet<BlockId> {
     let mut blocks = BTreeSet::from([explanation.scope]);
     let mut steps = Vec::new();
@@ -61,7 +61,7 @@ fn stopped(explanation: &Explanation, why: &Unknown, blocks: &mut BTreeSet<Block
 /// The block at which a base stopped, and its neighbours there.
 fn at_stop(stop: &Stop) -> Vec<BlockId> {
     let others = match &stop.why {
-        Why::Lacking(lacking) => lacking.clone(),
+        Why::Lacking(others) | Why::SomeUnfinished(others) => others.clone(),
         Why::Different { one, other } => vec![one.block, other.block],
         Why::Unfinished | Why::TooLate => Vec::new(),
     };

@@ -6,7 +6,8 @@
 //!
 //! A block under the pointer lights its arrows and dims the others, and on a dark screen the
 //! picture is dark: both by the style sheet in the file, without a script. [`draw_focused`] leaves
-//! out the blocks that do not matter to the candidates.
+//! out the blocks that do not matter to the candidates. [`draw_strict`] and [`draw_focused_strict`]
+//! are for sheet and answer by the strict propagation, and the title says so.
 //!
 //! ```
 //! use scope_deps::{answer, draw::draw, sheet, Job};
@@ -37,8 +38,9 @@ mod svg;
 mod view;
 
 use crate::answer::Answer;
-use crate::explain::{explain, Explanation, Mismatch};
+use crate::explain::{explain_by, Explanation, Mismatch};
 use crate::job::Job;
+use crate::replay::Propagation;
 use crate::sheet::Sheet;
 use arrows::Drawn;
 use boxes::BlockBox;
@@ -62,8 +64,7 @@ const ABOVE_LEGEND: f64 = 40.0;
 ///
 /// Where nothing is explained: the job does not belong together with this sheet and this answer.
 pub fn draw(job: &Job, sheet: &Sheet, answer: &Answer) -> Result<String, Mismatch> {
-    let explanation = explain(job, sheet, answer)?;
-    Ok(Picture { job, sheet, view: View::whole(job) }.drawn(&explanation))
+    whole(Propagation::Existing, job, sheet, answer)
 }
 
 /// The same with only the blocks that matter to the candidates: those that bring a known path to
@@ -73,7 +74,36 @@ pub fn draw(job: &Job, sheet: &Sheet, answer: &Answer) -> Result<String, Mismatc
 ///
 /// As for [`draw`].
 pub fn draw_focused(job: &Job, sheet: &Sheet, answer: &Answer) -> Result<String, Mismatch> {
-    let explanation = explain(job, sheet, answer)?;
+    focused(Propagation::Existing, job, sheet, answer)
+}
+
+/// The picture of a job with its sheet and its answer by the strict propagation.
+///
+/// # Errors
+///
+/// As for [`draw`].
+pub fn draw_strict(job: &Job, sheet: &Sheet, answer: &Answer) -> Result<String, Mismatch> {
+    whole(Propagation::Strict, job, sheet, answer)
+}
+
+/// The same with only the blocks that matter to the candidates.
+///
+/// # Errors
+///
+/// As for [`draw`].
+pub fn draw_focused_strict(job: &Job, sheet: &Sheet, answer: &Answer) -> Result<String, Mismatch> {
+    focused(Propagation::Strict, job, sheet, answer)
+}
+
+/// The picture of all blocks.
+fn whole(by: Propagation, job: &Job, sheet: &Sheet, answer: &Answer) -> Result<String, Mismatch> {
+    let explanation = explain_by(by, job, sheet, answer)?;
+    Ok(Picture { job, sheet, view: View::whole(job) }.drawn(&explanation))
+}
+
+/// The picture of the blocks that matter.
+fn focused(by: Propagation, job: &Job, sheet: &Sheet, answer: &Answer) -> Result<String, Mismatch> {
+    let explanation = explain_by(by, job, sheet, answer)?;
     let view = View::only(job, &focus::blocks_in_focus(&explanation));
     Ok(Picture { job, sheet, view }.drawn(&explanation))
 }
@@ -103,7 +133,7 @@ impl Picture<'_> {
         gaps.iter().zip(at).for_each(|(gap, at)| gap.draw(at, &mut svg));
         let (view, layers, placed, extents) = (&self.view, &layers, &placed, &extents[..]);
         Drawn { view, layers, placed, extents, names }.draw_arrows(&mut svg);
-        self.finished(svg, placed)
+        self.finished(svg, placed, explanation.propagation)
     }
 
     /// Draws a block, with the panel beside it where it is the scope block, in a group of its own.
@@ -141,8 +171,8 @@ impl Picture<'_> {
     }
 
     /// The whole file: what was drawn, under a title and over a legend.
-    fn finished(&self, mut svg: Svg, placed: &Placed) -> String {
-        let title = self.title();
+    fn finished(&self, mut svg: Svg, placed: &Placed, propagation: Propagation) -> String {
+        let title = self.title(propagation);
         svg.text(0.0, 22.0 - TITLE, "title", &title);
         let width = placed.width.max(legend::WIDTH).max(svg::width(&title, svg::LARGE));
         legend::draw(placed.height + ABOVE_LEGEND, &mut svg);
@@ -152,14 +182,18 @@ impl Picture<'_> {
         svg.file(&style, &title, size, [MARGIN, MARGIN + TITLE])
     }
 
-    fn title(&self) -> String {
+    fn title(&self, propagation: Propagation) -> String {
         let settled = if self.sheet.is_settled() { "settled" } else { "not settled" };
         let (blocks, rounds) = (self.job.blocks().len(), counted(self.sheet.rounds().into(), "round"));
         let drawn = match self.view.blocks.len() {
             all if all == blocks => counted(blocks, "block"),
             some => format!("{some} of {}", counted(blocks, "block")),
         };
-        format!("{drawn}, scope block {}; {rounds}, {settled}", self.job.scope())
+        let strict = match propagation {
+            Propagation::Existing => "",
+            Propagation::Strict => "strict propagation, ",
+        };
+        format!("{drawn}, scope block {}; {strict}{rounds}, {settled}", self.job.scope())
     }
 }
 

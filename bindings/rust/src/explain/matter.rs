@@ -54,7 +54,7 @@ fn of_unknown(why: &Unknown, blocks: &mut BTreeSet<BlockId>) {
 /// The neighbours that have the base are among the blocks that have it.
 fn of_stop(stop: &Stop, blocks: &mut BTreeSet<BlockId>) {
     blocks.insert(stop.at);
-    if let Why::Lacking(lacking) = &stop.why {
-        blocks.extend(lacking);
+    if let Why::Lacking(others) | Why::SomeUnfinished(others) = &stop.why {
+        blocks.extend(others);
     }
 }

@@ -28,7 +28,7 @@
 //! ```
 //!
 //! [`Explanation::in_full`] shows all that is known, with every step by which a path came to a
-//! block.
+//! block. For sheet and answer by the strict propagation there is [`explain_strict`].
 
 mod arrivals;
 mod bases;
@@ -52,7 +52,7 @@ use crate::ids::BlockId;
 use crate::job::Job;
 use crate::names::Names;
 use crate::path::{Entry, Path};
-use crate::replay::Replay;
+use crate::replay::{Propagation, Replay};
 use crate::sheet::Sheet;
 use bases::Bases;
 use std::fmt;
@@ -60,6 +60,8 @@ use std::fmt;
 /// Why each candidate's returned path is what it is.
 #[derive(Clone, Debug, PartialEq, Eq, Hash)]
 pub struct Explanation {
+    /// By which propagation the job was answered.
+    pub propagation: Propagation,
     /// The scope block.
     pub scope: BlockId,
     /// Whether the last round changed nothing; else the stage stopped after 100 rounds.
@@ -126,7 +128,45 @@ impl std::error::Error for Mismatch {}
 ///
 /// Where the replay of the job does not end with this sheet and this answer.
 pub fn explain(job: &Job, sheet: &Sheet, answer: &Answer) -> Result<Explanation, Mismatch> {
-    let replay = Replay::new(job).map_err(|_| Mismatch)?;
+    explain_by(Propagation::Existing, job, sheet, answer)
+}
+
+/// The same for a job with its sheet and its answer by the strict propagation.
+///
+/// # Errors
+///
+/// Where the replay of the job by the strict propagation does not end with this sheet and this
+/// answer.
+///
+/// ```
+/// use scope_deps::{explain::explain_strict, strict_answer, strict_sheet, Job};
+///
+/// let job: Job = "scope 1 block 0 assumes 1 block 1 after 1, 0 candidate 1.10".parse()?;
+/// let explanation = explain_strict(&job, &strict_sheet(&job)?, &strict_answer(&job)?)?;
+/// assert_eq!(explanation.to_string(), "\
+/// strict propagation: a block takes paths over from the blocks before it, or after it, \
+/// only where all of these are finished
+///
+/// candidate 1.10
+///  returned 1
+///     .10  is cut: 1 is not known to be there in block 1
+///          block 0 assumes 1, but block 1 takes nothing over from the blocks before it, \
+///          since it is itself one of them and not finished
+/// ");
+/// # Ok::<(), Box<dyn std::error::Error>>(())
+/// ```
+pub fn explain_strict(job: &Job, sheet: &Sheet, answer: &Answer) -> Result<Explanation, Mismatch> {
+    explain_by(Propagation::Strict, job, sheet, answer)
+}
+
+/// The explanation of a job with its sheet and its answer by this propagation.
+pub(crate) fn explain_by(
+    propagation: Propagation,
+    job: &Job,
+    sheet: &Sheet,
+    answer: &Answer,
+) -> Result<Explanation, Mismatch> {
+    let replay = Replay::by(propagation, job).map_err(|_| Mismatch)?;
     let rounds = (sheet.rounds(), sheet.is_settled());
     if !replay.agrees_with(job, sheet) || rounds != (answer.rounds(), answer.is_settled()) {
         return Err(Mismatch);
@@ -135,6 +175,7 @@ pub fn explain(job: &Job, sheet: &Sheet, answer: &Answer) -> Result<Explanation,
     let reason = |candidate| reason(job, &mut bases, candidate, returned_for(candidate, answer)?);
     let reasons = job.candidates().iter().map(reason).collect::<Result<_, _>>()?;
     Ok(Explanation {
+        propagation,
         scope: job.scope(),
         settled: replay.is_settled(),
         reasons,

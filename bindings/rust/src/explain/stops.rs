@@ -10,7 +10,7 @@ use super::paths::shows;
 use super::steps::Steps;
 use crate::ids::{BlockId, NodeId};
 use crate::path::Path;
-use crate::replay::Side;
+use crate::replay::{Side, Visit};
 use std::collections::VecDeque;
 
 /// A block at which a base stopped.
@@ -70,6 +70,9 @@ pub enum Why {
     },
     /// None was joined, since all were being visited.
     Unfinished,
+    /// None was joined, since these of them were being visited: the strict propagation joins all or
+    /// none.
+    SomeUnfinished(Vec<BlockId>),
     /// All that were joined have the same path of it in the end, but had not when the block was
     /// last visited.
     TooLate,
@@ -128,7 +131,7 @@ fn stop(
     let holders: Vec<usize> = near.filter(|&near| has[near]).collect();
     let holder = holder(blocks, steps, base, &holders)?;
     let (visit, event) = blocks.last_visit(block, side);
-    let why = why(blocks, steps, base, has, &event.joined);
+    let why = why(blocks, steps, base, has, event);
     Some(Stop { at: blocks.id(block), side, way, visit, holder, holders: blocks.ids(&holders), why })
 }
 
@@ -156,11 +159,15 @@ fn assumed(blocks: &Blocks, block: usize, base: &Path) -> Option<NodeId> {
     blocks.replay.assumed(block).iter().copied().find(|&node| shows(blocks.path(node), base))
 }
 
-/// Why nothing that shows the base came from these neighbours, which were joined.
-fn why(blocks: &Blocks, steps: &mut Steps, base: &Path, has: &[bool], joined: &[usize]) -> Why {
+/// Why nothing that shows the base came in when the block was last visited.
+fn why(blocks: &Blocks, steps: &mut Steps, base: &Path, has: &[bool], last: &Visit) -> Why {
+    let joined = &last.joined[..];
     let lacking: Vec<usize> = joined.iter().copied().filter(|&near| !has[near]).collect();
     let Some(&first) = joined.first() else {
-        return Why::Unfinished;
+        if last.unfinished.len() == last.passed_over.len() {
+            return Why::Unfinished;
+        }
+        return Why::SomeUnfinished(blocks.ids(&last.unfinished));
     };
     if !lacking.is_empty() {
         return Why::Lacking(blocks.ids(&lacking));

@@ -2,8 +2,8 @@
 //!
 //! The library says what each block holds in the end, and not how that came about. This module
 //! takes document 01's steps once more, in a small plain program, and notes each visit: which
-//! neighbours were joined, which were passed over because they were being visited, which paths came
-//! in and which were replaced. Nothing of it goes into an answer or a sheet.
+//! neighbours were joined, which were passed over because they or others were being visited, which
+//! paths came in and which were replaced. Nothing of it goes into an answer or a sheet.
 //! [`explain`](mod@crate::explain) compares the sheet that comes out with the library's, and
 //! explains nothing where the two differ.
 //!
@@ -19,6 +19,12 @@
 //! let visit = replay.visits().iter().find(|visit| !visit.came_in.is_empty()).unwrap();
 //! assert_eq!((visit.round, visit.side, visit.block), (1, Side::Predecessors, 1));
 //! assert_eq!((&visit.joined[..], &visit.passed_over[..]), (&[0][..], &[1][..]));
+//!
+//! // By the strict propagation both are passed over, since block 1 is unfinished.
+//! let strict = Replay::strict(&job)?;
+//! let visit = &strict.visits()[1];
+//! assert_eq!((visit.round, visit.side, visit.block), (1, Side::Predecessors, 1));
+//! assert_eq!((&visit.passed_over[..], &visit.unfinished[..]), (&[0, 1][..], &[1][..]));
 //! # Ok::<(), Box<dyn std::error::Error>>(())
 //! ```
 
@@ -28,7 +34,7 @@ mod registry;
 mod trace;
 mod walk;
 
-pub use trace::{Replaced, Side, Visit};
+pub use trace::{Propagation, Replaced, Side, Visit};
 
 use crate::ids::NodeId;
 use crate::job::{Block, Job};
@@ -44,6 +50,7 @@ use walk::{Neighbours, Walks};
 /// The propagation of a job, visit by visit. Blocks are given by their place in the job, from 0.
 #[derive(Clone)]
 pub struct Replay {
+    propagation: Propagation,
     registry: Registry,
     assumed: Vec<Vec<NodeId>>,
     sets: Vec<Nodes>,
@@ -59,14 +66,33 @@ impl Replay {
     ///
     /// Where the job has more than 512 nodes, which the stage refuses by 9.
     pub fn new(job: &Job) -> Result<Self, ManyNodes> {
+        Self::by(Propagation::Existing, job)
+    }
+
+    /// Propagates the job's assumed paths by the strict propagation.
+    ///
+    /// # Errors
+    ///
+    /// Where the job then has more than 512 nodes, which the stage refuses by 9.
+    pub fn strict(job: &Job) -> Result<Self, ManyNodes> {
+        Self::by(Propagation::Strict, job)
+    }
+
+    pub(crate) fn by(propagation: Propagation, job: &Job) -> Result<Self, ManyNodes> {
         let mut registry = Registry::default();
         let assumed = assumed(job, &mut registry)?;
         let sets = assumed.iter().map(|nodes| set_of(nodes)).collect();
         let neighbours = Neighbours::new(job);
-        let mut walks = Walks::new(&neighbours, registry, sets);
+        let mut walks = Walks::new(&neighbours, propagation, registry, sets);
         let (rounds, settled) = walks.rounds()?;
         let Walks { registry, sets, visits, .. } = walks;
-        Ok(Self { registry, assumed, sets, visits, rounds, settled })
+        Ok(Self { propagation, registry, assumed, sets, visits, rounds, settled })
+    }
+
+    /// By which propagation this is.
+    #[must_use]
+    pub fn propagation(&self) -> Propagation {
+        self.propagation
     }
 
     /// The visits, in the order in which they ended.
@@ -140,6 +166,7 @@ impl fmt::Debug for Replay {
         let nodes: BTreeMap<NodeId, String> =
             self.nodes().map(|node| (node, format!("{:#}", self.path(node)))).collect();
         let mut shown = f.debug_struct("Replay");
+        shown.field("propagation", &self.propagation);
         shown.field("nodes", &nodes).field("assumed", &self.assumed).field("sets", &self.sets);
         shown.field("visits", &self.visits).field("rounds", &self.rounds).field("settled", &self.settled);
         shown.finish()

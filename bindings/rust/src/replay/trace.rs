@@ -3,6 +3,17 @@
 
 use crate::ids::NodeId;
 
+/// From which neighbours a block takes paths over when it is visited.
+#[derive(Clone, Copy, Debug, PartialEq, Eq, Hash, PartialOrd, Ord)]
+pub enum Propagation {
+    /// From those that are Done: that of [`answer`](crate::answer()) and
+    /// [`sheet`](crate::sheet()).
+    Existing,
+    /// From all where every one is Done, else from none: that of
+    /// [`strict_answer`](crate::strict_answer) and [`strict_sheet`](crate::strict_sheet).
+    Strict,
+}
+
 /// The side of a block on which a walk looks for neighbours.
 #[derive(Clone, Copy, Debug, PartialEq, Eq, Hash, PartialOrd, Ord)]
 pub enum Side {
@@ -21,10 +32,14 @@ pub struct Visit {
     pub side: Side,
     /// The block.
     pub block: usize,
-    /// The neighbours on that side that were Done and were joined, in the walk's order.
+    /// The neighbours on that side that were joined, in the walk's order. All of them were Done.
     pub joined: Vec<usize>,
-    /// The neighbours on that side that were Active and were passed over, in the walk's order.
+    /// The other neighbours on that side, which were passed over, in the walk's order. By the
+    /// existing propagation they were Active. By the strict one they are all on that side, if there
+    /// are any: some were Active, and the others were Done.
     pub passed_over: Vec<usize>,
+    /// The neighbours on that side that were Active, in the walk's order.
+    pub unfinished: Vec<usize>,
     /// The nodes that all joined neighbours had and the block had not, ascending.
     pub came_in: Vec<NodeId>,
     /// What reduction replaced after that, in order.

@@ -3,7 +3,7 @@
 use super::nodes::Nodes;
 use super::reduce::reduce;
 use super::registry::Registry;
-use super::trace::{Side, Visit};
+use super::trace::{Propagation, Side, Visit};
 use crate::graph::Graph;
 use crate::job::Job;
 use crate::refusal::ManyNodes;
@@ -45,6 +45,7 @@ impl Neighbours {
 /// Propagation on its way.
 pub(super) struct Walks<'g> {
     neighbours: &'g Neighbours,
+    propagation: Propagation,
     pub(super) registry: Registry,
     /// The set of each block.
     pub(super) sets: Vec<Nodes>,
@@ -54,9 +55,14 @@ pub(super) struct Walks<'g> {
 }
 
 impl<'g> Walks<'g> {
-    pub(super) fn new(neighbours: &'g Neighbours, registry: Registry, sets: Vec<Nodes>) -> Self {
+    pub(super) fn new(
+        neighbours: &'g Neighbours,
+        propagation: Propagation,
+        registry: Registry,
+        sets: Vec<Nodes>,
+    ) -> Self {
         let marks = vec![Mark::Unmarked; sets.len()];
-        Self { neighbours, registry, sets, visits: Vec::new(), marks }
+        Self { neighbours, propagation, registry, sets, visits: Vec::new(), marks }
     }
 
     /// Rounds of a forward and a backward walk, until one changes nothing. How many they were, and
@@ -105,11 +111,18 @@ impl<'g> Walks<'g> {
         Ok(changed)
     }
 
-    /// Joins what the Done neighbours have in common, reduces the set, and notes both.
+    /// Joins what the neighbours that are to be joined have in common, reduces the set, and notes
+    /// both.
     fn leave(&mut self, round: u8, side: Side, block: usize) -> Result<bool, ManyNodes> {
-        let neighbours = self.neighbours.of(block, side).iter().copied();
+        let neighbours = self.neighbours.of(block, side);
+        let is_done = |near: usize| self.marks[near] == Mark::Done;
+        let unfinished: Vec<usize> = neighbours.iter().copied().filter(|&near| !is_done(near)).collect();
+        let is_joined = |&near: &usize| match self.propagation {
+            Propagation::Existing => is_done(near),
+            Propagation::Strict => unfinished.is_empty(),
+        };
         let (joined, passed_over): (Vec<usize>, Vec<usize>) =
-            neighbours.partition(|&near| self.marks[near] == Mark::Done);
+            neighbours.iter().partition(|near| is_joined(near));
         let before = self.sets[block];
         let joined_sets = joined.iter().map(|&near| self.sets[near]);
         let in_common = joined_sets.reduce(Nodes::intersection).unwrap_or(Nodes::NONE);
@@ -117,7 +130,7 @@ impl<'g> Walks<'g> {
         let replaced = reduce(&mut set, &mut self.registry)?;
         let came_in = in_common.without(before).iter().collect();
         self.sets[block] = set;
-        self.visits.push(Visit { round, side, block, joined, passed_over, came_in, replaced });
+        self.visits.push(Visit { round, side, block, joined, passed_over, unfinished, came_in, replaced });
         Ok(set != before)
     }
 }

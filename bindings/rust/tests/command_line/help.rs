@@ -4,6 +4,27 @@ use crate::common::repository;
 use crate::text;
 use std::fs;
 
+/// Which commands have an option of their own, and which have not, by their help.
+#[test]
+fn each_option_is_in_the_help_of_the_commands_that_take_it() {
+    let commands = ["encode", "decode", "answer", "sheet", "thin", "explain", "draw"];
+    let with = |option: &str| -> Vec<&str> {
+        let usage = |command: &&str| text(&["help", command], "").lines().next().unwrap().contains(option);
+        commands.into_iter().filter(usage).collect()
+    };
+    assert_eq!(with("[--strict]"), ["answer", "sheet", "explain", "draw"]);
+    assert_eq!(with("[--bytes]"), ["answer", "sheet", "thin"]);
+    assert_eq!((with("[--all]"), with("[--focus]")), (vec!["explain"], vec!["draw"]));
+    let all = text(&["help"], "");
+    for option in ["--strict", "--bytes", "--all", "--focus"] {
+        let line = all.lines().find(|line| line.trim().starts_with(option)).unwrap();
+        for command in commands {
+            let named = line.contains(&format!("`{command}`"));
+            assert_eq!(named, with(&format!("[{option}]")).contains(&command), "{option} {command}");
+        }
+    }
+}
+
 #[test]
 fn help_is_there_for_every_command() {
     let all = text(&["--help"], "");
@@ -35,17 +56,18 @@ fn what_the_help_and_the_readme_show_is_what_happens() {
         let commands = commands_of(&shown);
         assert!(!commands.is_empty(), "{shown}");
         for (job, command) in commands {
-            let output = text(&[command], job);
+            let output = text(&command.split(' ').collect::<Vec<_>>(), job);
             let is_shown = output.lines().all(|line| shown.contains(line));
             assert!(is_shown, "{shown}\nbut:\n{output}");
         }
     }
 }
 
-/// The commands and files of the lines `$ bin/scope-deps COMMAND examples/FILE` in a text.
+/// The commands, with options, and the files of the lines `$ bin/scope-deps COMMAND examples/FILE`
+/// in a text.
 fn examples_of(shown: &str) -> Vec<(&str, &str)> {
     let lines = shown.lines().filter_map(|line| line.trim().strip_prefix("$ bin/scope-deps "));
-    lines.filter_map(|line| line.split_once(' ').filter(|(_, file)| file.starts_with("examples/"))).collect()
+    lines.filter_map(|line| line.rsplit_once(' ').filter(|(_, file)| file.starts_with("examples/"))).collect()
 }
 
 #[test]
@@ -54,7 +76,9 @@ fn what_the_readme_shows_of_the_examples_is_what_happens() {
     let examples = examples_of(&readme);
     assert!(!examples.is_empty());
     for (command, file) in examples {
-        let output = text(&[command, repository(file).to_str().unwrap()], "");
-        assert!(output.lines().all(|line| readme.contains(line)), "{command} {file}\n{output}");
+        let file = repository(file);
+        let words: Vec<&str> = command.split(' ').chain(file.to_str()).collect();
+        let output = text(&words, "");
+        assert!(output.lines().all(|line| readme.contains(line)), "{words:?}\n{output}");
     }
 }

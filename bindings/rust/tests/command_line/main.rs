@@ -6,6 +6,7 @@ mod dumps;
 mod help;
 mod messages;
 mod options;
+mod strict;
 mod thin;
 
 use common::{hex, repository};

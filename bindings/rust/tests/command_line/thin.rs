@@ -45,8 +45,8 @@ fn bytes_files_and_names_are_as_for_the_other_commands() {
 
 #[test]
 fn answer_and_sheet_of_the_thin_job_are_those_of_the_job() {
-    for command in ["answer", "sheet"] {
-        assert_eq!(text(&[command], text(&["thin"], REPEATING)), text(&[command], REPEATING), "{command}");
+    for words in [&["answer"][..], &["sheet"], &["answer", "--strict"], &["sheet", "--strict"]] {
+        assert_eq!(text(words, text(&["thin"], REPEATING)), text(words, REPEATING), "{words:?}");
     }
 }
 

@@ -1,10 +1,10 @@
 //! The picture of the blocks that matter.
 
 use crate::common::jobs;
-use crate::read::{focused, whole, Picture};
+use crate::read::{focused, focused_strict, whole, Picture};
 use crate::{check_boxes, check_tags, titles};
-use scope_deps::explain::{blocks_that_matter, explain};
-use scope_deps::{answer, sheet, BlockId, Job};
+use scope_deps::explain::{blocks_that_matter, explain, explain_strict, Explanation};
+use scope_deps::{answer, sheet, strict_answer, strict_sheet, BlockId, Job};
 use std::collections::BTreeSet;
 use std::io::Write;
 use std::process::{Command, Output, Stdio};
@@ -54,13 +54,29 @@ fn named(text: &str, job: &Job) -> BTreeSet<BlockId> {
 
 /// That the blocks are drawn that the explanation names in short, and none that it does not name in
 /// full.
-fn check_drawn(job: &Job, drawn: &BTreeSet<BlockId>) {
-    let explanation = explain(job, &sheet(job).unwrap(), &answer(job).unwrap()).unwrap();
+fn check_drawn(job: &Job, explanation: &Explanation, drawn: &BTreeSet<BlockId>) {
     let in_short: BTreeSet<_> = named(&explanation.to_string(), job);
     assert!(in_short.is_subset(drawn), "{in_short:?} {drawn:?} {job}");
-    let mut in_full = blocks_that_matter(&explanation);
+    let mut in_full = blocks_that_matter(explanation);
     in_full.insert(job.scope());
     assert!(drawn.is_subset(&in_full), "{drawn:?} {in_full:?} {job}");
+}
+
+/// Checks a picture of the blocks that matter, and says whether these are not all.
+fn check_focused(job: &Job, explanation: &Explanation, picture: &Picture) -> bool {
+    check_tags(&picture.0);
+    check_boxes(&picture.0, &picture.rectangles());
+    let drawn = drawn(picture, job);
+    assert!(drawn.contains(&job.scope()));
+    check_drawn(job, explanation, &drawn);
+    assert_eq!(left_out(picture).iter().sum::<usize>() + drawn.len(), job.blocks().len(), "{job}");
+    let arrows = picture.arrows();
+    let (gaps, between): (Vec<_>, Vec<_>) = arrows.iter().partition(|arrow| arrow.class == "left-out");
+    assert!(gaps.iter().all(|arrow| arrow.title.contains(" left out") && arrow.ends.len() == 1));
+    let mut between: Vec<&str> = between.iter().map(|arrow| arrow.title).collect();
+    between.sort();
+    assert_eq!(between, titles(job, |id| drawn.contains(&id)), "{job}");
+    drawn.len() < job.blocks().len()
 }
 
 #[test]
@@ -68,19 +84,19 @@ fn focus_draws_the_scope_block_and_those_that_are_named_and_counts_the_others() 
     let mut fewer = 0;
     for job in jobs(15, 800) {
         let Some(picture) = focused(&job) else { continue };
-        check_tags(&picture.0);
-        check_boxes(&picture.0, &picture.rectangles());
-        let drawn = drawn(&picture, &job);
-        assert!(drawn.contains(&job.scope()));
-        check_drawn(&job, &drawn);
-        assert_eq!(left_out(&picture).iter().sum::<usize>() + drawn.len(), job.blocks().len(), "{job}");
-        let arrows = picture.arrows();
-        let (gaps, between): (Vec<_>, Vec<_>) = arrows.iter().partition(|arrow| arrow.class == "left-out");
-        assert!(gaps.iter().all(|arrow| arrow.title.contains(" left out") && arrow.ends.len() == 1));
-        let mut between: Vec<&str> = between.iter().map(|arrow| arrow.title).collect();
-        between.sort();
-        assert_eq!(between, titles(&job, |id| drawn.contains(&id)), "{job}");
-        fewer += usize::from(drawn.len() < job.blocks().len());
+        let explanation = explain(&job, &sheet(&job).unwrap(), &answer(&job).unwrap()).unwrap();
+        fewer += usize::from(check_focused(&job, &explanation, &picture));
+    }
+    assert!(fewer > 100);
+}
+
+#[test]
+fn so_it_does_by_the_strict_propagation() {
+    let mut fewer = 0;
+    for job in jobs(15, 800) {
+        let Some(picture) = focused_strict(&job) else { continue };
+        let (sheet, answer) = (strict_sheet(&job).unwrap(), strict_answer(&job).unwrap());
+        fewer += usize::from(check_focused(&job, &explain_strict(&job, &sheet, &answer).unwrap(), &picture));
     }
     assert!(fewer > 100);
 }
@@ -159,6 +175,8 @@ fn the_tool_draws_with_focus_and_no_other_command_takes_it() {
     let job: Job = "scope 1 block 0 assumes 7 block 1 after 0 candidate 6".parse().unwrap();
     assert_eq!(run(&["draw", "--focus"], &job).stdout, focused(&job).unwrap().0.into_bytes());
     assert_eq!(run(&["draw"], &job).stdout, whole(&job).unwrap().0.into_bytes());
+    let strict = run(&["draw", "--focus", "--strict"], &job).stdout;
+    assert_eq!(strict, focused_strict(&job).unwrap().0.into_bytes());
     let output = run(&["explain", "--focus"], &job);
     assert_eq!(output.status.code(), Some(2));
     assert!(String::from_utf8_lossy(&output.stderr).contains("`--focus` is no option of this command"));

@@ -7,6 +7,7 @@ mod focus;
 mod palette;
 mod pointer;
 mod read;
+mod strict;
 mod text;
 
 use common::jobs;

@@ -1,6 +1,6 @@
 //! The parts of a picture, read from its text.
 
-use scope_deps::{answer, draw, sheet, Job};
+use scope_deps::{answer, draw, sheet, strict_answer, strict_sheet, Job};
 
 /// The picture of all blocks, where the job is not refused.
 pub fn whole(job: &Job) -> Option<Picture> {
@@ -10,6 +10,17 @@ pub fn whole(job: &Job) -> Option<Picture> {
 /// The picture of the blocks that matter.
 pub fn focused(job: &Job) -> Option<Picture> {
     Some(Picture(draw::draw_focused(job, &sheet(job).ok()?, &answer(job).ok()?).unwrap()))
+}
+
+/// The picture of all blocks by the strict propagation.
+pub fn strict(job: &Job) -> Option<Picture> {
+    Some(Picture(draw::draw_strict(job, &strict_sheet(job).ok()?, &strict_answer(job).ok()?).unwrap()))
+}
+
+/// The picture of the blocks that matter by the strict propagation.
+pub fn focused_strict(job: &Job) -> Option<Picture> {
+    let (sheet, answer) = (strict_sheet(job).ok()?, strict_answer(job).ok()?);
+    Some(Picture(draw::draw_focused_strict(job, &sheet, &answer).unwrap()))
 }
 
 /// The picture of a job as text.
@@ -75,6 +86,11 @@ pub fn title(line: &str) -> &str {
 impl Picture {
     pub fn lines(&self) -> impl Iterator<Item = &str> {
         self.0.lines()
+    }
+
+    /// The title over the blocks.
+    pub fn title(&self) -> String {
+        shown(self.lines().find(|line| line.contains("<tspan class=\"title\">")).unwrap())
     }
 
     pub fn style(&self) -> &str {

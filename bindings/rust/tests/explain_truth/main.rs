@@ -19,7 +19,8 @@ mod world;
 
 use common::stored;
 use compare::generate::{class_names, generate};
-use scope_deps::explain::{explain, Explanation};
+use scope_deps::explain::{explain, explain_strict, Explanation};
+use scope_deps::replay::Propagation::{self, Existing, Strict};
 use scope_deps::{limits, Entry, Job, JobBuilder, Property};
 use text::{check_text, Kinds};
 use world::World;
@@ -49,10 +50,38 @@ const EXPECTED: &[(&str, usize)] = &[
     ("unfinished", 200),
 ];
 
+/// The same by the strict propagation. It leaves no block out, and these jobs settle by it.
+const EXPECTED_STRICT: &[(&str, usize)] = &[
+    ("all that lack it", 10_000),
+    ("assumed", 10_000),
+    ("assumed, and left open", 1_000),
+    ("covered", 1_000),
+    ("different paths", 500),
+    ("from all", 1_000),
+    ("from the only one", 10_000),
+    ("known", 10_000),
+    ("left open", 1_000),
+    ("made", 1_000),
+    ("no block", 1_000),
+    ("not connected", 1_000),
+    ("one that lacks it", 1_000),
+    ("shown, but open by a path met before", 100),
+    ("shown, but open by the first entry", 1_000),
+    ("some unfinished", 10_000),
+    ("the blocks that have it", 1_000),
+    ("unfinished", 200),
+    ("unfinished itself", 500),
+];
+
 /// Explains a job and checks all that is said. Nothing where the stage refuses the job.
-fn check(job: &Job, kinds: &mut Kinds) -> Option<Explanation> {
-    let world = World::new(job)?;
+fn check(job: &Job, propagation: Propagation, kinds: &mut Kinds) -> Option<Explanation> {
+    let world = World::new(job, propagation)?;
+    let explain = match propagation {
+        Existing => explain,
+        Strict => explain_strict,
+    };
     let explanation = explain(job, &world.sheet, &world.answer).unwrap_or_else(|why| panic!("{why}:\n{job}"));
+    assert_eq!(explanation.propagation, propagation);
     for text in [explanation.to_string(), explanation.in_full().to_string()] {
         let checked = std::panic::AssertUnwindSafe(|| check_text(&world, &text, &mut *kinds));
         if std::panic::catch_unwind(checked).is_err() {
@@ -77,31 +106,44 @@ fn with_candidates(job: &Job, scope: usize) -> Option<Job> {
     longer.take(limits::CANDIDATES).fold(blocks, JobBuilder::candidate).build().ok()
 }
 
-#[test]
-fn every_sentence_is_true_for_generated_jobs_of_every_class() {
+/// Explains generated jobs of every class, and checks that sentences of all these kinds were
+/// checked, and no others.
+fn check_generated(propagation: Propagation, expected: &[(&str, usize)]) {
     let mut kinds = Kinds::new();
     for class in class_names() {
         let mut explained = 0;
         for number in 0..150 {
             let Ok(job) = Job::from_bytes(&generate(21, number, Some(class)).job) else { continue };
-            explained += usize::from(check(&job, &mut kinds).is_some());
+            explained += usize::from(check(&job, propagation, &mut kinds).is_some());
             let other = with_candidates(&job, number as usize % job.blocks().len());
-            explained += other.map_or(0, |job| usize::from(check(&job, &mut kinds).is_some()));
+            explained += other.map_or(0, |job| usize::from(check(&job, propagation, &mut kinds).is_some()));
         }
         assert!(explained > 10, "{class}: {explained}");
     }
-    for (kind, least) in EXPECTED {
+    for (kind, least) in expected {
         assert!(kinds.get(kind).is_some_and(|count| count >= least), "{kind}: {kinds:#?}");
     }
-    assert_eq!(kinds.len(), EXPECTED.len());
+    assert_eq!(kinds.len(), expected.len(), "{kinds:#?}");
+}
+
+#[test]
+fn every_sentence_is_true_for_generated_jobs_of_every_class() {
+    check_generated(Existing, EXPECTED);
+}
+
+#[test]
+fn every_sentence_by_the_strict_propagation_is_true_for_them() {
+    check_generated(Strict, EXPECTED_STRICT);
 }
 
 #[test]
 fn every_sentence_is_true_for_the_stored_jobs() {
-    let mut kinds = Kinds::new();
-    let jobs = stored().into_iter().filter_map(|record| Job::from_bytes(&record.job).ok());
-    let explained = jobs.filter(|job| check(job, &mut kinds).is_some()).count();
-    assert!(explained > 100, "{explained}");
+    for propagation in [Existing, Strict] {
+        let mut kinds = Kinds::new();
+        let jobs = stored().into_iter().filter_map(|record| Job::from_bytes(&record.job).ok());
+        let explained = jobs.filter(|job| check(job, propagation, &mut kinds).is_some()).count();
+        assert!(explained > 100, "{explained}");
+    }
 }
 
 /// Jobs of which something false was said once, and which are seldom generated.
@@ -116,5 +158,7 @@ const TOLD_FALSELY: [&str; 3] = [
 #[test]
 fn every_sentence_is_true_where_one_was_not() {
     let mut kinds = Kinds::new();
-    assert!(TOLD_FALSELY.iter().all(|job| check(&job.parse().unwrap(), &mut kinds).is_some()));
+    for (job, propagation) in TOLD_FALSELY.iter().flat_map(|job| [(job, Existing), (job, Strict)]) {
+        assert!(check(&job.parse().unwrap(), propagation, &mut kinds).is_some());
+    }
 }

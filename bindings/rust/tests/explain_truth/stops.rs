@@ -4,7 +4,7 @@ use crate::parse::{block, blocks, holes, path, some_blocks};
 use crate::sources::check_holders;
 use crate::text::{told_in, Section};
 use crate::world::{shows, World};
-use scope_deps::replay::Side;
+use scope_deps::replay::{Propagation, Side};
 use scope_deps::{BlockId, NodeId, Path};
 use std::collections::BTreeSet;
 
@@ -171,6 +171,23 @@ fn check_different(
     assert!(joined.iter().all(|&block| world.has(block, base)));
 }
 
+/// `blocks 1 and 4 are on a loop with it and not finished`, of some neighbours of a block and not
+/// all.
+fn check_some_unfinished(world: &World, at: BlockId, side: Side, said: &str) -> &'static str {
+    let unfinished = world.unfinished(at, side);
+    assert!(!unfinished.is_empty() && unfinished.len() < world.neighbours(at, side).len(), "{said}");
+    if said == "it is itself one of them and not finished" {
+        assert_eq!(unfinished, [at], "{said}");
+        return "unfinished itself";
+    }
+    let are = if unfinished.len() == 1 { "is" } else { "are" };
+    let found = holes(&format!("{{}} {are} on a loop with it and not finished"), said);
+    let (named, more) = some_blocks(found.unwrap_or_else(|| panic!("no reason: {said}"))[0]);
+    assert_eq!((&named[..], more), (&unfinished[..named.len()], unfinished.len() - named.len()), "{said}");
+    assert!(unfinished != [at] && unfinished.iter().all(|&block| world.on_a_loop(at, block)), "{said}");
+    "some unfinished"
+}
+
 /// The reasons that need a loop, or a job that does not settle.
 fn check_rare(world: &World, base: &Path, at: BlockId, side: Side, said: &str) -> Option<&'static str> {
     let control = match side {
@@ -183,9 +200,17 @@ fn check_rare(world: &World, base: &Path, at: BlockId, side: Side, said: &str) -
         "all the blocks that {control} are on a loop with block {at} and not finished when it takes over"
     );
     if said == unfinished {
-        assert!(visit.joined.is_empty() && !near.is_empty() && visit.passed_over.len() == near.len());
+        assert!(visit.joined.is_empty() && !near.is_empty());
+        assert_eq!(world.unfinished(at, side).len(), near.len());
         assert!(near.iter().all(|&block| world.on_a_loop(at, block)));
         return Some("unfinished");
+    }
+    let beside = if side == Side::Predecessors { "before" } else { "after" };
+    let nothing = format!("block {at} takes nothing over from the blocks {beside} it, since {{}}");
+    if let Some(found) = holes(&nothing, said) {
+        assert!(visit.joined.is_empty() && world.takes_nothing_over(at, side));
+        assert_eq!(world.replay.propagation(), Propagation::Strict);
+        return Some(check_some_unfinished(world, at, side, found[0]));
     }
     if said == format!("block {at} last took over before all the blocks that {control} had it") {
         assert!(!world.sheet.is_settled() && !visit.joined.is_empty());

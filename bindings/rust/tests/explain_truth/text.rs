@@ -4,6 +4,7 @@ use crate::bases::{check_known, check_left_out, check_unknown};
 use crate::parse::{holes, path};
 use crate::steps::{check_section, told_by, Told};
 use crate::world::{show, World};
+use scope_deps::replay::Propagation;
 use scope_deps::Path;
 use std::collections::BTreeMap;
 
@@ -19,8 +20,24 @@ pub fn told_in(sections: &[Section], numbers: &str) -> Vec<Told> {
     numbers.flat_map(|number| sections[number - 1].1.iter().map(|line| told_by(line))).collect()
 }
 
+/// What comes after the sentence on the strict propagation, where it is that one. The sentence
+/// stands there then, and only then.
+fn after_head<'t>(world: &World, text: &'t str) -> &'t str {
+    let head = "strict propagation: a block takes paths over from the blocks before it, or after it, \
+                only where all of these are finished\n\n";
+    match (text.strip_prefix(head), world.replay.propagation()) {
+        (Some(rest), Propagation::Strict) => {
+            assert!(world.takes_over_from_finished_only(), "{text}");
+            rest
+        }
+        (None, Propagation::Existing) => text,
+        _ => panic!("not of this propagation: {text}"),
+    }
+}
+
 /// Checks every sentence of an explanation.
 pub fn check_text(world: &World, text: &str, kinds: &mut Kinds) {
+    let text = after_head(world, text);
     let mut parts: Vec<Vec<&str>> = text.split("\n\n").map(|part| part.lines().collect()).collect();
     let sections: Vec<Section> = parts
         .iter()

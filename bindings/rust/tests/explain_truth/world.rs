@@ -4,8 +4,8 @@
 //! Nothing here is taken from the module `explain`. Where that goes back from a block to the blocks
 //! that a path came from, this goes forward through the events.
 
-use scope_deps::replay::{Replay, Side, Visit};
-use scope_deps::{answer, sheet, Answer, BlockId, Job, NodeId, Path, Sheet};
+use scope_deps::replay::{Propagation, Replay, Side, Visit};
+use scope_deps::{answer, sheet, strict_answer, strict_sheet, Answer, BlockId, Job, NodeId, Path, Sheet};
 use std::collections::{BTreeSet, HashMap};
 
 /// The blocks that assume a path, each with the form that it assumes.
@@ -51,8 +51,12 @@ pub fn leaves_open(path: &Path, base: &Path) -> bool {
 
 impl<'j> World<'j> {
     /// Nothing where the stage refuses the job.
-    pub fn new(job: &'j Job) -> Option<Self> {
-        let (sheet, answer, replay) = (sheet(job).ok()?, answer(job).ok()?, Replay::new(job).ok()?);
+    pub fn new(job: &'j Job, propagation: Propagation) -> Option<Self> {
+        let (sheet, answer, replay) = match propagation {
+            Propagation::Existing => (sheet(job), answer(job), Replay::new(job)),
+            Propagation::Strict => (strict_sheet(job), strict_answer(job), Replay::strict(job)),
+        };
+        let (sheet, answer, replay) = (sheet.ok()?, answer.ok()?, replay.ok()?);
         let held = job.blocks().iter().map(|block| sheet.paths(block.id()).collect()).collect();
         let visits = replay.visits().iter().enumerate();
         let last = visits.map(|(number, visit)| ((visit.block, visit.side), number)).collect();
@@ -200,6 +204,39 @@ impl<'j> World<'j> {
     /// The last visit of a block on a side.
     pub fn last_visit(&self, id: BlockId, side: Side) -> &Visit {
         &self.replay.visits()[self.last[&(self.place(id), side)]]
+    }
+
+    /// The neighbours of a block on a side that its last visit did not find finished, in the walk's
+    /// order: their visits in that walk ended no earlier.
+    pub fn unfinished(&self, id: BlockId, side: Side) -> Vec<BlockId> {
+        let ended = |id: BlockId| self.last[&(self.place(id), side)];
+        let mut unfinished = self.neighbours(id, side);
+        unfinished.retain(|&near| ended(near) >= ended(id));
+        if side == Side::Successors {
+            unfinished.sort();
+        }
+        unfinished
+    }
+
+    /// Whether nothing came to a block from its neighbours on a side, in any visit.
+    pub fn takes_nothing_over(&self, id: BlockId, side: Side) -> bool {
+        let place = self.place(id);
+        let mut visits =
+            self.replay.visits().iter().filter(|visit| (visit.block, visit.side) == (place, side));
+        visits.all(|visit| visit.came_in.is_empty())
+    }
+
+    /// Whether paths came to a block only when all its neighbours on that side had been visited
+    /// before it in the same walk.
+    pub fn takes_over_from_finished_only(&self) -> bool {
+        let mut walks = self.replay.visits().chunks(self.job.blocks().len());
+        walks.all(|walk| {
+            walk.iter().enumerate().all(|(at, visit)| {
+                let near = &self.near[usize::from(visit.side == Side::Successors)][visit.block];
+                let is_finished = |near: &usize| walk[..at].iter().any(|earlier| earlier.block == *near);
+                visit.came_in.is_empty() || near.iter().all(is_finished)
+            })
+        })
     }
 
     /// What the blocks had before the last visit of a block, in a job that did not settle.

@@ -7,11 +7,16 @@ mod unknown;
 
 use super::{Base, End, Explanation, Reason};
 use crate::path::{Entry, Path};
+use crate::replay::Propagation;
 use known::known;
 use sections::Sections;
 use show::{show_entry, show_path};
 use std::fmt;
 use unknown::unknown;
+
+/// What stands before all else where the propagation is the strict one.
+const STRICT: &str = "strict propagation: a block takes paths over from the blocks before it, or after it, \
+                      only where all of these are finished";
 
 /// An explanation in full: all blocks at which a path stopped, and every step by which a path came
 /// to a block.
@@ -77,6 +82,9 @@ impl Text<'_> {
     }
 
     fn candidates(&self, f: &mut fmt::Formatter<'_>) -> fmt::Result {
+        if self.explanation.propagation == Propagation::Strict {
+            writeln!(f, "{STRICT}\n")?;
+        }
         if self.explanation.reasons.is_empty() {
             writeln!(f, "the job has no candidate, so no path is returned")?;
         }

@@ -191,8 +191,23 @@ fn other_reason(text: &Text, stop: &Stop, at: At) -> String {
             "all the blocks that {control} are on a loop with {} and not finished when it takes over",
             at.it
         ),
+        Why::SomeUnfinished(blocks) => {
+            let beside = if stop.side == Side::Predecessors { "before" } else { "after" };
+            let since = unfinished(text, stop.at, blocks);
+            format!("{} takes nothing over from the blocks {beside} it, since {since}", at.it)
+        }
         _ => format!("{} last took over before all the blocks that {control} had it", at.it),
     }
+}
+
+/// That these neighbours of a block, itself among them perhaps, were not finished: some of them, or
+/// all where all is shown.
+fn unfinished(text: &Text, at: BlockId, blocks: &[BlockId]) -> String {
+    if blocks == [at] {
+        return "it is itself one of them and not finished".to_string();
+    }
+    let shown = if text.sections.is_some() { show_blocks(blocks) } else { show_some_blocks(blocks) };
+    format!("{shown} {} on a loop with it and not finished", for_count(blocks.len(), "is", "are"))
 }
 
 /// Where the base stopped and why, with all blocks that are beside.
