@@ -76,11 +76,8 @@ impl Intersection {
     fn or_empty(self) -> NodeBits
         ensures { λ r. ⌜ membersOf (r .words) ≡ intersectionWith self [] ⌝ }
     {
-        if self.any {
-            self.set
-        } else {
-            NodeBits::empty()
-        }
+        let none = NodeBits::empty();
+        if self.any { self.set } else { none }
     }
 }
 

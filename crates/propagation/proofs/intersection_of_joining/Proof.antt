@@ -66,8 +66,9 @@ returns-2 c =
     let a = c .before .before in
     let f = a .before in
     let t = f .before .before in
+    let low = f .if1 .taken in
     c .empty .ensures ∙ intersecting-none (t .before .before .before .before .loop .inv) (next t)
-    (sym (a .asks-all .ensures) ∙ c .before .if2 .taken) (f .if1 .taken)
+    (sym (a .asks-all .ensures) ∙ c .before .if2 .taken) (omega arith)
 
 with-neighbour-requires : tie.Need-with-neighbour-requires Inv-loop μ-loop
 with-neighbour-requires c κs = inside (c .before .before)
