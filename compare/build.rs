@@ -1,6 +1,7 @@
 //! Cuts the items of the Rust source that the oracle runs, and makes the two
-//! edits that the specification asks for. Links the stage's library where there is one
-//! that belongs to the sources beside it.
+//! edits that the specification asks for. Cuts the propagation a second time, with the
+//! joining step of the strict one. Links the stage's library where there is one that
+//! belongs to the sources beside it.
 
 #[path = "src/cutter.rs"]
 mod cutter;
@@ -59,6 +60,9 @@ const STAGE_ITEMS: &[&str] = &[
     "fn collect_minimal_deps_in_subtree",
 ];
 
+/// Items of the stage that are cut again for the strict propagation.
+const STRICT_ITEMS: &[&str] = &["fn propagate_non_null", "fn recursively_propagate_non_null"];
+
 fn main() {
     link_library();
     println!("cargo::rustc-check-cfg=cfg(reference)");
@@ -67,8 +71,8 @@ fn main() {
     println!("cargo::rerun-if-changed=src/cutter.rs");
     match read_sources() {
         Ok((types, stage)) => {
-            let text = cut_all(&types, &stage).unwrap_or_else(|why| fail(&why));
-            fs::write(out_dir().join("cut.rs"), text).unwrap_or_else(|why| fail(&why.to_string()));
+            write("cut.rs", cut_all(&types, &stage));
+            write("strict.rs", cut_edited(&stage, STRICT_ITEMS, edit_strictly));
             println!("cargo::rustc-cfg=reference");
             println!("cargo::rustc-env=REFERENCE_ABSENT=");
         }
@@ -158,13 +162,25 @@ fn read(root: &Path, file: &str, place: &str) -> Result<String, String> {
     fs::read_to_string(path).map_err(|_| format!("{file} of the Rust source cannot be read {place}"))
 }
 
+/// Writes what was cut to cargo's output directory.
+fn write(file: &str, text: Result<String, String>) {
+    let text = text.unwrap_or_else(|why| fail(&why));
+    fs::write(out_dir().join(file), text).unwrap_or_else(|why| fail(&why.to_string()));
+}
+
 fn cut_all(types: &str, stage: &str) -> Result<String, String> {
+    let types = cut_edited(types, TYPE_ITEMS, |_, item| Ok(item.to_string()))?;
+    Ok(types + &cut_edited(stage, STAGE_ITEMS, edit)?)
+}
+
+/// An edit of an item, by its name and its text.
+type Edit = fn(&str, &str) -> Result<String, String>;
+
+/// The items of these names, each edited.
+fn cut_edited(source: &str, names: &[&str], edit: Edit) -> Result<String, String> {
     let mut text = String::new();
-    for name in TYPE_ITEMS {
-        text += &format!("{}\n\n", cutter::cut(types, name)?);
-    }
-    for name in STAGE_ITEMS {
-        let item = edit(name, cutter::cut(stage, name)?);
+    for name in names {
+        let item = edit(name, cutter::cut(source, name)?);
         text += &format!("{}\n\n", item.map_err(|why| format!("in `{name}`: {why}"))?);
     }
     Ok(text)
@@ -179,5 +195,18 @@ fn edit(name: &str, item: &str) -> Result<String, String> {
             cutter::insert_in_block_after(&counted, "!changed", " rounds::settled();")
         }
         _ => Ok(item.to_string()),
+    }
+}
+
+/// Where nothing joins under the existing propagation.
+const NONE_IS_DONE: &str = "done_neighbor_sets.is_empty()";
+
+/// The edits of the strict propagation: the same, and nothing joins where not all neighbours are
+/// Done.
+fn edit_strictly(name: &str, item: &str) -> Result<String, String> {
+    let none_joins = format!("{NONE_IS_DONE} || done_neighbor_sets.len() < neighbors.len()");
+    match name {
+        "fn recursively_propagate_non_null" => cutter::replace_once(item, NONE_IS_DONE, &none_joins),
+        _ => edit(name, item),
     }
 }

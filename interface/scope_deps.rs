@@ -40,24 +40,14 @@ unsafe extern "C" {
     /// # Safety
     ///
     /// As for `scope_deps_answer`.
-    pub fn scope_deps_strict_answer(
-        job: *const u8,
-        job_len: usize,
-        out: *mut u8,
-        out_len: usize,
-    ) -> i64;
+    pub fn scope_deps_strict_answer(job: *const u8, job_len: usize, out: *mut u8, out_len: usize) -> i64;
 
     /// The same for the sheet by the strict propagation.
     ///
     /// # Safety
     ///
     /// As for `scope_deps_answer`.
-    pub fn scope_deps_strict_sheet(
-        job: *const u8,
-        job_len: usize,
-        out: *mut u8,
-        out_len: usize,
-    ) -> i64;
+    pub fn scope_deps_strict_sheet(job: *const u8, job_len: usize, out: *mut u8, out_len: usize) -> i64;
 
     /// The same for the thin job, whose shortest buffer has `THIN_BYTES` bytes.
     ///

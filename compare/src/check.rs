@@ -2,39 +2,34 @@
 
 use crate::job::limits;
 use crate::list::Record;
+use crate::operation::Operation;
 use crate::oracle::{Oracle, program_bytes};
 use crate::output::{Answer, Sheet, Written, read_answer, read_sheet};
 use crate::reader::{MANY_NODES, Refusal, read_job};
 use crate::thin;
 
-/// Compares each record with what the Rust says now, and its thin job with what the harness's
-/// writer makes by the Rust's equality of paths.
+/// Compares each record with what the Rust says now, and what the Rust has not with what the
+/// harness makes with it: the thin job, the strict answer and the strict sheet.
 pub fn with_rust(records: &[Record], oracle: &mut Oracle) -> Result<(), String> {
     for (number, record) in records.iter().enumerate() {
-        let both = oracle.both(&record.job, record.out_len);
-        let thin = oracle.thin(&record.job, record.out_len);
-        let parts = [
-            ("answer", &record.answer, both.answer),
-            ("sheet", &record.sheet, both.sheet),
-            ("thin job", &record.thin, thin),
-        ];
-        for (what, stored, said) in parts {
-            same_bytes(what, stored, &program_bytes(&said))
+        for (operation, said) in oracle.all(&record.job, record.out_len).said() {
+            same_bytes(operation, record.written(operation), &program_bytes(said))
                 .map_err(|why| format!("record {number}: {why}"))?;
         }
     }
     Ok(())
 }
 
-fn same_bytes(what: &str, stored: &[u8], computed: &[u8]) -> Result<(), String> {
+fn same_bytes(operation: Operation, stored: &[u8], computed: &[u8]) -> Result<(), String> {
     if stored == computed {
         return Ok(());
     }
     let first = stored.iter().zip(computed).take_while(|(a, b)| a == b).count();
     let (length, new_length) = (stored.len(), computed.len());
     Err(format!(
-        "the stored {what} differs from the one computed now at byte {first} \
-         (stored {length} bytes, computed {new_length})"
+        "what is stored of {} differs from what is computed now at byte {first} \
+         (stored {length} bytes, computed {new_length})",
+        operation.name()
     ))
 }
 
@@ -47,14 +42,36 @@ pub fn without_rust(records: &[Record]) -> Result<(), String> {
 }
 
 fn check_record(record: &Record) -> Result<(), String> {
-    let answer =
-        read_answer(&record.answer).map_err(|why| format!("the answer is not well formed: {why}"))?;
-    let sheet = read_sheet(&record.sheet).map_err(|why| format!("the sheet is not well formed: {why}"))?;
-    check_refusals(record, refusal_of(&answer), refusal_of(&sheet))?;
-    if let (Written::Record(answer), Written::Record(sheet)) = (&answer, &sheet) {
-        check_together(record, answer, sheet)?;
+    check_both(record, &record.answer, &record.sheet)?;
+    check_both(record, &record.strict_answer, &record.strict_sheet)
+        .map_err(|why| format!("strict: {why}"))?;
+    check_propagations(record)?;
+    let thin = thin::thin(&record.job, record.out_len);
+    same_bytes(Operation::Thin, &record.thin, &program_bytes(&thin))
+}
+
+/// Without loops the two propagations write the same.
+fn check_propagations(record: &Record) -> Result<(), String> {
+    let has_loop = read_job(&record.job, record.out_len).is_ok_and(|job| job.has_loop());
+    let strict = (&record.strict_answer, &record.strict_sheet);
+    if !has_loop && strict != (&record.answer, &record.sheet) {
+        return Err("strict: it is another than the existing one, though there is no loop".into());
     }
-    same_bytes("thin job", &record.thin, &program_bytes(&thin::thin(&record.job, record.out_len)))
+    Ok(())
+}
+
+/// Checks answer and sheet by one propagation.
+fn check_both(record: &Record, answer: &[u8], sheet: &[u8]) -> Result<(), String> {
+    if answer.len().max(sheet.len()) > limits::OUT_BYTES {
+        return Err("it would not fit into the smallest out buffer".into());
+    }
+    let answer = read_answer(answer).map_err(|why| format!("the answer is not well formed: {why}"))?;
+    let sheet = read_sheet(sheet).map_err(|why| format!("the sheet is not well formed: {why}"))?;
+    check_refusals(record, refusal_of(&answer), refusal_of(&sheet))?;
+    match (&answer, &sheet) {
+        (Written::Record(answer), Written::Record(sheet)) => check_together(record, answer, sheet),
+        _ => Ok(()),
+    }
 }
 
 fn refusal_of<T>(written: &Written<T>) -> Option<Refusal> {
@@ -89,9 +106,6 @@ fn check_together(record: &Record, answer: &Answer, sheet: &Sheet) -> Result<(),
     if answer.returned.len() > job.candidates.len() {
         return Err("more paths are returned than there are candidates".into());
     }
-    if record.answer.len() > limits::OUT_BYTES || record.sheet.len() > limits::OUT_BYTES {
-        return Err("it would not fit into the smallest out buffer".into());
-    }
     Ok(())
 }
 
@@ -100,21 +114,59 @@ mod tests {
     use super::*;
     use crate::notation::{block, job};
 
+    fn refused(number: u8) -> Vec<u8> {
+        vec![b'R', b'F', number]
+    }
+
+    /// A job of one block, which assumes 1 twice, and its thin job. Answer and sheet by the Rust
+    /// are not known here, so it is taken for one that 9 refuses.
+    fn record() -> Record {
+        let many = || refused(MANY_NODES);
+        Record {
+            out_len: limits::THIN_BYTES,
+            job: job(7, vec![block(7, &[], "1, 1")], "").to_bytes(),
+            answer: many(),
+            sheet: many(),
+            thin: job(7, vec![block(7, &[], "1")], "").to_bytes(),
+            strict_answer: many(),
+            strict_sheet: many(),
+        }
+    }
+
+    fn fails(record: Record, start: &str) {
+        let why = without_rust(&[record]).unwrap_err();
+        assert!(why.starts_with(&format!("record 0: {start}")), "{why}");
+    }
+
     #[test]
     fn a_thin_job_that_is_another_is_seen_without_the_rust() {
-        let refused = |number| vec![b'R', b'F', number];
-        let whole = job(7, vec![block(7, &[], "1, 1")], "").to_bytes();
-        let thin = job(7, vec![block(7, &[], "1")], "").to_bytes();
-        // Answer and sheet by the Rust are not known here, so the job is one that 9 could refuse.
-        let record = |out_len, thin: &[u8]| {
-            let (answer, sheet) = (refused(MANY_NODES), refused(MANY_NODES));
-            vec![Record { out_len, job: whole.clone(), answer, sheet, thin: thin.to_vec() }]
-        };
-        assert_eq!(without_rust(&record(limits::THIN_BYTES, &thin)), Ok(()));
-        assert_eq!(without_rust(&record(limits::OUT_BYTES, &refused(1))), Ok(()));
-        for (out_len, wrong) in [(limits::THIN_BYTES, &whole), (limits::OUT_BYTES, &thin)] {
-            let why = without_rust(&record(out_len, wrong)).unwrap_err();
-            assert!(why.starts_with("record 0: the stored thin job differs"), "{why}");
-        }
+        let short = Record { out_len: limits::OUT_BYTES, ..record() };
+        assert_eq!(without_rust(&[record(), Record { thin: refused(1), ..short.clone() }]), Ok(()));
+        fails(Record { thin: record().job, ..record() }, "what is stored of thin differs");
+        fails(short, "what is stored of thin differs");
+    }
+
+    #[test]
+    fn strict_refusals_and_their_equality_without_loops_are_checked_without_the_rust() {
+        let by =
+            |number| Record { strict_answer: refused(number), strict_sheet: refused(number), ..record() };
+        fails(by(3), "strict: the stored refusal is 3, the reader's none");
+        fails(Record { strict_sheet: by(3).strict_sheet, ..record() }, "strict: answer and sheet are not");
+        let empty = Record { answer: b"AN\0\0\x01\x01".to_vec(), sheet: sheet_of_two(), ..in_a_loop(false) };
+        fails(empty.clone(), "strict: it is another than the existing one");
+        let in_a_loop = in_a_loop(true);
+        assert_eq!(without_rust(&[Record { answer: empty.answer, sheet: empty.sheet, ..in_a_loop }]), Ok(()));
+    }
+
+    /// A record of two blocks without paths, the second after itself or not.
+    fn in_a_loop(is_loop: bool) -> Record {
+        let after: &[u32] = if is_loop { &[8] } else { &[] };
+        let job = job(7, vec![block(7, &[], ""), block(8, after, "")], "").to_bytes();
+        Record { thin: job.clone(), job, ..record() }
+    }
+
+    fn sheet_of_two() -> Vec<u8> {
+        let set = |id: u8| [b"SE", &[id, 0, 0, 0][..], &[0; limits::NODES / 8]].concat();
+        [b"SH\0\0\x02\0\x01\x01".to_vec(), set(7), set(8)].concat()
     }
 }

@@ -1,9 +1,11 @@
 //! Jobs by name, each of which tells a definition from one that is nearly the same. They stand at
-//! the end of the stored list; tests/examples.rs says what the Rust gives for each, and
-//! tests/thin.rs what the thin job is. Those of walks and orders are, but for two, theorems of the
-//! same names in crates/model/specs/Examples.antt; docs/DIFFERENCES.md tells of the keys.
+//! the end of the stored list; tests/examples.rs says what the Rust gives for each, tests/thin.rs
+//! what the thin job is, and tests/strict.rs what the strict propagation gives. Those of walks and
+//! orders are, but for two, theorems of the same names in crates/model/specs/Examples.antt;
+//! docs/DIFFERENCES.md tells of the keys.
 
 mod repeats;
+mod strict;
 
 use crate::job::{Job, limits};
 use crate::notation::{block, job};
@@ -17,7 +19,9 @@ pub struct Example {
 
 /// All examples, in the order of the stored list.
 pub fn examples() -> Vec<Example> {
-    let named = [walks(), orders(), keys(), repeats::of_paths(), repeats::at_limits()].into_iter().flatten();
+    let thin = [repeats::of_paths(), repeats::at_limits()];
+    let strict = [strict::differences(), strict::traps(), strict::limits()];
+    let named = [walks(), orders(), keys()].into_iter().chain(thin).chain(strict).flatten();
     let long_enough = named.map(|(name, job)| Example { name, out_len: limits::THIN_BYTES, job });
     long_enough.chain(buffers()).collect()
 }

@@ -1,5 +1,7 @@
 //! A job as a value, its limits, and its bytes.
 
+use std::collections::HashSet;
+
 /// The limits of the specification.
 pub mod limits {
     /// The shortest out buffer of an answer or a sheet.
@@ -83,6 +85,19 @@ impl Job {
             put_path(&mut out, b"CA", candidate);
         }
         out
+    }
+
+    /// Takes away blocks without predecessors until none is left; what stays is a loop.
+    pub fn has_loop(&self) -> bool {
+        let mut left: Vec<&Block> = self.blocks.iter().collect();
+        loop {
+            let ids: HashSet<u32> = left.iter().map(|block| block.id).collect();
+            let before = left.len();
+            left.retain(|block| block.predecessors.iter().any(|id| ids.contains(id)));
+            if left.len() == before {
+                return !left.is_empty();
+            }
+        }
     }
 }
 

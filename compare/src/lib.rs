@@ -18,11 +18,13 @@ pub mod list;
 #[cfg(target_arch = "x86_64")]
 pub mod memory;
 pub mod notation;
+pub mod operation;
 pub mod oracle;
 pub mod output;
 pub mod prng;
 pub mod programs;
 pub mod progress;
+pub mod propagation;
 pub mod reader;
 #[cfg(reference)]
 pub mod reference;

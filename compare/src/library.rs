@@ -4,12 +4,12 @@
 #[path = "../../interface/scope_deps.rs"]
 pub mod interface;
 
-/// An implementation of the three operations with the results of the C interface:
-/// the length written, or minus the number of the refusal.
+use crate::operation::Operation;
+
+/// An implementation of the operations with the results of the C interface: the length
+/// written, or minus the number of the refusal.
 pub trait Stage {
-    fn answer(&mut self, job: &[u8], out: &mut [u8]) -> i64;
-    fn sheet(&mut self, job: &[u8], out: &mut [u8]) -> i64;
-    fn thin(&mut self, job: &[u8], out: &mut [u8]) -> i64;
+    fn call(&mut self, operation: Operation, job: &[u8], out: &mut [u8]) -> i64;
 }
 
 /// Why the library cannot be called, if it cannot.
@@ -25,35 +25,32 @@ impl Library {
     }
 }
 
+/// An operation as the C interface has it.
+pub type Function = unsafe extern "C" fn(*const u8, usize, *mut u8, usize) -> i64;
+
+/// The library's function of an operation.
+#[cfg(library)]
+pub fn function(operation: Operation) -> Function {
+    match operation {
+        Operation::Answer => interface::scope_deps_answer,
+        Operation::Sheet => interface::scope_deps_sheet,
+        Operation::Thin => interface::scope_deps_thin,
+        Operation::StrictAnswer => interface::scope_deps_strict_answer,
+        Operation::StrictSheet => interface::scope_deps_strict_sheet,
+    }
+}
+
 #[cfg(library)]
 impl Stage for Library {
-    fn answer(&mut self, job: &[u8], out: &mut [u8]) -> i64 {
+    fn call(&mut self, operation: Operation, job: &[u8], out: &mut [u8]) -> i64 {
         // SAFETY: the pointers and lengths are those of slices, and `out` is borrowed alone.
-        unsafe { interface::scope_deps_answer(job.as_ptr(), job.len(), out.as_mut_ptr(), out.len()) }
-    }
-
-    fn sheet(&mut self, job: &[u8], out: &mut [u8]) -> i64 {
-        // SAFETY: as above.
-        unsafe { interface::scope_deps_sheet(job.as_ptr(), job.len(), out.as_mut_ptr(), out.len()) }
-    }
-
-    fn thin(&mut self, job: &[u8], out: &mut [u8]) -> i64 {
-        // SAFETY: as above.
-        unsafe { interface::scope_deps_thin(job.as_ptr(), job.len(), out.as_mut_ptr(), out.len()) }
+        unsafe { function(operation)(job.as_ptr(), job.len(), out.as_mut_ptr(), out.len()) }
     }
 }
 
 #[cfg(not(library))]
 impl Stage for Library {
-    fn answer(&mut self, _: &[u8], _: &mut [u8]) -> i64 {
-        unreachable!("no library can be opened where there is none")
-    }
-
-    fn sheet(&mut self, _: &[u8], _: &mut [u8]) -> i64 {
-        unreachable!("no library can be opened where there is none")
-    }
-
-    fn thin(&mut self, _: &[u8], _: &mut [u8]) -> i64 {
+    fn call(&mut self, _: Operation, _: &[u8], _: &mut [u8]) -> i64 {
         unreachable!("no library can be opened where there is none")
     }
 }

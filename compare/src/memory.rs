@@ -3,6 +3,7 @@
 //! A call runs on a stack of its own that was painted before. The lowest byte that
 //! lost its paint tells how deep the call went, with all that it calls in turn.
 
+use crate::library::Function;
 use std::arch::asm;
 
 /// Working memory that the specification allows, beside the lent job and out buffer.
@@ -13,9 +14,6 @@ const STACK_BYTES: usize = 1024 * 1024;
 
 /// A byte may be overwritten by its own value. Two paints see every byte.
 const PAINTS: [u8; 2] = [0xa5, 0x5a];
-
-/// An operation as the C interface has it.
-pub type Operation = unsafe extern "C" fn(*const u8, usize, *mut u8, usize) -> i64;
 
 /// Two painted stacks.
 pub struct Stacks([Stack; PAINTS.len()]);
@@ -32,7 +30,7 @@ impl Stacks {
     /// # Safety
     ///
     /// The operation takes a job and an out buffer, and needs less stack than there is here.
-    pub unsafe fn measure(&mut self, operation: Operation, job: &[u8], out: &mut [u8]) -> usize {
+    pub unsafe fn measure(&mut self, operation: Function, job: &[u8], out: &mut [u8]) -> usize {
         // SAFETY: as the caller promises.
         let taken = self.0.each_mut().map(|stack| unsafe { stack.measure(operation, job, out) });
         taken.into_iter().max().unwrap_or(0)
@@ -51,7 +49,7 @@ impl Stack {
     }
 
     /// Calls the operation, looks for the lowest byte without paint, and paints anew.
-    unsafe fn measure(&mut self, operation: Operation, job: &[u8], out: &mut [u8]) -> usize {
+    unsafe fn measure(&mut self, operation: Function, job: &[u8], out: &mut [u8]) -> usize {
         // SAFETY: as the caller promises.
         unsafe { self.call(operation, job, out) };
         let painted = u128::from_ne_bytes([self.paint; 16]);
@@ -64,7 +62,7 @@ impl Stack {
     }
 
     /// Calls the operation with the stack pointer at the end of this stack.
-    unsafe fn call(&mut self, operation: Operation, job: &[u8], out: &mut [u8]) -> i64 {
+    unsafe fn call(&mut self, operation: Function, job: &[u8], out: &mut [u8]) -> i64 {
         let top = self.units.as_mut_ptr_range().end;
         let returned: i64;
         // SAFETY: the call follows the C calling convention: four arguments in registers and

@@ -1,5 +1,7 @@
-//! What the Rust source says of a job.
+//! What the Rust source says of a job, and what the harness says of what the Rust has not.
 
+use crate::operation::Operation;
+use crate::propagation::Propagation;
 use crate::reader::Refusal;
 
 /// Why the Rust source cannot be run, if it cannot.
@@ -16,12 +18,37 @@ pub struct Oracle {
     alloc: crate::arena::Allocator,
 }
 
-/// Both results of a job, and the counts that they do not show.
+/// Both results of a job by one propagation, and the counts that they do not show.
 #[derive(Debug, Clone)]
 pub struct Both {
     pub answer: Said,
     pub sheet: Said,
     pub counts: Option<Counts>,
+}
+
+/// What is said of a job by all operations.
+#[derive(Debug, Clone)]
+pub struct All {
+    pub existing: Both,
+    pub strict: Both,
+    pub thin: Said,
+}
+
+impl All {
+    /// Each operation with what is said by it.
+    pub fn said(&self) -> [(Operation, &Said); Operation::ALL.len()] {
+        Operation::ALL.map(|operation| (operation, self.by(operation)))
+    }
+
+    fn by(&self, operation: Operation) -> &Said {
+        match operation {
+            Operation::Answer => &self.existing.answer,
+            Operation::Sheet => &self.existing.sheet,
+            Operation::Thin => &self.thin,
+            Operation::StrictAnswer => &self.strict.answer,
+            Operation::StrictSheet => &self.strict.sheet,
+        }
+    }
 }
 
 /// Counts of a job that was run.
@@ -42,6 +69,25 @@ pub fn program_bytes(said: &Said) -> Vec<u8> {
     }
 }
 
+impl Oracle {
+    /// What is said by an operation.
+    pub fn say(&mut self, operation: Operation, bytes: &[u8], out_len: usize) -> Said {
+        match operation {
+            Operation::Answer => self.answer(Propagation::Existing, bytes, out_len),
+            Operation::Sheet => self.sheet(Propagation::Existing, bytes, out_len),
+            Operation::Thin => self.thin(bytes, out_len),
+            Operation::StrictAnswer => self.answer(Propagation::Strict, bytes, out_len),
+            Operation::StrictSheet => self.sheet(Propagation::Strict, bytes, out_len),
+        }
+    }
+
+    pub fn all(&mut self, bytes: &[u8], out_len: usize) -> All {
+        let existing = self.both(Propagation::Existing, bytes, out_len);
+        let strict = self.both(Propagation::Strict, bytes, out_len);
+        All { existing, strict, thin: self.thin(bytes, out_len) }
+    }
+}
+
 #[cfg(not(reference))]
 impl Oracle {
     /// Says why the Rust cannot be run.
@@ -49,15 +95,15 @@ impl Oracle {
         Err(absent().unwrap_or("the Rust source was not found"))
     }
 
-    pub fn answer(&mut self, _: &[u8], _: usize) -> Said {
+    pub fn answer(&mut self, _: Propagation, _: &[u8], _: usize) -> Said {
         unreachable!("no oracle can be opened without the Rust source")
     }
 
-    pub fn sheet(&mut self, _: &[u8], _: usize) -> Said {
+    pub fn sheet(&mut self, _: Propagation, _: &[u8], _: usize) -> Said {
         unreachable!("no oracle can be opened without the Rust source")
     }
 
-    pub fn both(&mut self, _: &[u8], _: usize) -> Both {
+    pub fn both(&mut self, _: Propagation, _: &[u8], _: usize) -> Both {
         unreachable!("no oracle can be opened without the Rust source")
     }
 
@@ -72,33 +118,33 @@ impl Oracle {
         Ok(Self { alloc: Default::default() })
     }
 
-    pub fn answer(&mut self, bytes: &[u8], out_len: usize) -> Said {
+    pub fn answer(&mut self, propagation: Propagation, bytes: &[u8], out_len: usize) -> Said {
         let job = read_job(bytes, out_len)?;
         self.alloc.reset();
         let prepared = reference::prepare(&job, &self.alloc);
-        let propagated = reference::propagate(&prepared, &self.alloc);
+        let propagated = reference::propagate(&prepared, propagation, &self.alloc);
         refuse_many_nodes(&propagated)?;
         Ok(answer_bytes(prepared, &propagated, &self.alloc))
     }
 
-    pub fn sheet(&mut self, bytes: &[u8], out_len: usize) -> Said {
+    pub fn sheet(&mut self, propagation: Propagation, bytes: &[u8], out_len: usize) -> Said {
         let job = read_job(bytes, out_len)?;
         self.alloc.reset();
         let prepared = reference::prepare(&job, &self.alloc);
-        let propagated = reference::propagate(&prepared, &self.alloc);
+        let propagated = reference::propagate(&prepared, propagation, &self.alloc);
         refuse_many_nodes(&propagated)?;
         Ok(sheet_bytes(&job, &propagated))
     }
 
     /// Answer and sheet from one reading and one propagation.
-    pub fn both(&mut self, bytes: &[u8], out_len: usize) -> Both {
+    pub fn both(&mut self, propagation: Propagation, bytes: &[u8], out_len: usize) -> Both {
         let job = match read_job(bytes, out_len) {
             Ok(job) => job,
             Err(number) => return Both { answer: Err(number), sheet: Err(number), counts: None },
         };
         self.alloc.reset();
         let prepared = reference::prepare(&job, &self.alloc);
-        let propagated = reference::propagate(&prepared, &self.alloc);
+        let propagated = reference::propagate(&prepared, propagation, &self.alloc);
         let counts = Some(Counts {
             rounds: propagated.rounds.run,
             settled: propagated.rounds.settled,

@@ -3,6 +3,7 @@
 use crate::generate::edges;
 use crate::job::limits;
 use crate::list::Record;
+use crate::operation::Operation;
 use crate::oracle::{Oracle, program_bytes};
 use crate::prng::Prng;
 use crate::reader::read_job;
@@ -15,9 +16,6 @@ use std::thread;
 /// Both sides of the longest job, and of what a program reads at most.
 pub const SIZES: [usize; 7] = [0, 1, 32_768, 32_769, 65_536, 65_537, 70_000];
 
-/// The programs, by the names of their files.
-pub const PROGRAMS: [&str; 3] = ["answer", "sheet", "thin"];
-
 /// What is put on a program's standard input, and what each program is to write for it.
 pub struct Input {
     pub name: String,
@@ -25,49 +23,38 @@ pub struct Input {
     pub due: Due,
 }
 
-/// In the order of the programs; `None` where only the Rust could say it, and is absent.
-pub type Due = [Option<Vec<u8>>; PROGRAMS.len()];
+/// In the order of the operations; `None` where only the Rust could say it, and is absent.
+pub type Due = [Option<Vec<u8>>; Operation::ALL.len()];
 
 /// All inputs: the stored list, and those of the sizes.
 pub fn inputs(records: &[Record], mut oracle: Option<&mut Oracle>) -> Vec<Input> {
-    let stored = records.iter().enumerate().map(|(number, record)| {
-        let due = match &mut oracle {
-            Some(oracle) => said_by(oracle, &record.job),
-            None => known(&record.job, stored_due(record)),
-        };
-        Input { name: format!("stored job {number}"), job: record.job.clone(), due }
-    });
-    let mut inputs: Vec<Input> = stored.collect();
-    for (name, job) in SIZES.into_iter().flat_map(of_size) {
-        let due = match &mut oracle {
-            Some(oracle) => said_by(oracle, &job),
-            None => known(&job, [None, None]),
-        };
-        inputs.push(Input { name, job, due });
-    }
-    inputs
-}
-
-fn said_by(oracle: &mut Oracle, job: &[u8]) -> Due {
-    let both = oracle.both(job, limits::OUT_BYTES);
-    let thin = oracle.thin(job, limits::THIN_BYTES);
-    [both.answer, both.sheet, thin].map(|said| Some(program_bytes(&said)))
-}
-
-/// What is known without the Rust: the reader's refusal, else these answer and sheet; and the thin
-/// job.
-fn known(job: &[u8], stored: [Option<Vec<u8>>; 2]) -> Due {
-    let [answer, sheet] = match read_job(job, limits::OUT_BYTES) {
-        Err(refusal) => [Some(program_bytes(&Err(refusal))), Some(program_bytes(&Err(refusal)))],
-        Ok(_) => stored,
+    let stored = records
+        .iter()
+        .enumerate()
+        .map(|(number, record)| (format!("stored job {number}"), record.job.clone(), Some(record)));
+    let of_sizes = SIZES.into_iter().flat_map(of_size).map(|(name, job)| (name, job, None));
+    let input = |(name, job, record): (String, Vec<u8>, Option<&Record>)| {
+        let due = Operation::ALL.map(|operation| match &mut oracle {
+            Some(oracle) => Some(program_bytes(&oracle.say(operation, &job, operation.least_bytes()))),
+            None => known(operation, &job, record),
+        });
+        Input { name, job, due }
     };
-    [answer, sheet, Some(program_bytes(&thin::thin(job, limits::THIN_BYTES)))]
+    stored.chain(of_sizes).map(input).collect()
 }
 
-/// Answer and sheet of the list, where the buffer was as long as a program's.
-fn stored_due(record: &Record) -> [Option<Vec<u8>>; 2] {
-    let long_enough = record.out_len >= limits::OUT_BYTES;
-    [&record.answer, &record.sheet].map(|bytes| long_enough.then(|| bytes.clone()))
+/// What is known without the Rust: the thin job, and else the reader's refusal or what is stored.
+fn known(operation: Operation, job: &[u8], record: Option<&Record>) -> Option<Vec<u8>> {
+    if operation == Operation::Thin {
+        return Some(program_bytes(&thin::thin(job, limits::THIN_BYTES)));
+    }
+    match read_job(job, limits::OUT_BYTES) {
+        Err(refusal) => Some(program_bytes(&Err(refusal))),
+        // The buffer must have been as long as a program's.
+        Ok(_) => record
+            .filter(|record| record.out_len >= limits::OUT_BYTES)
+            .map(|record| record.written(operation).to_vec()),
+    }
 }
 
 /// Inputs of exactly this many bytes, with their names: no job, a good one, and damaged ones.

@@ -2,16 +2,36 @@
 
 #![allow(dead_code)]
 
+mod own;
+
 use crate::arena::{Allocator, ArenaVec, CloneIn, CloneInSemanticIds};
 use crate::fx::{FxHashMap, FxIndexMap};
 use crate::hir::{BasicBlock, BlockId, HIR, HirFunction, Ident, IdentifierId, OrderedMap, Span};
 use crate::job::{Entry, Job, Path, Property, limits};
+use crate::propagation::Propagation;
 use crate::rounds::{self, Rounds};
 use crate::thin;
 use std::collections::BTreeSet;
 use std::marker::PhantomData;
 
 include!(concat!(env!("OUT_DIR"), "/cut.rs"));
+
+/// The propagation cut a second time, with the joining step of the strict one.
+mod strict {
+    use super::*;
+
+    include!(concat!(env!("OUT_DIR"), "/strict.rs"));
+
+    pub fn propagate(function: &HirFunction, infos: &Infos, registry: &mut PropertyPathRegistry) -> Sets {
+        propagate_non_null(function, infos, registry)
+    }
+}
+
+/// What each block assumes.
+type Infos = FxHashMap<BlockId, BlockInfo>;
+
+/// The set of each block.
+type Sets = FxHashMap<BlockId, BTreeSet<usize>>;
 
 /// In the original a macro writes this, together with many others.
 impl<'a> CloneIn<'a> for DependencyPathEntry<'a> {
@@ -26,7 +46,7 @@ impl<'a> CloneIn<'a> for DependencyPathEntry<'a> {
 /// What a job has come to when propagation ends.
 pub struct Propagated<'a> {
     registry: PropertyPathRegistry<'a>,
-    sets: FxHashMap<BlockId, BTreeSet<usize>>,
+    sets: Sets,
     /// Nodes that were there before the first round.
     pub entered: usize,
     pub rounds: Rounds,
@@ -61,19 +81,25 @@ pub fn prepare<'a>(job: &Job, alloc: &'a Allocator) -> Prepared<'a> {
 }
 
 /// Enters all assumed paths in job order and propagates them.
-pub fn propagate<'a>(prepared: &Prepared<'a>, alloc: &'a Allocator) -> Propagated<'a> {
+pub fn propagate<'a>(
+    prepared: &Prepared<'a>,
+    propagation: Propagation,
+    alloc: &'a Allocator,
+) -> Propagated<'a> {
     let mut registry = PropertyPathRegistry::new(alloc);
     let infos = enter_assumed_paths(prepared, &mut registry);
     let entered = registry.nodes.len();
     rounds::clear();
-    let sets = propagate_non_null(&prepared.function, &infos, &mut registry);
+    let function = &prepared.function;
+    let sets = match propagation {
+        Propagation::Existing => propagate_non_null(function, &infos, &mut registry),
+        Propagation::Strict => strict::propagate(function, &infos, &mut registry),
+        Propagation::Own(mistake) => own::propagate(function, &infos, &mut registry, mistake),
+    };
     Propagated { registry, sets, entered, rounds: rounds::read() }
 }
 
-fn enter_assumed_paths<'a>(
-    prepared: &Prepared<'a>,
-    registry: &mut PropertyPathRegistry<'a>,
-) -> FxHashMap<BlockId, BlockInfo> {
+fn enter_assumed_paths<'a>(prepared: &Prepared<'a>, registry: &mut PropertyPathRegistry<'a>) -> Infos {
     let mut infos = FxHashMap::default();
     for (block, assumed) in &prepared.assumed {
         let mut set = BTreeSet::new();

@@ -1,10 +1,10 @@
 //! Chooses the jobs of the stored list.
 
-use crate::cover::{Features, features, order_features};
+use crate::cover::{Features, features, order_features, strict_features};
 use crate::examples::{Example, examples};
 use crate::generate::{Generated, generate};
 use crate::list::Record;
-use crate::oracle::{Both, Oracle, Said, program_bytes};
+use crate::oracle::{All, Both, Oracle, program_bytes};
 use crate::progress::Progress;
 use std::collections::HashMap;
 
@@ -12,7 +12,7 @@ use std::collections::HashMap;
 pub const SEED: u64 = 20_261_115;
 const TRIED: usize = 60_000;
 /// Pairs of features are looked for among small records only.
-const PAIR_BYTES: usize = 700;
+const PAIR_BYTES: usize = 680;
 const MOST_PAIR_JOBS: usize = 100;
 
 /// How many jobs should have a feature.
@@ -33,6 +33,7 @@ fn quota(feature: &str) -> usize {
         "blocks 12",
         "predecessors 6",
         "thin: ",
+        "strict: ",
     ];
     if one.iter().any(|part| feature.contains(part)) {
         1
@@ -48,27 +49,28 @@ fn quota(feature: &str) -> usize {
 pub struct Chosen {
     pub record: Record,
     class: &'static str,
-    both: Both,
-    thin: Said,
+    all: All,
     covers: Features,
 }
 
 impl Chosen {
-    /// The size of the record without its thin job, so that jobs whose thin job is refused are not
-    /// preferred.
+    /// The size of job, answer and sheet. The thin job does not count, so that jobs whose thin job
+    /// is refused are not preferred.
     fn size(&self) -> usize {
-        self.record.size() - self.record.thin.len()
+        self.record.job.len() + self.record.answer.len() + self.record.sheet.len()
     }
 }
 
 /// The record of a generated job.
-pub fn record(generated: &Generated, both: &Both, thin: &Said) -> Record {
+pub fn record(generated: &Generated, all: &All) -> Record {
     Record {
         out_len: generated.out_len,
         job: generated.job.clone(),
-        answer: program_bytes(&both.answer),
-        sheet: program_bytes(&both.sheet),
-        thin: program_bytes(thin),
+        answer: program_bytes(&all.existing.answer),
+        sheet: program_bytes(&all.existing.sheet),
+        thin: program_bytes(&all.thin),
+        strict_answer: program_bytes(&all.strict.answer),
+        strict_sheet: program_bytes(&all.strict.sheet),
     }
 }
 
@@ -86,11 +88,10 @@ fn named(example: &Example, oracle: &mut Oracle) -> Chosen {
 }
 
 /// A job with what is said of it, and what it covers.
-fn chosen(generated: &Generated, oracle: &mut Oracle, covers: impl FnOnce(&Both) -> Features) -> Chosen {
-    let both = oracle.both(&generated.job, generated.out_len);
-    let thin = oracle.thin(&generated.job, generated.out_len);
-    let (record, covers) = (record(generated, &both, &thin), covers(&both));
-    Chosen { record, class: generated.class, both, thin, covers }
+fn chosen(generated: &Generated, oracle: &mut Oracle, covers: impl FnOnce(&All) -> Features) -> Chosen {
+    let all = oracle.all(&generated.job, generated.out_len);
+    let (record, covers) = (record(generated, &all), covers(&all));
+    Chosen { record, class: generated.class, all, covers }
 }
 
 /// Tries jobs in order of size and keeps one that has a feature, or a pair of
@@ -123,8 +124,9 @@ fn try_jobs(oracle: &mut Oracle) -> Vec<Chosen> {
         progress.show(number);
         let generated = generate(SEED, number as u64, None);
         let (job, out_len) = (&generated.job, generated.out_len);
-        let mut tested = chosen(&generated, oracle, |both| features(generated.class, job, out_len, both));
-        order_features(job, out_len, &tested.both.sheet, oracle, &mut tested.covers);
+        let mut tested = chosen(&generated, oracle, |all| features(generated.class, job, out_len, all));
+        order_features(job, out_len, &tested.all.existing.sheet, oracle, &mut tested.covers);
+        strict_features(job, out_len, &tested.all, oracle, &mut tested.covers);
         tried.push(tested);
     }
     tried
@@ -195,7 +197,29 @@ impl Wanted {
 
 /// The index's line of a chosen job.
 pub fn index_line(number: usize, chosen: &Chosen) -> String {
-    let outcome = match (&chosen.both.answer, &chosen.both.counts) {
+    let All { existing, strict, thin } = &chosen.all;
+    let thin = match thin {
+        Ok(thin) => format!("thin {} of {} bytes", thin.len(), chosen.record.job.len()),
+        Err(number) => format!("thin refusal {number}"),
+    };
+    let strict = match (&strict.answer, &strict.sheet) == (&existing.answer, &existing.sheet) {
+        true => "strict the same".to_string(),
+        false => format!("strict {}", outcome(strict)),
+    };
+    let told = ["class ", "refusal ", "rounds ", "settled ", "returned ", "nodes ", "block id 0"];
+    let covers: Vec<&str> = chosen
+        .covers
+        .iter()
+        .map(String::as_str)
+        .filter(|feature| !told.iter().any(|word| feature.starts_with(word)))
+        .collect();
+    let (class, existing) = (chosen.class, outcome(existing));
+    format!("{number}\t{class}\t{existing}\t{strict}\t{thin}\t{}\n", covers.join("; "))
+}
+
+/// What a propagation comes to, in words.
+fn outcome(both: &Both) -> String {
+    match (&both.answer, &both.counts) {
         (Ok(answer), Some(counts)) => format!(
             "rounds {} settled {} nodes {} returned {}",
             counts.rounds,
@@ -205,17 +229,5 @@ pub fn index_line(number: usize, chosen: &Chosen) -> String {
         ),
         (Err(number), _) => format!("refusal {number}"),
         (Ok(_), None) => unreachable!("an answer comes from a run"),
-    };
-    let thin = match &chosen.thin {
-        Ok(thin) => format!("thin {} of {} bytes", thin.len(), chosen.record.job.len()),
-        Err(number) => format!("thin refusal {number}"),
-    };
-    let told = ["class ", "refusal ", "rounds ", "settled ", "returned ", "nodes ", "block id 0"];
-    let covers: Vec<&str> = chosen
-        .covers
-        .iter()
-        .map(String::as_str)
-        .filter(|feature| !told.iter().any(|word| feature.starts_with(word)))
-        .collect();
-    format!("{number}\t{}\t{outcome}\t{thin}\t{}\n", chosen.class, covers.join("; "))
+    }
 }

@@ -202,6 +202,11 @@ pub fn jobs() -> Vec<(String, Job)> {
     let mut full = rising_chain(limits::BLOCKS);
     full[last].assumed = [reducible_chain(1, 15), full_registry(limits::NODES - 31)].concat();
     jobs.push(("rising chain, 512 nodes, a reduction and 64 candidates", job(0, full, most())));
+    let mut ring = rising_chain(limits::BLOCKS);
+    ring[last].predecessors.push(0);
+    ring[last].assumed = reducible();
+    // The forward visit is deepest at the last block, whose only predecessor is Active there.
+    jobs.push(("ring of 128 blocks, a reduction where nothing joins", job(0, ring, most())));
     jobs.push(("255 paths that differ at the last entry", most_comparisons()));
     jobs.push(("32,768 bytes without a repeat", longest_without_repeats()));
     jobs.into_iter().map(|(name, job)| (name.to_string(), job)).collect()

@@ -2,6 +2,7 @@
 
 mod common;
 
+use compare::operation::Operation;
 use std::collections::BTreeSet;
 use std::fs::{self, Permissions};
 use std::io::Write;
@@ -36,6 +37,7 @@ fn bad_words_get_a_message_and_a_hint() {
     misused(&["bogus"], "`bogus` is no command");
     misused(&["answer", "more"], "`more` follows");
     misused(&["thin", "more"], "`more` follows");
+    misused(&["strict_answer", "more"], "`more` follows");
     misused(&["help", "bogus"], "no help on `bogus`");
     misused(&["bogus", "--help"], "no help on `bogus`");
     misused(&["help", "answer", "more"], "`more` follows");
@@ -88,8 +90,19 @@ fn help_is_there_for_every_command() {
     assert_eq!(
         commands,
         [
-            "answer", "sheet", "thin", "check", "compare", "programs", "memory", "bench", "generate",
-            "store", "help"
+            "answer",
+            "sheet",
+            "thin",
+            "strict_answer",
+            "strict_sheet",
+            "check",
+            "compare",
+            "programs",
+            "memory",
+            "bench",
+            "generate",
+            "store",
+            "help"
         ]
     );
     for command in commands.into_iter().filter(|command| *command != "help") {
@@ -135,9 +148,9 @@ fn programs_that_write_something_else_are_named() {
     let folder = scratch("programs");
     fs::create_dir_all(&folder).unwrap();
     let refuses = |number: u8| format!("#!/bin/sh\ncat >/dev/null\nprintf 'RF\\00{number}'\n");
-    let said = |answer: &str, sheet: &str, thin: &str| {
-        for (name, text) in [("answer", answer), ("sheet", sheet), ("thin", thin)] {
-            fs::write(folder.join(name), text).unwrap();
+    let said = |text_of: &dyn Fn(&str) -> String| {
+        for name in Operation::ALL.map(Operation::name) {
+            fs::write(folder.join(name), text_of(name)).unwrap();
             fs::set_permissions(folder.join(name), Permissions::from_mode(0o755)).unwrap();
         }
         let output = run(&["programs", "--bin", folder.to_str().unwrap()], b"");
@@ -146,12 +159,12 @@ fn programs_that_write_something_else_are_named() {
     };
     // The first stored job is refused by 3.
     let first = "stored job 0: wrote 3 bytes, Some(04) at byte 2, due are 3 bytes, Some(03) at byte 2";
-    let (right, wrong) = (refuses(3), refuses(4));
-    assert!(said(&wrong, &right, &right).contains(&format!("program answer, {first}")));
-    assert!(said(&right, &wrong, &right).contains(&format!("program sheet, {first}")));
-    assert!(said(&right, &right, &wrong).contains(&format!("program thin, {first}")));
-    assert!(said(&right, &right, &right).contains("program answer, stored job 1: "));
-    assert!(said("#!/bin/sh\nexit 7\n", "", "").contains("ended with exit status: 7"));
+    for wrong in Operation::ALL.map(Operation::name) {
+        let message = said(&|name| refuses(if name == wrong { 4 } else { 3 }));
+        assert!(message.contains(&format!("program {wrong}, {first}")), "{message}");
+    }
+    assert!(said(&|_| refuses(3)).contains("program answer, stored job 1: "));
+    assert!(said(&|_| "#!/bin/sh\nexit 7\n".into()).contains("ended with exit status: 7"));
 }
 
 #[test]
@@ -212,7 +225,9 @@ fn without_the_library_or_the_rust_nothing_is_timed() {
 #[cfg(not(reference))]
 #[test]
 fn without_the_rust_one_line_says_so() {
-    for words in [&["answer"][..], &["sheet"], &["store"], &["generate"]] {
+    for words in
+        [&["answer"][..], &["sheet"], &["strict_answer"], &["strict_sheet"], &["store"], &["generate"]]
+    {
         let output = run(words, b"");
         let message = String::from_utf8(output.stderr).unwrap();
         assert_eq!(output.status.code(), Some(3), "{words:?}");
@@ -234,6 +249,9 @@ mod with_the_rust {
         assert_eq!(run(&["answer"], b"").stdout, b"RF\x03");
         assert_eq!(run(&["sheet"], b"xx").stdout, b"RF\x04");
         assert_eq!(run(&["answer"], &[0; 100_000]).stdout, b"RF\x02");
+        assert_eq!(run(&["strict_answer"], &job).stdout, hex("414E 0000 01 01"));
+        assert_eq!(run(&["strict_sheet"], &job).stdout, run(&["sheet"], &job).stdout);
+        assert_eq!(run(&["strict_sheet"], b"").stdout, b"RF\x03");
     }
 
     #[test]

@@ -1,11 +1,16 @@
 //! The comparison: what it tries, and that it sees each kind of difference.
 #![cfg(reference)]
 
+mod common;
+
+use common::write;
 use compare::comparison::run::{Generated, fixed_jobs, generated_jobs};
-use compare::comparison::{Comparison, fixed, returned_number};
+use compare::comparison::{Comparison, fixed};
 use compare::job::limits;
 use compare::library::Stage;
-use compare::oracle::{Oracle, Said};
+use compare::operation::Operation;
+use compare::oracle::Oracle;
+use compare::propagation::Propagation::{Existing, Strict};
 use std::collections::BTreeSet;
 
 /// A stage that says what the Rust says, and then does something of its own.
@@ -14,30 +19,11 @@ struct Spoiled<F> {
     spoil: F,
 }
 
-impl<F: FnMut(&mut [u8], &mut i64)> Spoiled<F> {
-    fn write(&mut self, said: Said, out: &mut [u8]) -> i64 {
-        let mut returned = returned_number(&said);
-        let bytes = said.unwrap_or_default();
-        out[..bytes.len()].copy_from_slice(&bytes);
+impl<F: FnMut(&mut [u8], &mut i64)> Stage for Spoiled<F> {
+    fn call(&mut self, operation: Operation, job: &[u8], out: &mut [u8]) -> i64 {
+        let mut returned = write(&self.oracle.say(operation, job, out.len()), out);
         (self.spoil)(out, &mut returned);
         returned
-    }
-}
-
-impl<F: FnMut(&mut [u8], &mut i64)> Stage for Spoiled<F> {
-    fn answer(&mut self, job: &[u8], out: &mut [u8]) -> i64 {
-        let said = self.oracle.answer(job, out.len());
-        self.write(said, out)
-    }
-
-    fn sheet(&mut self, job: &[u8], out: &mut [u8]) -> i64 {
-        let said = self.oracle.sheet(job, out.len());
-        self.write(said, out)
-    }
-
-    fn thin(&mut self, job: &[u8], out: &mut [u8]) -> i64 {
-        let said = self.oracle.thin(job, out.len());
-        self.write(said, out)
     }
 }
 
@@ -128,7 +114,7 @@ fn the_fixed_list_has_both_sides_of_each_limit() {
     let (mut refusals, mut nodes, mut rounds) = (BTreeSet::new(), BTreeSet::new(), BTreeSet::new());
     let mut sizes = BTreeSet::new();
     for fixed in fixed::list() {
-        let both = oracle.both(&fixed.job, fixed.out_len);
+        let both = oracle.both(Existing, &fixed.job, fixed.out_len);
         refusals.insert(both.answer.as_ref().err().copied().unwrap_or(0));
         sizes.insert((fixed.job.len(), both.answer.is_ok()));
         if let Some(counts) = both.counts {
@@ -145,6 +131,21 @@ fn the_fixed_list_has_both_sides_of_each_limit() {
     }
     assert!(sizes.contains(&(limits::JOB_BYTES, true)) && sizes.contains(&(limits::JOB_BYTES + 1, false)));
     assert!(sizes.contains(&(0, false)));
+}
+
+#[test]
+fn the_fixed_list_has_both_sides_of_each_limit_of_strict_answers() {
+    let mut oracle = Oracle::open().unwrap();
+    let (mut refusals, mut nodes) = (BTreeSet::new(), BTreeSet::new());
+    for fixed in fixed::list() {
+        let all = oracle.all(&fixed.job, fixed.out_len);
+        refusals.insert(all.strict.answer.as_ref().err().copied().unwrap_or(0));
+        if let (Some(existing), Some(strict)) = (all.existing.counts, all.strict.counts) {
+            nodes.insert((existing.nodes > limits::NODES, strict.nodes.clamp(511, 513)));
+        }
+    }
+    assert!(refusals.into_iter().eq(0..=9));
+    assert!(nodes.into_iter().eq([(false, 511), (false, 512), (false, 513), (true, 511), (true, 513)]));
 }
 
 #[test]
@@ -169,11 +170,13 @@ fn the_fixed_list_has_both_sides_of_each_limit_of_thin_jobs() {
 #[test]
 fn the_worst_jobs_are_accepted_and_reach_the_limits() {
     let mut oracle = Oracle::open().unwrap();
-    let mut most = 0;
-    for (name, job) in compare::worst::jobs() {
-        let both = oracle.both(&job.to_bytes(), limits::OUT_BYTES);
-        assert!(both.answer.is_ok(), "{name}: {:?}", both.answer);
-        most = most.max(both.counts.unwrap().nodes);
+    for propagation in [Existing, Strict] {
+        let mut most = 0;
+        for (name, job) in compare::worst::jobs() {
+            let both = oracle.both(propagation, &job.to_bytes(), limits::OUT_BYTES);
+            assert!(both.answer.is_ok(), "{name}: {:?}", both.answer);
+            most = most.max(both.counts.unwrap().nodes);
+        }
+        assert_eq!(most, limits::NODES);
     }
-    assert_eq!(most, limits::NODES);
 }

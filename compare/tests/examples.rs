@@ -3,14 +3,15 @@
 
 mod common;
 
-use common::{answer, block, hex, job, node_text, set_text, sheet, texts};
+use common::{answer, block, hex, job, node_text, set_text, sets, sheet, texts};
 use compare::examples::{example, examples};
 use compare::job::{Block, Entry, Job, Path, Property, limits};
 use compare::oracle::{Both, Oracle};
 use compare::output::Sheet;
+use compare::propagation::Propagation::Existing;
 
 fn run(job: &Job) -> Both {
-    Oracle::open().unwrap().both(&job.to_bytes(), limits::OUT_BYTES)
+    Oracle::open().unwrap().both(Existing, &job.to_bytes(), limits::OUT_BYTES)
 }
 
 const EXAMPLE: &str = "4844 0100 0100 07000000 / 424C 07000000 00 01 / 5041 01000000 01 00000000 00 /
@@ -21,12 +22,12 @@ fn the_bytes_case() {
     let mut oracle = Oracle::open().unwrap();
     let job = hex(EXAMPLE);
     let answer = hex("414E 0100 01 01 / 4445 01000000 01 06000000 01 00 00 0A00000000000000 06000000");
-    assert_eq!(oracle.answer(&job, limits::OUT_BYTES), Ok(answer.clone()));
+    assert_eq!(oracle.answer(Existing, &job, limits::OUT_BYTES), Ok(answer.clone()));
     let mut sheet = hex("5348 0100 0100 01 01 / 4E4F FFFF 01000000 00 00 0000000000000000 00000000 01");
     sheet.extend(hex("5345 07000000 01"));
     sheet.extend([0; 63]);
-    assert_eq!(oracle.sheet(&job, limits::OUT_BYTES), Ok(sheet.clone()));
-    let both = oracle.both(&job, limits::OUT_BYTES);
+    assert_eq!(oracle.sheet(Existing, &job, limits::OUT_BYTES), Ok(sheet.clone()));
+    let both = oracle.both(Existing, &job, limits::OUT_BYTES);
     assert_eq!((both.answer, both.sheet), (Ok(answer), Ok(sheet)));
 }
 
@@ -103,10 +104,6 @@ fn propagated(blocks: Vec<Block>) -> Sheet {
     sheet(&run(&job(scope, blocks, "")).sheet.unwrap())
 }
 
-fn sets(sheet: &Sheet) -> Vec<String> {
-    sheet.sets.iter().map(|(id, _)| set_text(sheet, *id)).collect()
-}
-
 #[test]
 fn p1_a_path_on_both_sides() {
     let sheet =
@@ -172,7 +169,8 @@ fn named_examples() {
     for (name, sets, rounds, returned) in expected {
         assert_eq!(of_example(name), (sets.to_string(), rounds, returned.to_string()), "{name}");
     }
-    // Those that follow are for thin jobs (tests/thin.rs).
+    // Those that follow are for thin jobs (tests/thin.rs) and the strict propagation
+    // (tests/strict.rs).
     let names: Vec<&str> = examples().iter().map(|example| example.name).collect();
     assert!(names.iter().take(expected.len()).eq(expected.iter().map(|(name, ..)| name)));
     assert_eq!(names[expected.len()], "repeats-in-block-and-candidates");
@@ -188,8 +186,8 @@ fn nodes_are_numbered_as_made() {
 #[test]
 fn refusals_reach_both_operations() {
     let mut oracle = Oracle::open().unwrap();
-    assert_eq!(oracle.answer(&hex(EXAMPLE), limits::OUT_BYTES - 1), Err(1));
-    assert_eq!(oracle.sheet(&[], limits::OUT_BYTES), Err(3));
+    assert_eq!(oracle.answer(Existing, &hex(EXAMPLE), limits::OUT_BYTES - 1), Err(1));
+    assert_eq!(oracle.sheet(Existing, &[], limits::OUT_BYTES), Err(3));
     // 128 paths of four entries and their root are 513 nodes, 127 and three entries 512.
     let wide = |last: &str| {
         let mut paths: Vec<String> = (0..127).map(|n| format!("1.{n}.1.1.1")).collect();

@@ -4,6 +4,8 @@ use compare::generate::{class_names, generate};
 use compare::job::limits;
 #[cfg(reference)]
 use compare::oracle::Oracle;
+#[cfg(reference)]
+use compare::propagation::Propagation::{self, Existing, Strict};
 use compare::reader::read_job;
 
 #[test]
@@ -27,6 +29,8 @@ fn jobs_without_faults_are_accepted_by_the_reader() {
         "nodes-entered",
         "nodes-reduced",
         "repeats",
+        "many-loops",
+        "nodes-looped",
     ];
     for class in sound {
         for number in 0..300 {
@@ -74,7 +78,7 @@ fn node_counts_are_reached_as_promised() {
         let mut met = std::collections::BTreeSet::new();
         for number in 0..60 {
             let generated = generate(4, number, Some(class));
-            let counts = oracle.both(&generated.job, generated.out_len).counts.unwrap();
+            let counts = oracle.both(Existing, &generated.job, generated.out_len).counts.unwrap();
             assert_eq!(class == "nodes-reduced", counts.entered < counts.nodes);
             met.insert(counts.nodes);
         }
@@ -89,7 +93,7 @@ fn ladders_reach_many_rounds_and_go_beyond_the_last() {
     let mut met = std::collections::BTreeSet::new();
     for number in 0..300 {
         let generated = generate(6, number, Some("ladder"));
-        let counts = oracle.both(&generated.job, generated.out_len).counts.unwrap();
+        let counts = oracle.both(Existing, &generated.job, generated.out_len).counts.unwrap();
         met.insert((counts.rounds, counts.settled));
     }
     assert!(met.len() > 30, "{met:?}");
@@ -98,12 +102,45 @@ fn ladders_reach_many_rounds_and_go_beyond_the_last() {
 
 #[cfg(reference)]
 #[test]
-fn answer_and_sheet_agree_with_both() {
+fn nodes_in_loops_are_reached_by_one_propagation() {
+    let mut oracle = Oracle::open().unwrap();
+    let mut met = [std::collections::BTreeSet::new(), std::collections::BTreeSet::new()];
+    for number in 0..200 {
+        let generated = generate(4, number, Some("nodes-looped"));
+        let mut nodes = |by| oracle.both(by, &generated.job, generated.out_len).counts.unwrap().nodes;
+        let counts = [nodes(Existing), nodes(Strict)];
+        assert_ne!(counts[0], counts[1], "job {number}");
+        met[usize::from(counts[1] > counts[0])].insert(counts[0].max(counts[1]));
+    }
+    assert!(met.iter().all(|met| met.iter().copied().eq(511..=514)), "{met:?}");
+}
+
+#[cfg(reference)]
+#[test]
+fn operations_agree_with_all() {
     let mut oracle = Oracle::open().unwrap();
     for number in 0..500 {
         let generated = generate(7, number, None);
-        let both = oracle.both(&generated.job, generated.out_len);
-        assert_eq!(oracle.answer(&generated.job, generated.out_len), both.answer);
-        assert_eq!(oracle.sheet(&generated.job, generated.out_len), both.sheet);
+        let all = oracle.all(&generated.job, generated.out_len);
+        for (operation, said) in all.said() {
+            assert_eq!(oracle.say(operation, &generated.job, generated.out_len), *said);
+        }
+    }
+}
+
+/// The harness's own strict propagation is the Rust's text with the joining step exchanged.
+#[cfg(reference)]
+#[test]
+fn both_strict_propagations_agree() {
+    let mut oracle = Oracle::open().unwrap();
+    for class in [None, Some("many-loops"), Some("nodes-looped"), Some("ladder")] {
+        for number in 0..if class == Some("ladder") { 200 } else { 2000 } {
+            let generated = generate(9, number, class);
+            let mut both = |by| {
+                let both = oracle.both(by, &generated.job, generated.out_len);
+                (both.answer, both.sheet)
+            };
+            assert_eq!(both(Propagation::Own(None)), both(Strict), "{class:?} {number}");
+        }
     }
 }

@@ -4,7 +4,7 @@
 mod common;
 
 use common::hex;
-use compare::library::interface::{OUT_BYTES, THIN_BYTES, answer, sheet, thin};
+use compare::library::interface::{OUT_BYTES, THIN_BYTES, answer, sheet, strict_answer, strict_sheet, thin};
 
 const EXAMPLE: &str = "4844 0100 0100 07000000 / 424C 07000000 00 01 / 5041 01000000 01 00000000 00 /
     4341 01000000 01 05000000 01 00 00 0A00000000000000 06000000";
@@ -37,6 +37,29 @@ fn the_bytes_case_of_a_thin_job() {
     }
 }
 
+/// Block 0 assumes 1; block 1 comes after itself and after 0. The candidate 1.10 is cut strictly.
+#[test]
+fn the_bytes_case_of_a_strict_answer() {
+    let job = hex(
+        "4844 0200 0100 01000000 / 424C 00000000 00 01 / 5041 01000000 01 00000000 00 /
+        424C 01000000 02 00 01000000 00000000 / 4341 01000000 01 05000000 01 00 00 0A00000000000000 06000000",
+    );
+    let mut out = vec![7; OUT_BYTES];
+    let mut said = |operation: fn(&[u8], &mut [u8]) -> Result<usize, u8>| {
+        out.fill(7);
+        let length = operation(&job, &mut out).unwrap();
+        assert!(out[length..].iter().all(|&byte| byte == 7));
+        out[..length].to_vec()
+    };
+    let existing = "414E 0100 02 01 / 4445 01000000 01 06000000 01 00 00 0A00000000000000 06000000";
+    assert_eq!(said(answer), hex(existing));
+    assert_eq!(said(strict_answer), hex("414E 0100 01 01 / 4445 01000000 01 05000000 00"));
+    let (sheet, strict_sheet) = (said(sheet), said(strict_sheet));
+    assert_eq!([sheet.len(), strict_sheet.len()], [8 + 23 + 2 * 70; 2]);
+    let in_sets = |sheet: &[u8]| [sheet[8 + 23 + 6], sheet[8 + 23 + 70 + 6]];
+    assert_eq!((in_sets(&sheet), in_sets(&strict_sheet)), ([1, 1], [1, 0]));
+}
+
 #[test]
 fn refusals_are_numbers_and_leave_the_buffer() {
     let job = hex(EXAMPLE);
@@ -47,6 +70,8 @@ fn refusals_are_numbers_and_leave_the_buffer() {
     assert_eq!(sheet(&[], &mut out), Err(3));
     assert_eq!(answer(b"XX", &mut out), Err(4));
     assert_eq!(thin(&job, &mut out), Err(1));
+    assert_eq!(strict_answer(&job, &mut out[1..]), Err(1));
+    assert_eq!(strict_sheet(&job[1..], &mut out), Err(4));
     assert!(out.iter().all(|&byte| byte == 7));
 }
 
@@ -83,14 +108,18 @@ fn times_are_measured_and_plotted() {
 
 #[cfg(reference)]
 #[test]
-fn thin_jobs_are_timed_beside_the_harness() {
-    use compare::bench::classes::thin_classes;
-    use compare::bench::thin::ThinTimer;
+fn what_the_rust_has_not_is_timed_beside_the_harness() {
+    use compare::bench::beside::BesideTimer;
+    use compare::bench::classes::{classes, thin_classes};
+    use compare::operation::Operation;
     use compare::oracle::Oracle;
 
-    let mut timer = ThinTimer::new(Oracle::open().unwrap(), 1);
-    for class in thin_classes(1, 2) {
-        let times = timer.mean(&class.jobs);
-        assert!(times.library > 0.0 && times.harness > 0.0, "{}", class.name);
+    let timed = [(Operation::Thin, thin_classes(1, 2)), (Operation::StrictAnswer, classes(1, 2, |_| true))];
+    for (operation, classes) in timed {
+        let mut timer = BesideTimer::new(Oracle::open().unwrap(), operation, 1);
+        for class in classes {
+            let times = timer.mean(&class.jobs);
+            assert!(times.library > 0.0 && times.harness > 0.0, "{}", class.name);
+        }
     }
 }

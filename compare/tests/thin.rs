@@ -4,15 +4,17 @@
 
 mod common;
 
-use common::{block, job};
+use common::{block, job, write};
+use compare::comparison::Comparison;
 use compare::comparison::run::{Generated, fixed_jobs, generated_jobs};
-use compare::comparison::{Comparison, returned_number};
 use compare::cover::nearly_right;
 use compare::examples::{Example, examples};
 use compare::generate::generate;
 use compare::job::{Job, limits};
 use compare::library::Stage;
+use compare::operation::Operation;
 use compare::oracle::{Oracle, Said};
+use compare::propagation::Propagation::{Existing, Strict};
 use compare::reader::{MANY_NODES, read_job};
 use compare::thin;
 
@@ -64,8 +66,8 @@ fn a_job_that_9_refuses_has_a_thin_job() {
     let example = example("repeats-refused-by-9");
     let thin = thin_of(&example).unwrap();
     let mut oracle = Oracle::open().unwrap();
-    for job in [&example.job.to_bytes(), &thin] {
-        let both = oracle.both(job, limits::THIN_BYTES);
+    for (job, propagation) in [(&example.job.to_bytes(), Existing), (&thin, Existing), (&thin, Strict)] {
+        let both = oracle.both(propagation, job, limits::THIN_BYTES);
         assert_eq!((both.answer, both.sheet), (Err(MANY_NODES), Err(MANY_NODES)));
     }
     // 100, 101 and 100 again: the roots are there already, but not as paths of their own.
@@ -77,14 +79,13 @@ fn buffers_are_too_short_for_each_operation_in_turn() {
     let mut oracle = Oracle::open().unwrap();
     let mut refusals = |name: &str| {
         let example = example(name);
-        let both = oracle.both(&example.job.to_bytes(), example.out_len);
-        let thin = oracle.thin(&example.job.to_bytes(), example.out_len);
-        [both.answer, both.sheet, thin].map(|said| said.err().unwrap_or(0))
+        let all = oracle.all(&example.job.to_bytes(), example.out_len);
+        all.said().map(|(_, said)| said.as_ref().err().copied().unwrap_or(0))
     };
-    assert_eq!(refusals("buffer-24575"), [1, 1, 1]);
-    assert_eq!(refusals("buffer-24576"), [0, 0, 1]);
-    assert_eq!(refusals("buffer-32767"), [0, 0, 1]);
-    assert_eq!(refusals("three-times"), [0, 0, 0]);
+    assert_eq!(refusals("buffer-24575"), [1, 1, 1, 1, 1]);
+    assert_eq!(refusals("buffer-24576"), [0, 0, 1, 0, 0]);
+    assert_eq!(refusals("buffer-32767"), [0, 0, 1, 0, 0]);
+    assert_eq!(refusals("three-times"), [0, 0, 0, 0, 0]);
 }
 
 #[test]
@@ -99,29 +100,19 @@ fn the_rusts_equality_and_the_harnesss_own_agree() {
     }
 }
 
-/// A stage with the Rust's answers and sheets, and with thin jobs of its own.
+/// A stage with the oracle's answers and sheets, and with thin jobs of its own.
 struct WithThin {
     oracle: Oracle,
     thin: fn(&Job) -> Vec<u8>,
 }
 
-fn write(said: &Said, out: &mut [u8]) -> i64 {
-    let bytes = said.as_deref().unwrap_or_default();
-    out[..bytes.len()].copy_from_slice(bytes);
-    returned_number(said)
-}
-
 impl Stage for WithThin {
-    fn answer(&mut self, job: &[u8], out: &mut [u8]) -> i64 {
-        write(&self.oracle.answer(job, out.len()), out)
-    }
-
-    fn sheet(&mut self, job: &[u8], out: &mut [u8]) -> i64 {
-        write(&self.oracle.sheet(job, out.len()), out)
-    }
-
-    fn thin(&mut self, job: &[u8], out: &mut [u8]) -> i64 {
-        write(&thin::read_job_to_thin(job, out.len()).map(|job| (self.thin)(&job)), out)
+    fn call(&mut self, operation: Operation, job: &[u8], out: &mut [u8]) -> i64 {
+        let said = match operation {
+            Operation::Thin => thin::read_job_to_thin(job, out.len()).map(|job| (self.thin)(&job)),
+            _ => self.oracle.say(operation, job, out.len()),
+        };
+        write(&said, out)
     }
 }
 
@@ -150,7 +141,7 @@ fn the_class_has_what_it_promises() {
         let Ok(thin) = thin::thin(&generated.job, generated.out_len) else { continue };
         let has_repeats = thin.len() < generated.job.len();
         repeats += usize::from(has_repeats);
-        let is_refused = oracle.answer(&generated.job, generated.out_len) == Err(MANY_NODES);
+        let is_refused = oracle.answer(Existing, &generated.job, generated.out_len) == Err(MANY_NODES);
         refused += usize::from(has_repeats && is_refused);
         full[0] += usize::from(job.blocks.iter().any(|block| block.assumed.len() == limits::ASSUMED));
         full[1] += usize::from(job.candidates.len() == limits::CANDIDATES);

@@ -1,4 +1,5 @@
-/* A caller in C: an answer, a sheet, a thin job and refusals, held to the bytes of document 01. */
+/* A caller in C: answers, sheets, a thin job and refusals, held to the bytes of document 01, and of
+   a loop to those of both propagations. */
 #include "../scope_deps.h"
 
 #include <stdio.h>
@@ -28,8 +29,33 @@ static const uint8_t repeating[] = {
     'C', 'A', 1, 0, 0, 0, 1, 7, 0, 0, 0, 1, 0, 0, 10, 0, 0, 0, 0, 0, 0, 0, 8, 0, 0, 0,
 };
 
+/* Block 0, which assumes the path 1, and block 1, which comes after itself and after 0; the
+   candidate 1.10 in block 1. */
+static const uint8_t loop[] = {
+    'H', 'D', 2, 0, 1, 0, 1, 0, 0, 0,
+    'B', 'L', 0, 0, 0, 0, 0, 1,
+    'P', 'A', 1, 0, 0, 0, 1, 0, 0, 0, 0, 0,
+    'B', 'L', 1, 0, 0, 0, 2, 0, 1, 0, 0, 0, 0, 0, 0, 0,
+    'C', 'A', 1, 0, 0, 0, 1, 5, 0, 0, 0, 1, 0, 0, 10, 0, 0, 0, 0, 0, 0, 0, 6, 0, 0, 0,
+};
+
+/* The answer of document 01 after two rounds. */
+static const uint8_t loop_answer[] = {
+    'A', 'N', 1, 0, 2, 1,
+    'D', 'E', 1, 0, 0, 0, 1, 6, 0, 0, 0, 1, 0, 0, 10, 0, 0, 0, 0, 0, 0, 0, 6, 0, 0, 0,
+};
+
+/* Nothing joins block 1, so the path is cut at its root, after one round. */
+static const uint8_t loop_strict_answer[] = {
+    'A', 'N', 1, 0, 1, 1,
+    'D', 'E', 1, 0, 0, 0, 1, 5, 0, 0, 0, 0,
+};
+
 /* A head of 8 bytes, a node of 23, and a set of 70 bytes in which node 0 is. */
 enum { SHEET_BYTES = 8 + 23 + 70, SHEET_SET = 8 + 23 + 6 };
+
+/* With a second set, of block 1. */
+enum { LOOP_SHEET_BYTES = SHEET_BYTES + 70, LOOP_SHEET_SET = SHEET_SET + 70 };
 
 static uint8_t out[SCOPE_DEPS_THIN_OUT_BYTES];
 
@@ -65,6 +91,32 @@ static void thin_jobs(void) {
   expect(memcmp(out, job, sizeof job) == 0, "with all its bytes");
 }
 
+static void strict_answers(void) {
+  memset(out, 0xA5, sizeof out);
+  expect(scope_deps_strict_answer(loop, sizeof loop, out, SCOPE_DEPS_OUT_BYTES - 1) == -SCOPE_DEPS_SHORT_BUFFER,
+         "a buffer too short for a strict answer is refused");
+  expect(scope_deps_strict_sheet(loop, sizeof loop - 1, out, sizeof out) == -SCOPE_DEPS_MISSING_BYTE,
+         "a cut job has no strict sheet");
+  expect(untouched_from(0), "a refusal of a strict operation leaves the buffer as it was");
+
+  expect(scope_deps_strict_answer(loop, sizeof loop, out, sizeof out) == (int64_t)sizeof loop_strict_answer,
+         "the strict answer has its length");
+  expect(memcmp(out, loop_strict_answer, sizeof loop_strict_answer) == 0, "the strict answer cuts the path");
+  expect(untouched_from(sizeof loop_strict_answer), "bytes beyond the strict answer are as they were");
+  expect(scope_deps_answer(loop, sizeof loop, out, sizeof out) == (int64_t)sizeof loop_answer, "the answer of a loop has its length");
+  expect(memcmp(out, loop_answer, sizeof loop_answer) == 0, "the answer of a loop keeps the path");
+
+  expect(scope_deps_strict_sheet(loop, sizeof loop, out, sizeof out) == LOOP_SHEET_BYTES, "the strict sheet has its length");
+  expect(out[SHEET_SET] == 1 && out[LOOP_SHEET_SET] == 0, "the path stays in its block");
+  expect(untouched_from(LOOP_SHEET_BYTES), "bytes beyond the strict sheet are as they were");
+  expect(scope_deps_sheet(loop, sizeof loop, out, sizeof out) == LOOP_SHEET_BYTES, "the sheet of a loop has its length");
+  expect(out[SHEET_SET] == 1 && out[LOOP_SHEET_SET] == 1, "the path comes to the block after it");
+
+  expect(scope_deps_strict_answer(job, sizeof job, out, sizeof out) == (int64_t)sizeof answer,
+         "without loops the strict answer has the length of the answer");
+  expect(memcmp(out, answer, sizeof answer) == 0, "and its bytes");
+}
+
 int main(void) {
   memset(out, 0xA5, sizeof out);
   expect(scope_deps_answer(job, sizeof job, out, SCOPE_DEPS_OUT_BYTES - 1) == -SCOPE_DEPS_SHORT_BUFFER, "a short buffer is refused");
@@ -79,5 +131,6 @@ int main(void) {
   expect(memcmp(out, "SH", 2) == 0 && out[SHEET_SET] == 1, "the block's set has the path");
   expect(untouched_from(SHEET_BYTES), "bytes beyond the sheet are as they were");
   thin_jobs();
+  strict_answers();
   return failures == 0 ? 0 : 1;
 }

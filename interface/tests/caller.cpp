@@ -1,5 +1,5 @@
-// A caller in C++: an answer and a thin job of the library, and the refusals that a small job can
-// get.
+// A caller in C++: answers by both propagations and a thin job of the library, and the refusals
+// that a small job can get.
 #include "../scope_deps.h"
 
 #include <cstdio>
@@ -31,6 +31,10 @@ Outcome call(Operation operation, const std::vector<std::uint8_t> &job, std::siz
 
 Outcome answer(const std::vector<std::uint8_t> &job) { return call(scope_deps_answer, job, SCOPE_DEPS_OUT_BYTES); }
 
+Outcome strict_answer(const std::vector<std::uint8_t> &job) { return call(scope_deps_strict_answer, job, SCOPE_DEPS_OUT_BYTES); }
+
+Outcome strict_sheet(const std::vector<std::uint8_t> &job) { return call(scope_deps_strict_sheet, job, SCOPE_DEPS_OUT_BYTES); }
+
 Outcome thin(const std::vector<std::uint8_t> &job) { return call(scope_deps_thin, job, SCOPE_DEPS_THIN_OUT_BYTES); }
 
 int failures = 0;
@@ -43,8 +47,35 @@ void expect(bool holds, const std::string &what) {
 }
 
 void expect_refusal(const std::vector<std::uint8_t> &job, scope_deps_refusal refusal, const std::string &what) {
-  for (const Outcome &outcome : {answer(job), thin(job)}) {
+  for (const Outcome &outcome : {answer(job), strict_answer(job), strict_sheet(job), thin(job)}) {
     expect(outcome.bytes.empty() && outcome.refusal == refusal, what);
+  }
+}
+
+// P3 of document 01: blocks 0, 1 (after 0, 3), 2 (after 1), 3 (after 1, 2), 4 (after 1); the path 5
+// is assumed in 2, and 5.10 is a candidate in 3.
+void expect_loop() {
+  const std::vector<std::uint8_t> job = {
+      'H', 'D', 5, 0, 1, 0, 3, 0, 0, 0,
+      'B', 'L', 0, 0, 0, 0, 0, 0,
+      'B', 'L', 1, 0, 0, 0, 2, 0, 0, 0, 0, 0, 3, 0, 0, 0,
+      'B', 'L', 2, 0, 0, 0, 1, 1, 1, 0, 0, 0,
+      'P', 'A', 5, 0, 0, 0, 0, 0, 0, 0, 0, 0,
+      'B', 'L', 3, 0, 0, 0, 2, 0, 1, 0, 0, 0, 2, 0, 0, 0,
+      'B', 'L', 4, 0, 0, 0, 1, 0, 1, 0, 0, 0,
+      'C', 'A', 5, 0, 0, 0, 0, 0, 0, 0, 0, 1, 0, 0, 10, 0, 0, 0, 0, 0, 0, 0, 0, 0, 0, 0,
+  };
+  const std::vector<std::uint8_t> due = {
+      'A', 'N', 1, 0, 2, 1,
+      'D', 'E', 5, 0, 0, 0, 0, 0, 0, 0, 0, 1, 0, 0, 10, 0, 0, 0, 0, 0, 0, 0, 0, 0, 0, 0,
+  };
+  const std::vector<std::uint8_t> strictly_due = {'A', 'N', 1, 0, 1, 1, 'D', 'E', 5, 0, 0, 0, 0, 0, 0, 0, 0, 0};
+  expect(answer(job).bytes == due, "the answer of P3 keeps 5.10, though a run avoids block 2");
+  expect(strict_answer(job).bytes == strictly_due, "the strict answer of P3 is 5");
+  const std::vector<std::uint8_t> sheet = strict_sheet(job).bytes;
+  for (std::size_t place = 0; place < 5; place++) {
+    const std::size_t set = 8 + 23 + 70 * place + 6;
+    expect(sheet.size() == 8 + 23 + 5 * 70 && sheet[set] == (place == 2 ? 1 : 0), "strictly, block 2 alone holds 5");
   }
 }
 
@@ -56,6 +87,10 @@ int main() {
   const std::vector<std::uint8_t> due = {'A', 'N', 0, 0, 1, 1};
   const Outcome outcome = answer(job);
   expect(outcome.refusal == 0 && outcome.bytes == due, "a job without candidates has an empty answer");
+
+  const Outcome strictly = strict_answer(job);
+  expect(strictly.refusal == 0 && strictly.bytes == due, "and an empty strict answer");
+  expect_loop();
 
   const Outcome thinned = thin(job);
   expect(thinned.refusal == 0 && thinned.bytes == job, "a job without repeats is its own thin job");

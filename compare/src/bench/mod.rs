@@ -1,12 +1,14 @@
 //! Times the library and the Rust on the same jobs, in one process.
 
+pub mod beside;
 pub mod classes;
 pub mod plot;
-pub mod thin;
 
 use crate::arena::Allocator;
 use crate::job::limits;
-use crate::library::interface;
+use crate::library::{Library, Stage};
+use crate::operation::Operation;
+use crate::propagation::Propagation;
 use crate::reader::{UNKNOWN_BLOCK, read_job};
 use crate::reference;
 use std::hint::black_box;
@@ -90,21 +92,9 @@ impl Timer {
 
     fn time_once(&mut self, job: &[u8], unread: &[u8]) -> Times {
         let (rust_stage, rust_reading, rust_writing) = self.time_rust(job);
-        let library = self.time_library(job);
-        let library_reading = self.time_library(unread);
+        let library = time_library(Operation::Answer, job, &mut self.out);
+        let library_reading = time_library(Operation::Answer, unread, &mut self.out);
         Times { library, library_reading, rust_stage, rust_reading, rust_writing }
-    }
-
-    /// Whether the library accepts a job.
-    pub fn accepts(&mut self, job: &[u8]) -> bool {
-        interface::answer(job, &mut self.out).is_ok()
-    }
-
-    /// The library's answer of a job.
-    pub fn time_library(&mut self, job: &[u8]) -> f64 {
-        let start = Instant::now();
-        let _ = black_box(interface::answer(black_box(job), &mut self.out));
-        nanoseconds(start.elapsed())
     }
 
     fn time_rust(&mut self, bytes: &[u8]) -> (f64, f64, f64) {
@@ -116,7 +106,7 @@ impl Timer {
         // The harness's own change of types is not counted.
         let prepared = black_box(reference::prepare(&job, &self.alloc));
         let prepared_at = Instant::now();
-        let propagated = reference::propagate(&prepared, &self.alloc);
+        let propagated = reference::propagate(&prepared, Propagation::Existing, &self.alloc);
         let returned = reference::derive(prepared, &propagated, &self.alloc);
         let derived = Instant::now();
         reference::put_answer(&mut self.out, &returned, &propagated);
@@ -128,6 +118,14 @@ impl Timer {
         let stage = (derived - prepared_at) + (freed - written);
         (nanoseconds(stage), nanoseconds(read - start), nanoseconds(written - derived))
     }
+}
+
+/// The time of one call of the library.
+pub fn time_library(operation: Operation, job: &[u8], out: &mut [u8]) -> f64 {
+    let mut library = Library::open().expect("it is linked");
+    let start = Instant::now();
+    let _ = black_box(library.call(operation, black_box(job), out));
+    nanoseconds(start.elapsed())
 }
 
 fn nanoseconds(time: Duration) -> f64 {

@@ -84,9 +84,7 @@ fn generate_records(
             continue;
         }
         passed_over = 0;
-        let both = oracle.both(&generated.job, generated.out_len);
-        let thin = oracle.thin(&generated.job, generated.out_len);
-        write(&store::record(&generated, &both, &thin))?;
+        write(&store::record(&generated, &oracle.all(&generated.job, generated.out_len)))?;
         done += 1;
         progress.show(done);
     }

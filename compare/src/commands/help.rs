@@ -9,17 +9,19 @@ compare/oracle runs the Rust of the scope-dependency stage, and compares the pro
 
 usage: compare/oracle COMMAND [OPTIONS]
 
-  answer     a job on standard input -> what the Rust answers
-  sheet      a job on standard input -> its sheet by the Rust
-  thin       a job on standard input -> the job without repeated paths
-  check      the stored list beside the Rust
-  compare    the stage's library beside the Rust, on fixed and on generated jobs
-  programs   the programs `answer`, `sheet` and `thin` beside the Rust
-  memory     the working memory of the stage's library
-  bench      the time that the library and the Rust take
-  generate   generated jobs, with what the Rust says of them
-  store      the stored list, made anew
-  help       help on one of these, as after the command `--help`
+  answer          a job on standard input -> what the Rust answers
+  sheet           a job on standard input -> its sheet by the Rust
+  thin            a job on standard input -> the job without repeated paths
+  strict_answer   a job on standard input -> its answer by the strict propagation
+  strict_sheet    a job on standard input -> its sheet by the strict propagation
+  check           the stored list beside the Rust
+  compare         the stage's library beside the Rust, on fixed and on generated jobs
+  programs        the stage's programs beside the Rust
+  memory          the working memory of the stage's library
+  bench           the time that the library and the Rust take
+  generate        generated jobs, with what the Rust says of them
+  store           the stored list, made anew
+  help            help on one of these, as after the command `--help`
 
 It works from any directory. Where the stage's library or programs are needed, and are missing or belong
 to other sources, they are proved first. SCOPE_DEPS_LIBRARY may name a library that is ready.
@@ -58,12 +60,32 @@ paths are the same is for the Rust to say (`are_equal_paths`), or where it is ab
   $ bin/scope-deps encode examples/diamond.job | compare/oracle thin | xxd
 ";
 
+const STRICT_ANSWER: &str = "\
+usage: compare/oracle strict_answer < JOB
+
+Writes the answer of the job on standard input by the strict propagation, as program `strict_answer` does: the
+answer's bytes, or RF and the number of the refusal. The Rust has no such propagation, so this is the
+harness's own: the Rust's text, with the step exchanged by which neighbours join a block.
+
+  $ bin/scope-deps encode examples/diamond.job | compare/oracle strict_answer | xxd
+";
+
+const STRICT_SHEET: &str = "\
+usage: compare/oracle strict_sheet < JOB
+
+Writes the sheet of the job on standard input by the strict propagation, as program `strict_sheet` does: the
+sheet's bytes, or RF and the number of the refusal. As for `strict_answer`, the propagation is the harness's own.
+
+  $ bin/scope-deps encode examples/diamond.job | compare/oracle strict_sheet | xxd
+";
+
 const CHECK: &str = "\
 usage: compare/oracle check
 
-Compares each record of compare/stored/jobs.bin with what the Rust says now. Where the Rust is absent, the
-records are read, and their refusals compared with those of the harness's reader. Thin jobs are compared
-with those of the harness's writer.
+Compares each record of compare/stored/jobs.bin with what the Rust says now, and its thin job, strict answer
+and strict sheet with what the harness says. Where the Rust is absent, the records are read, and their refusals
+compared with those of the harness's reader, thin jobs with those of its writer, and strict answers and sheets
+of jobs without loops with the existing ones.
 ";
 
 const STORE: &str = "\
@@ -77,8 +99,9 @@ const GENERATE: &str = "\
 usage: compare/oracle generate [--seed S] [--count N] [--first F] [--class C] [--max-bytes B] [--out FILE]
        compare/oracle generate --job N [--seed S] [--class C] [--out FILE]
 
-The first form writes a list of jobs, each with its answer and its sheet by the Rust and its thin job, in
-the format of compare/stored. The second writes the bytes of one job: job N is the one that `compare` calls by this number.
+The first form writes a list of jobs, each with its answer and its sheet by the Rust, its thin job, and its
+strict answer and sheet, in the format of compare/stored. The second writes the bytes of one job: job N is the
+one that `compare` calls by this number.
 
   --seed S        another seed gives other jobs; 20261115 where it is missing
   --count N       how many jobs; 100 where it is missing
@@ -95,8 +118,10 @@ const COMPARE: &str = "\
 usage: compare/oracle compare [--seed S] [--count N] [--seconds T] [--class C] [--first F]
 
 Compares the stage's library with the Rust, byte for byte, on a fixed list of jobs and then on generated
-ones: answers, sheets and thin jobs. A thin job must have the answer and the sheet of its job, in the library
-and in the Rust, and be its own thin job. At a difference it says which job, keeps it in a file in the current directory and exits with 1.
+ones: answers and sheets with the Rust, thin jobs and strict answers and sheets with the harness's own. On jobs
+without loops the harness's strict answers and sheets must be the Rust's. A thin job must have the answers and
+the sheets of its job, in the library, in the Rust and in the harness, and be its own thin job. At a difference
+it says which job, keeps it in a file in the current directory and exits with 1.
 
   --seed S      another seed gives other jobs; 20261115 where it is missing
   --count N     how many generated jobs; 20000 where it and --seconds are missing
@@ -108,9 +133,9 @@ and in the Rust, and be its own thin job. At a difference it says which job, kee
 const PROGRAMS: &str = "\
 usage: compare/oracle programs [--bin DIR]
 
-Runs the programs `answer`, `sheet` and `thin` on every stored job, and on inputs of 0, 1, 32,768, 32,769,
-65,536, 65,537 and 70,000 bytes. What they write must be what the Rust says, of `thin` what the harness says,
-refusals as RF and the number included.
+Runs the programs `answer`, `sheet`, `thin`, `strict_answer` and `strict_sheet` on every stored job, and on
+inputs of 0, 1, 32,768, 32,769, 65,536, 65,537 and 70,000 bytes. What the first two write must be what the Rust
+says, and what the others write what the harness says, refusals as RF and the number included.
 
   --bin DIR   the programs are there, and not in target/bin
 ";
@@ -125,18 +150,20 @@ the library's symbols to show that it has no other memory. More than 65,536 byte
 const BENCH: &str = "\
 usage: compare/oracle bench [--seed S] [--repeat R] [--plot FILE]
 
-Times the stage's library and the Rust on the same jobs. docs/PERFORMANCE.md says what is counted. For thin
-jobs, which the Rust does not make, the harness's own writer stands in its place.
+Times the stage's library and the Rust on the same jobs. docs/PERFORMANCE.md says what is counted. For strict
+answers and thin jobs, which the Rust does not make, the harness's own stand in its place.
 
   --seed S      another seed gives other jobs; 20261115 where it is missing
   --repeat R    how often each job is timed, the least counting; 15 where it is missing
   --plot FILE   draw the times into this file, as SVG
 ";
 
-const TOPICS: [(&str, &str); 10] = [
+const TOPICS: [(&str, &str); 12] = [
     ("answer", ANSWER),
     ("sheet", SHEET),
     ("thin", THIN),
+    ("strict_answer", STRICT_ANSWER),
+    ("strict_sheet", STRICT_SHEET),
     ("check", CHECK),
     ("compare", COMPARE),
     ("programs", PROGRAMS),

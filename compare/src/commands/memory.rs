@@ -20,8 +20,9 @@ mod measured {
     use crate::commands::output::say;
     use compare::generate::{class_names, generate};
     use compare::job::limits;
-    use compare::library::interface::{scope_deps_answer, scope_deps_sheet, scope_deps_thin};
+    use compare::library::function;
     use compare::memory::{MOST_BYTES, Stacks};
+    use compare::operation::Operation;
     use compare::worst;
     use std::env;
     use std::ffi::OsString;
@@ -32,9 +33,10 @@ mod measured {
 
     pub fn run() -> Result<(), Failure> {
         let mut stacks = Stacks::default();
-        let mut most = [0; 3];
+        let mut most = NOTHING;
         say!("bytes of stack below the call, all that it calls included (at most {MOST_BYTES} allowed)")?;
-        say!("{:>8} {:>8} {:>8}  job", "answer", "sheet", "thin")?;
+        let names = Operation::ALL.map(|operation| format!("{:>14}", operation.name()));
+        say!("{}  job", names.concat())?;
         for (name, job) in worst::jobs() {
             let taken = measure(&mut stacks, &job.to_bytes());
             show(taken, &name)?;
@@ -42,7 +44,7 @@ mod measured {
         }
         for class in class_names() {
             let jobs = (0..EACH).map(|number| generate(SEED, number, Some(class)).job);
-            let taken = jobs.map(|job| measure(&mut stacks, &job)).fold([0; 3], larger);
+            let taken = jobs.map(|job| measure(&mut stacks, &job)).fold(NOTHING, larger);
             show(taken, &format!("the most of {EACH} generated jobs, class {class}"))?;
             most = larger(most, taken);
         }
@@ -57,21 +59,22 @@ mod measured {
     }
 
     /// The stack of each operation.
-    type Taken = [usize; 3];
+    type Taken = [usize; Operation::ALL.len()];
+
+    const NOTHING: Taken = [0; Operation::ALL.len()];
 
     fn measure(stacks: &mut Stacks, job: &[u8]) -> Taken {
         let mut out = [0; limits::THIN_BYTES];
-        let operations = [scope_deps_answer, scope_deps_sheet, scope_deps_thin];
         // SAFETY: these are the library's operations, and the stacks are far larger than they need.
-        operations.map(|call| unsafe { stacks.measure(call, job, &mut out) })
+        Operation::ALL.map(|operation| unsafe { stacks.measure(function(operation), job, &mut out) })
     }
 
     fn larger(a: Taken, b: Taken) -> Taken {
-        [a[0].max(b[0]), a[1].max(b[1]), a[2].max(b[2])]
+        std::array::from_fn(|n| a[n].max(b[n]))
     }
 
-    fn show([answer, sheet, thin]: Taken, what: &str) -> Result<(), Failure> {
-        say!("{answer:>8} {sheet:>8} {thin:>8}  {what}")
+    fn show(taken: Taken, what: &str) -> Result<(), Failure> {
+        say!("{}  {what}", taken.map(|bytes| format!("{bytes:>14}")).concat())
     }
 
     /// Names by which memory is taken from the heap or from the system.

@@ -12,6 +12,7 @@ mod output;
 mod programs;
 mod stored;
 
+use ::compare::operation::Operation;
 use ::compare::oracle::Oracle;
 use failure::{Failure, misused};
 use std::path::PathBuf;
@@ -27,16 +28,22 @@ pub fn run(words: &[&str]) -> Result<(), Failure> {
         ["compare", ref options @ ..] => compare::run(options),
         ["bench", ref options @ ..] => bench::run(options),
         ["programs", ref options @ ..] => programs::run(options),
-        ["answer"] => one_job::answer(),
-        ["sheet"] => one_job::sheet(),
-        ["thin"] => one_job::thin(),
         ["check"] => stored::check(),
         ["store"] => stored::store(),
         ["memory"] => memory::run(),
-        [command @ ("answer" | "sheet" | "thin" | "check" | "store" | "memory" | "help"), .., extra] => {
+        [command, ref rest @ ..] => operation(command, rest),
+    }
+}
+
+/// An operation on one job, or why the words are none.
+fn operation(command: &str, rest: &[&str]) -> Result<(), Failure> {
+    let takes_nothing = ["check", "store", "memory", "help"].contains(&command);
+    match (Operation::named(command), rest.last()) {
+        (Some(operation), None) => one_job::run(operation),
+        (found, Some(extra)) if found.is_some() || takes_nothing => {
             Err(misused(format!("`{command}` takes nothing more, but `{extra}` follows")))
         }
-        [command, ..] => Err(misused(format!("`{command}` is no command"))),
+        _ => Err(misused(format!("`{command}` is no command"))),
     }
 }
 

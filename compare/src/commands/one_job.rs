@@ -1,33 +1,23 @@
-//! `answer` and `sheet`: what the Rust says of one job. `thin`: what the harness makes of it.
+//! One job: `answer` and `sheet` by the Rust, and by the harness `thin`, `strict_answer` and
+//! `strict_sheet`.
 
 use super::failure::{Failure, failed};
 use super::{open, output};
 use compare::job::limits;
-use compare::oracle::{Oracle, Said, program_bytes};
+use compare::operation::Operation;
+use compare::oracle::{absent, program_bytes};
 use compare::thin;
 use std::io::{self, Read};
 
-pub fn answer() -> Result<(), Failure> {
-    one_job(|oracle, job| oracle.answer(job, limits::OUT_BYTES))
-}
-
-pub fn sheet() -> Result<(), Failure> {
-    one_job(|oracle, job| oracle.sheet(job, limits::OUT_BYTES))
-}
-
-/// Without the Rust, paths are compared by the harness itself.
-pub fn thin() -> Result<(), Failure> {
-    let job = read()?;
-    let said = match Oracle::open() {
-        Ok(mut oracle) => oracle.thin(&job, limits::THIN_BYTES),
-        Err(_) => thin::thin(&job, limits::THIN_BYTES),
+pub fn run(operation: Operation) -> Result<(), Failure> {
+    let out_len = operation.least_bytes();
+    let said = if operation == Operation::Thin && absent().is_some() {
+        // Without the Rust, paths are compared by the harness itself.
+        thin::thin(&read()?, out_len)
+    } else {
+        open("the Rust")?.say(operation, &read()?, out_len)
     };
     output::bytes(&program_bytes(&said))
-}
-
-fn one_job(ask: fn(&mut Oracle, &[u8]) -> Said) -> Result<(), Failure> {
-    let mut oracle = open("the Rust")?;
-    output::bytes(&program_bytes(&ask(&mut oracle, &read()?)))
 }
 
 /// The job on standard input.

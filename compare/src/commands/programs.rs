@@ -1,11 +1,12 @@
-//! `programs`: the programs `answer`, `sheet` and `thin` beside the Rust.
+//! `programs`: the programs beside the Rust and the harness.
 
 use super::failure::{Failure, failed};
 use super::options::Options;
 use super::output::say;
 use super::{repository, stored};
+use compare::operation::Operation;
 use compare::oracle::Oracle;
-use compare::programs::{Input, PROGRAMS, SIZES, compare, inputs};
+use compare::programs::{Input, SIZES, compare, inputs};
 use std::collections::BTreeMap;
 use std::path::{Path, PathBuf};
 
@@ -21,20 +22,23 @@ pub fn run(words: &[&str]) -> Result<(), Failure> {
     for input in &inputs {
         compare_all(&folder, input)?;
     }
-    for (number, program) in PROGRAMS.into_iter().enumerate() {
-        say!("programs: {program} writes what is due for {}", tally(&inputs, number))?;
+    for (number, operation) in Operation::ALL.into_iter().enumerate() {
+        say!("programs: {} writes what is due for {}", operation.name(), tally(&inputs, number))?;
     }
     let sizes = SIZES.map(|size| size.to_string()).join(", ");
     say!("programs: {} are stored jobs, the others have {sizes} bytes", records.len())?;
     match absent {
-        None => say!("programs: what is due is what the Rust says, and of thin what the harness says"),
+        None => say!(
+            "programs: what is due is what the Rust says, and of thin and the strict ones what the harness says"
+        ),
         Some(why) => say!("programs: the comparison with the Rust did not run: {why}"),
     }
 }
 
 fn compare_all(folder: &Path, input: &Input) -> Result<(), Failure> {
-    for (program, due) in PROGRAMS.into_iter().zip(&input.due) {
+    for (operation, due) in Operation::ALL.into_iter().zip(&input.due) {
         let Some(due) = due else { continue };
+        let program = operation.name();
         let compared = compare(&folder.join(program), &input.job, due);
         compared.map_err(|why| failed(format!("program {program}, {}: {why}", input.name)))?;
     }

@@ -4,28 +4,12 @@ mod buffer;
 pub mod fixed;
 pub mod run;
 
+use crate::job::Job;
 use crate::library::Stage;
-use crate::oracle::{Both, Oracle, Said};
-use crate::reader::Refusal;
+use crate::operation::Operation;
+use crate::oracle::{All, Oracle, Said};
+use crate::reader::{MANY_NODES, Refusal, read_job};
 use buffer::Buffer;
-
-#[derive(Clone, Copy)]
-enum Operation {
-    Answer,
-    Sheet,
-    Thin,
-}
-
-impl Operation {
-    /// Its name, and who says what is due.
-    fn told(self) -> (&'static str, &'static str) {
-        match self {
-            Self::Answer => ("answer", "the Rust"),
-            Self::Sheet => ("sheet", "the Rust"),
-            Self::Thin => ("thin", "the harness"),
-        }
-    }
-}
 
 /// What was seen of a job on which all agree.
 pub struct Seen {
@@ -33,6 +17,31 @@ pub struct Seen {
     pub refusal: Option<Refusal>,
     /// Whether the thin job is shorter.
     pub has_repeats: bool,
+    /// How the two propagations stand to each other, of a job that the reader accepts.
+    pub propagations: Option<Propagations>,
+}
+
+/// How the existing propagation and the strict one stand to each other on a job.
+#[derive(Debug, Clone, Copy)]
+pub struct Propagations {
+    pub has_loop: bool,
+    pub differ: bool,
+    /// Whether 9 refuses the job under the existing one, and under the strict one.
+    pub refused: [bool; 2],
+}
+
+impl Propagations {
+    /// Says why not, where the two must be equal and are not.
+    fn of(job: &Job, all: &All) -> Result<Self, String> {
+        let (existing, strict) = (&all.existing, &all.strict);
+        let differ = (&existing.answer, &existing.sheet) != (&strict.answer, &strict.sheet);
+        let has_loop = job.has_loop();
+        if differ && !has_loop {
+            return Err("without loops, the harness's strict answer or sheet is not the Rust's".into());
+        }
+        let refused = [existing, strict].map(|both| both.answer == Err(MANY_NODES));
+        Ok(Self { has_loop, differ, refused })
+    }
 }
 
 /// Runs the Rust and a stage on the same jobs.
@@ -49,38 +58,38 @@ impl<'s> Comparison<'s> {
         Self { oracle, stage, buffer: Buffer::default(), compared: 0 }
     }
 
-    /// Compares the three operations, or says how they differ. Where the thin job is
-    /// another than the job, it is compared too.
+    /// Compares the operations, or says how they differ. Where the thin job is another than the
+    /// job, it is compared too.
     pub fn compare(&mut self, job: &[u8], out_len: usize) -> Result<Seen, String> {
-        let both = self.oracle.both(job, out_len);
-        let thin = self.oracle.thin(job, out_len);
-        self.call(Operation::Answer, job, out_len, &both.answer)?;
-        self.call(Operation::Sheet, job, out_len, &both.sheet)?;
-        self.call(Operation::Thin, job, out_len, &thin)?;
-        let shorter = thin.ok().filter(|thin| thin != job);
-        if let Some(thin) = &shorter {
+        let all = self.oracle.all(job, out_len);
+        let read = read_job(job, out_len).ok();
+        let propagations = read.map(|job| Propagations::of(&job, &all)).transpose()?;
+        self.call_all(job, out_len, &all)?;
+        let shorter = all.thin.as_ref().ok().filter(|thin| *thin != job);
+        if let Some(thin) = shorter {
             if thin.len() >= job.len() {
                 return Err("thin: the harness's thin job has other bytes, but not fewer".into());
             }
-            self.compare_thin(thin, out_len, &both).map_err(|why| format!("of the thin job, {why}"))?;
+            self.compare_thin(thin, out_len, &all).map_err(|why| format!("of the thin job, {why}"))?;
         }
-        Ok(Seen { refusal: both.answer.err(), has_repeats: shorter.is_some() })
+        Ok(Seen { refusal: all.existing.answer.err(), has_repeats: shorter.is_some(), propagations })
     }
 
-    /// Compares the operations on a thin job: in the library and in the Rust its answer and its
-    /// sheet are those of the job, and it is its own thin job.
-    fn compare_thin(&mut self, thin: &[u8], out_len: usize, job: &Both) -> Result<(), String> {
-        let both = self.oracle.both(thin, out_len);
-        if (&both.answer, &both.sheet) != (&job.answer, &job.sheet) {
-            return Err("answer or sheet by the Rust is another than that of the job".into());
+    /// Compares the operations on a thin job: in the library, in the Rust and in the harness its
+    /// answers and its sheets are those of the job, and it is its own thin job.
+    fn compare_thin(&mut self, thin: &[u8], out_len: usize, job: &All) -> Result<(), String> {
+        let due = All { thin: Ok(thin.to_vec()), ..job.clone() };
+        let all = self.oracle.all(thin, out_len);
+        for ((operation, due), (_, said)) in due.said().into_iter().zip(all.said()) {
+            if said != due {
+                return Err(format!("{} by {} is another", operation.name(), operation.judge()));
+            }
         }
-        let again = Ok(thin.to_vec());
-        if self.oracle.thin(thin, out_len) != again {
-            return Err("the harness's thin job is another".into());
-        }
-        self.call(Operation::Answer, thin, out_len, &job.answer)?;
-        self.call(Operation::Sheet, thin, out_len, &job.sheet)?;
-        self.call(Operation::Thin, thin, out_len, &again)
+        self.call_all(thin, out_len, &due)
+    }
+
+    fn call_all(&mut self, job: &[u8], out_len: usize, due: &All) -> Result<(), String> {
+        due.said().into_iter().try_for_each(|(operation, due)| self.call(operation, job, out_len, due))
     }
 
     /// Calls an operation. Compared are the returned number, the bytes written, and that
@@ -88,13 +97,9 @@ impl<'s> Comparison<'s> {
     fn call(&mut self, operation: Operation, job: &[u8], out_len: usize, due: &Said) -> Result<(), String> {
         self.compared += 1;
         let out = self.buffer.fill(out_len, self.compared);
-        let returned = match operation {
-            Operation::Answer => self.stage.answer(job, out),
-            Operation::Sheet => self.stage.sheet(job, out),
-            Operation::Thin => self.stage.thin(job, out),
-        };
-        let (name, judge) = operation.told();
-        self.buffer.check(due, returned, judge).map_err(|why| format!("{name}: {why}"))
+        let returned = self.stage.call(operation, job, out);
+        let checked = self.buffer.check(due, returned, operation.judge());
+        checked.map_err(|why| format!("{}: {why}", operation.name()))
     }
 }
 

@@ -1,7 +1,7 @@
 //! Runs of a comparison: over the fixed list, and over generated jobs.
 
 use super::fixed;
-use super::{Comparison, Seen};
+use super::{Comparison, Propagations, Seen};
 use crate::generate::generate;
 use std::collections::BTreeMap;
 use std::io::{self, Write};
@@ -40,7 +40,7 @@ pub struct Generated<'o> {
 
 /// Classes whose jobs take long. Where no class is asked for, only those whose number
 /// is divisible by `KEPT` are compared.
-const LONG: [&str; 4] = ["many-blocks", "ladder", "nodes-entered", "nodes-reduced"];
+const LONG: [&str; 5] = ["many-blocks", "ladder", "nodes-entered", "nodes-reduced", "nodes-looped"];
 const KEPT: u64 = 4;
 
 /// Compares generated jobs and says now and then how far it is.
@@ -96,6 +96,7 @@ pub struct Tally {
     refusals: BTreeMap<u8, usize>,
     /// Jobs with repeats: those that are accepted, and those that 9 refuses.
     pub repeats: [usize; 2],
+    pub propagations: PropagationTally,
 }
 
 impl Tally {
@@ -104,6 +105,7 @@ impl Tally {
         *self.classes.entry(class).or_default() += 1;
         *self.refusals.entry(seen.refusal.unwrap_or(0)).or_default() += 1;
         self.repeats[usize::from(seen.refusal.is_some())] += usize::from(seen.has_repeats);
+        seen.propagations.iter().for_each(|propagations| self.propagations.count(propagations));
     }
 
     pub fn text(&self) -> String {
@@ -114,6 +116,39 @@ impl Tally {
         });
         let [accepted, refused] = self.repeats;
         let thin = format!("thin jobs with fewer paths: accepted {accepted}, refused by 9: {refused}");
-        format!("{}\n{}\n{thin}", classes.join(", "), refusals.collect::<Vec<_>>().join(", "))
+        let (classes, refusals) = (classes.join(", "), refusals.collect::<Vec<_>>().join(", "));
+        format!("{classes}\n{refusals}\n{thin}\n{}", self.propagations.text())
+    }
+}
+
+/// How often the two propagations differ, over the jobs that the reader accepts.
+#[derive(Debug, Default)]
+pub struct PropagationTally {
+    pub without_loops: usize,
+    pub with_loops: usize,
+    /// Jobs, all with loops, of which answer or sheet differ.
+    pub differing: usize,
+    /// Those of them that 9 refuses under the existing propagation alone, and under the strict one
+    /// alone.
+    pub refused_by_one: [usize; 2],
+}
+
+impl PropagationTally {
+    fn count(&mut self, seen: &Propagations) {
+        let loops = if seen.has_loop { &mut self.with_loops } else { &mut self.without_loops };
+        *loops += 1;
+        self.differing += usize::from(seen.differ);
+        let [existing, strict] = seen.refused;
+        self.refused_by_one[0] += usize::from(existing && !strict);
+        self.refused_by_one[1] += usize::from(strict && !existing);
+    }
+
+    fn text(&self) -> String {
+        let Self { without_loops, with_loops, differing, refused_by_one: [existing, strict] } = self;
+        format!(
+            "strict propagation: as the existing one on {without_loops} jobs without loops; of {with_loops} \
+             with loops {differing} differ, of which 9 refuses {existing} under the existing one alone and \
+             {strict} under the strict one alone"
+        )
     }
 }

@@ -4,8 +4,8 @@ use super::{Features, add};
 use crate::job::Job;
 use crate::oracle::{Oracle, Said};
 use crate::output::{Written, read_sheet};
+use crate::propagation::Propagation;
 use crate::reader::read_job;
-use std::collections::HashSet;
 
 pub fn graph_features(job: &Job, found: &mut Features) {
     let count = job.blocks.len();
@@ -18,7 +18,7 @@ pub fn graph_features(job: &Job, found: &mut Features) {
     let most = job.blocks.iter().map(|block| block.assumed.len()).max().unwrap_or(0);
     add(found, "255 assumed paths", most == 255);
     add(found, "self loop", job.blocks.iter().any(|block| block.predecessors.contains(&block.id)));
-    add(found, "loop: Active neighbours", has_loop(job));
+    add(found, "loop: Active neighbours", job.has_loop());
     let ascending = job.blocks.is_sorted_by_key(|block| block.id);
     add(found, "job order differs from id order", !ascending);
     add(found, "scope block is not the first", job.blocks[0].id != job.scope);
@@ -33,11 +33,11 @@ pub fn graph_features(job: &Job, found: &mut Features) {
 /// Orders that decide the sets: each variant keeps the graph and changes an order.
 pub fn order_features(bytes: &[u8], out_len: usize, sheet: &Said, oracle: &mut Oracle, found: &mut Features) {
     let (Ok(job), Ok(sheet)) = (read_job(bytes, out_len), sheet) else { return };
-    if !has_loop(&job) {
+    if !job.has_loop() {
         return;
     }
     let mut matters = |what: &str, variant: Job| {
-        let changed = oracle.sheet(&variant.to_bytes(), out_len);
+        let changed = oracle.sheet(Propagation::Existing, &variant.to_bytes(), out_len);
         add(found, what, changed.is_ok_and(|changed| sets(&changed) != sets(sheet)));
     };
     let with_predecessors = |change: fn(&mut [u32])| {
@@ -67,17 +67,4 @@ fn with_ids_reversed(job: &Job) -> Job {
     }
     variant.scope = !variant.scope;
     variant
-}
-
-/// Takes away blocks without predecessors until none is left; what stays is a loop.
-fn has_loop(job: &Job) -> bool {
-    let mut left: Vec<usize> = (0..job.blocks.len()).collect();
-    loop {
-        let ids: HashSet<u32> = left.iter().map(|&n| job.blocks[n].id).collect();
-        let before = left.len();
-        left.retain(|&n| job.blocks[n].predecessors.iter().any(|id| ids.contains(id)));
-        if left.len() == before {
-            return !left.is_empty();
-        }
-    }
 }

@@ -6,14 +6,16 @@
 mod graph;
 mod reduction;
 mod refusals;
+mod strict;
 mod thin;
 mod tree;
 
 pub use graph::order_features;
+pub use strict::strict_features;
 pub use thin::nearly_right;
 
 use crate::job::{Job, Path, Property, limits};
-use crate::oracle::{Both, Counts};
+use crate::oracle::{All, Counts};
 use crate::output::{Answer, Written, read_answer, read_sheet};
 use crate::reader::read_job;
 use std::collections::{BTreeSet, HashMap, HashSet};
@@ -21,7 +23,8 @@ use std::collections::{BTreeSet, HashMap, HashSet};
 pub type Features = BTreeSet<String>;
 
 /// The features of a job of `class`, given what the oracle says of it.
-pub fn features(class: &str, bytes: &[u8], out_len: usize, both: &Both) -> Features {
+pub fn features(class: &str, bytes: &[u8], out_len: usize, all: &All) -> Features {
+    let both = &all.existing;
     let mut found = Features::new();
     found.insert(format!("class {class}"));
     add(&mut found, &format!("job of {} bytes", bytes.len()), bytes.len() + 1 >= limits::JOB_BYTES);

@@ -29,7 +29,7 @@ fn diamonds(size: usize) -> Graph {
     (0..size).map(predecessors).collect()
 }
 
-fn some_of(prng: &mut Prng, places: std::ops::Range<usize>, percent: usize) -> Vec<usize> {
+pub fn some_of(prng: &mut Prng, places: std::ops::Range<usize>, percent: usize) -> Vec<usize> {
     let mut chosen: Vec<usize> = places.filter(|_| prng.chance(percent)).collect();
     prng.shuffle(&mut chosen);
     chosen.truncate(limits::PREDECESSORS);

@@ -4,6 +4,7 @@ mod damage;
 pub(crate) mod edges;
 pub(crate) mod graph;
 pub(crate) mod ladder;
+mod loops;
 mod nodes;
 mod repeats;
 mod shapes;
@@ -36,6 +37,8 @@ const CLASSES: &[Class] = &[
     Class { name: "nodes-entered", weight: 3, make: |prng| nodes::entered(prng).to_bytes() },
     Class { name: "nodes-reduced", weight: 3, make: |prng| nodes::reduced(prng).to_bytes() },
     Class { name: "repeats", weight: 10, make: |prng| repeats::repeats(prng).to_bytes() },
+    Class { name: "many-loops", weight: 10, make: |prng| loops::many_loops(prng).to_bytes() },
+    Class { name: "nodes-looped", weight: 2, make: |prng| loops::nodes_looped(prng).to_bytes() },
     Class { name: "limits", weight: 6, make: edges::limits },
     Class { name: "job-size", weight: 1, make: edges::job_size },
     Class { name: "short-out", weight: 1, make: short_out },

@@ -6,7 +6,7 @@ use crate::job::{Block, Entry, Job, Path, Property, limits};
 use crate::prng::Prng;
 use std::collections::HashSet;
 
-fn near_limit(prng: &mut Prng) -> usize {
+pub fn near_limit(prng: &mut Prng) -> usize {
     prng.pick(&[limits::NODES - 1, limits::NODES, limits::NODES + 1, limits::NODES + 2])
 }
 

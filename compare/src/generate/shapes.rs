@@ -73,7 +73,7 @@ pub fn reduction(prng: &mut Prng) -> Job {
 
 /// Puts a path and some of its bases into blocks. A base has plain entries up to
 /// a place, as a reduced path would have.
-fn spread_bases(prng: &mut Prng, blocks: &mut [Block], chain: &Path) {
+pub fn spread_bases(prng: &mut Prng, blocks: &mut [Block], chain: &Path) {
     let whole = prng.below(blocks.len());
     blocks[whole].assumed.push(chain.clone());
     for length in 0..chain.entries.len() {
@@ -93,7 +93,7 @@ fn few(prng: &mut Prng) -> usize {
 }
 
 /// A job over a graph, with paths that are near each other.
-fn over(prng: &mut Prng, graph: &Graph, words: &Words) -> Job {
+pub fn over(prng: &mut Prng, graph: &Graph, words: &Words) -> Job {
     let shared = words.paths(prng, 6);
     let most = prng.pick(&[1, 2, 3, 5]);
     let mut assumed_paths = |prng: &mut Prng| {

@@ -3,7 +3,9 @@
 
 pub use compare::notation::{block, job, path, text};
 
+use compare::comparison::returned_number;
 use compare::job::{Entry, Path};
+use compare::oracle::Said;
 use compare::output::{Answer, Sheet, Written, read_answer, read_sheet};
 
 pub fn texts(paths: &[Path]) -> String {
@@ -14,6 +16,13 @@ pub fn texts(paths: &[Path]) -> String {
 pub fn hex(text: &str) -> Vec<u8> {
     let digits: Vec<u32> = text.chars().filter_map(|c| c.to_digit(16)).collect();
     digits.chunks(2).map(|pair| (pair[0] * 16 + pair[1]) as u8).collect()
+}
+
+/// Writes what is said to a buffer, as the C interface does.
+pub fn write(said: &Said, out: &mut [u8]) -> i64 {
+    let bytes = said.as_deref().unwrap_or_default();
+    out[..bytes.len()].copy_from_slice(bytes);
+    returned_number(said)
 }
 
 pub fn answer(bytes: &[u8]) -> Answer {
@@ -43,6 +52,11 @@ fn node_path(sheet: &Sheet, number: usize) -> Path {
     let mut path = node_path(sheet, parent);
     path.entries.push(Entry { optional: node.optional, property: node.property, span: node.span });
     path
+}
+
+/// The sets of all blocks, in job order.
+pub fn sets(sheet: &Sheet) -> Vec<String> {
+    sheet.sets.iter().map(|(id, _)| set_text(sheet, *id)).collect()
 }
 
 /// The set of a block, in the order of node numbers.

@@ -47,10 +47,11 @@ const SCRIPTS: [&str; 7] = [
     "demo",
 ];
 
-const FILES: [(&str, &str); 14] = [
+const FILES: [(&str, &str); 16] = [
     (
         "crates.txt",
-        "# a comment: none\nleaf:\nstage: leaf\nrun: stage io\nanswer: run\nsheet: run\nthin: run\nother:\n",
+        "# a comment: none\nleaf:\nstage: leaf\nrun: stage io\nanswer: run\nsheet: run\nthin: run\n\
+         strict_answer: run\nstrict_sheet: run\nother:\n",
     ),
     ("crates/leaf/src/lib.rt", "leaf\n"),
     ("crates/stage/src/lib.rt", "stage\n"),
@@ -58,6 +59,8 @@ const FILES: [(&str, &str); 14] = [
     ("crates/answer/src/main.rt", "answer\n"),
     ("crates/sheet/src/main.rt", "sheet\n"),
     ("crates/thin/src/main.rt", "thin\n"),
+    ("crates/strict_answer/src/main.rt", "strict_answer\n"),
+    ("crates/strict_sheet/src/main.rt", "strict_sheet\n"),
     ("crates/other/src/lib.rt", "other\n"),
     ("bindings/rust/src/main.rs", "tool\n"),
     ("bindings/rust/build.rs", "build\n"),
@@ -71,7 +74,7 @@ const FILES: [(&str, &str); 14] = [
 const RT: &str = r#"#!/usr/bin/env bash
 [ "$1" != version ] || { echo "${FAKE_KIT:-kit 1}"; exit; }
 echo "rt $*" >>"$FAKE_CALLS"
-case $1 in staticlib) crates=leaf ;; check) crates='leaf stage run answer sheet thin' ;; esac
+case $1 in staticlib) crates=leaf ;; check) crates='leaf stage run answer sheet thin strict_answer strict_sheet' ;; esac
 mkdir -p target/staticlib target/bin
 for crate in $crates; do
   if grep -q unproved "crates/$crate/src/"*; then echo "rt: $crate NOT PROVED (exit 1, 0 s)"; exit 1; fi
@@ -79,7 +82,7 @@ for crate in $crates; do
 done
 [ -z "${FAKE_EDIT:-}" ] || echo "$FAKE_EDIT" >>crates/leaf/src/lib.rt
 if [ "$1" = check ]; then
-  for program in answer sheet thin; do
+  for program in answer sheet thin strict_answer strict_sheet; do
     printf '%s\n' '#!/usr/bin/env bash' 'cat >/dev/null' "printf '${FAKE_ANSWER:-RF\\003}'" >target/bin/$program
     chmod +x target/bin/$program
   done

@@ -172,7 +172,10 @@ fn the_programs_are_made_once_and_anew_from_other_sources() {
     let folder = format!("{}\n", fake.root.join("target/bin").display());
     failing(fake.run("bin/programs", &["--check"]), &["a program of the stage is missing; "]);
     assert_eq!(
-        saying(fake.run("bin/programs", &[]), &["is missing; ", "proved leaf, 1 of 6", "thin, 6 of 6"]),
+        saying(
+            fake.run("bin/programs", &[]),
+            &["is missing; ", "proved leaf, 1 of 8", "strict_sheet, 8 of 8"]
+        ),
         folder
     );
     assert_eq!(quiet(fake.run("bin/programs", &[])), folder);
@@ -310,7 +313,10 @@ fn the_harness_has_made_what_its_command_needs() {
         );
         assert_eq!(fake.calls(), ["rt staticlib", "cargo build"]);
     }
-    saying(fake.run("compare/oracle", &["programs"]), &["a program of the stage is missing", "thin, 6 of 6"]);
+    saying(
+        fake.run("compare/oracle", &["programs"]),
+        &["a program of the stage is missing", "strict_sheet, 8 of 8"],
+    );
     assert_eq!(fake.calls(), ["rt check"]);
     fake.without("rt");
     fake.without("cargo");
@@ -336,7 +342,7 @@ fn the_demo_holds_the_answer_to_the_specification() {
     let refused = fake.run("demo", &[]);
     assert_eq!(refused.status, 1);
     assert!(refused.out.contains("refused: 3"), "{refused:?}");
-    assert_parts(&refused, &["proved answer, 4 of 6", "not the answer that document 01 gives"]);
+    assert_parts(&refused, &["proved answer, 4 of 8", "not the answer that document 01 gives"]);
     let answer = r"AN\001\000\001\001DE\001\000\000\000\001\006\000\000\000\001";
     let entry = r"\000\000\012\000\000\000\000\000\000\000\006\000\000\000";
     fake.set("FAKE_ANSWER", format!("{answer}{entry}"));

@@ -22,14 +22,17 @@ enum Compared {
     End,
 }
 
-// Whether the answer, the sheet and the thin job agreed, and the refusals of the answer and of the
-// thin job, 0 for none.
+// Whether the answer, the sheet, the thin job, and by the strict propagation the answer and the
+// sheet agreed; and the refusals of both answers and of the thin job, 0 for none.
 struct Agreement {
     answer: bool,
     sheet: bool,
     thin: bool,
+    strict_answer: bool,
+    strict_sheet: bool,
     answer_refusal: u8,
     thin_refusal: u8,
+    strict_refusal: u8,
 }
 
 // An end of the list is no record.
@@ -141,8 +144,38 @@ fn compare_next(program: Program, job: &[u8], room: usize) -> Compared {
     compare(program, job, room, &space[..n])
 }
 
+// All operations on a job, in the list's order.
+fn compare_all(job: &[u8], room: usize) -> Record {
+    let Compared::Of(answer, answer_refusal) = compare_next(Program::Answer, job, room) else {
+        return Record::End;
+    };
+    let Compared::Of(sheet, _) = compare_next(Program::Sheet, job, room) else {
+        return Record::End;
+    };
+    let Compared::Of(thin, thin_refusal) = compare_next(Program::Thin, job, room) else {
+        return Record::End;
+    };
+    let Compared::Of(strict_answer, strict_refusal) = compare_next(Program::StrictAnswer, job, room)
+    else {
+        return Record::End;
+    };
+    let Compared::Of(strict_sheet, _) = compare_next(Program::StrictSheet, job, room) else {
+        return Record::End;
+    };
+    Record::Of(Agreement {
+        answer,
+        sheet,
+        thin,
+        strict_answer,
+        strict_sheet,
+        answer_refusal,
+        thin_refusal,
+        strict_refusal,
+    })
+}
+
 // The next record of the list: the length of an out buffer, a job, its answer, its sheet and its
-// thin job.
+// thin job, and its answer and its sheet by the strict propagation.
 fn next_record() -> Record {
     let Length::Of(room) = next_length() else {
         return Record::End;
@@ -151,22 +184,7 @@ fn next_record() -> Record {
     let Length::Of(n) = next_part(&mut job) else {
         return Record::End;
     };
-    let Compared::Of(answer, answer_refusal) = compare_next(Program::Answer, &job[..n], room) else {
-        return Record::End;
-    };
-    let Compared::Of(sheet, _) = compare_next(Program::Sheet, &job[..n], room) else {
-        return Record::End;
-    };
-    let Compared::Of(thin, thin_refusal) = compare_next(Program::Thin, &job[..n], room) else {
-        return Record::End;
-    };
-    Record::Of(Agreement {
-        answer,
-        sheet,
-        thin,
-        answer_refusal,
-        thin_refusal,
-    })
+    compare_all(&job[..n], room)
 }
 
 fn line(text: &[u8], n: u64) {
@@ -184,31 +202,48 @@ fn counted(n: u64, holds: bool) -> u64 {
     }
 }
 
-// How many answers, sheets and thin jobs agreed, how many records had one that did not, and of the
-// others how many answers and how many thin jobs were refused by each number, 0 for none.
+// One more of a number, 16 and above with those from 0 on, where it holds.
+fn counted_by(counts: [u64; 16], number: u8, holds: bool) -> [u64; 16] {
+    let mut t = counts;
+    let k = (number % 16) as usize;
+    let n = t[k];
+    t[k] = counted(n, holds);
+    t
+}
+
+// How many of each operation agreed, how many records had one that did not, and of the others how
+// many answers, thin jobs and strict answers were refused by each number, 0 for none.
 struct Tally {
     answers: u64,
     sheets: u64,
     thin_jobs: u64,
+    strict_answers: u64,
+    strict_sheets: u64,
     differed: u64,
     answers_refused: [u64; 16],
     thin_jobs_refused: [u64; 16],
+    strict_answers_refused: [u64; 16],
 }
 
 impl Tally {
     fn with(self, a: Agreement) -> Tally {
         let mut t = self;
-        let all = a.answer && a.sheet && a.thin;
+        let all = a.answer && a.sheet && a.thin && a.strict_answer && a.strict_sheet;
         t.answers = counted(t.answers, a.answer);
         t.sheets = counted(t.sheets, a.sheet);
         t.thin_jobs = counted(t.thin_jobs, a.thin);
+        t.strict_answers = counted(t.strict_answers, a.strict_answer);
+        t.strict_sheets = counted(t.strict_sheets, a.strict_sheet);
         t.differed = counted(t.differed, !all);
-        let k = (a.answer_refusal % 16) as usize;
-        let n = t.answers_refused[k];
-        t.answers_refused[k] = counted(n, all);
-        let j = (a.thin_refusal % 16) as usize;
-        let m = t.thin_jobs_refused[j];
-        t.thin_jobs_refused[j] = counted(m, all);
+        let before = t.answers_refused;
+        let answers = counted_by(before, a.answer_refusal, all);
+        t.answers_refused = answers;
+        let thin_before = t.thin_jobs_refused;
+        let thin_jobs = counted_by(thin_before, a.thin_refusal, all);
+        t.thin_jobs_refused = thin_jobs;
+        let strict_before = t.strict_answers_refused;
+        let strict_answers = counted_by(strict_before, a.strict_refusal, all);
+        t.strict_answers_refused = strict_answers;
         t
     }
 }
@@ -219,9 +254,12 @@ fn replay() -> Tally {
         answers: 0,
         sheets: 0,
         thin_jobs: 0,
+        strict_answers: 0,
+        strict_sheets: 0,
         differed: 0,
         answers_refused: [0; 16],
         thin_jobs_refused: [0; 16],
+        strict_answers_refused: [0; 16],
     };
     let mut turns: u32 = 100000;
     while turns > 0 {
@@ -249,9 +287,17 @@ fn main() {
     line(b"answers that agree: ", t.answers);
     line(b"sheets that agree: ", t.sheets);
     line(b"thin jobs that agree: ", t.thin_jobs);
+    line(b"strict answers that agree: ", t.strict_answers);
+    line(b"strict sheets that agree: ", t.strict_sheets);
     line(b"records that differ: ", t.differed);
     let answers = t.answers_refused;
     lines(b"agreed and written: ", b"agreed on refusal ", answers);
     let thin_jobs = t.thin_jobs_refused;
     lines(b"thin jobs written: ", b"thin jobs refused by ", thin_jobs);
+    let strict_answers = t.strict_answers_refused;
+    lines(
+        b"strict answers written: ",
+        b"strict answers refused by ",
+        strict_answers,
+    );
 }

@@ -1,4 +1,4 @@
--- The job that was read is lent once for each operation.
+-- The job that was read is lent to all operations.
 use borrow.Author.Needs.{needs}
 use Rattle.replay.proofs.Parts.{within, lent}
 use Rattle.replay.proofs.next_record.Statement.{statement}
@@ -9,26 +9,11 @@ array-share-prefix-job c =
     let call = c .before .before .before .before in
     within (call .next-part .result) (c .before .n .given .0 .0) (call .next-part .last .0) (call .next-part .ensures) (c .before .n .given .1)
 
-slice-aggregate-compare-next : tie.Need-slice-aggregate-compare-next
-slice-aggregate-compare-next c =
+slice-aggregate-compare-all : tie.Need-slice-aggregate-compare-all
+slice-aggregate-compare-all c =
     let told = c .before in
     let call = told .before .before .before .before in
     lent (told .before .n .given .0 .0) (call .next-part .last .0) (array-share-prefix-job told)
-
-array-share-prefix-job-2 : tie.Need-array-share-prefix-job-2
-array-share-prefix-job-2 c = array-share-prefix-job (c .before .before .before .before .before)
-
-slice-aggregate-compare-next-2 : tie.Need-slice-aggregate-compare-next-2
-slice-aggregate-compare-next-2 c =
-    let told = c .before .before .before .before .before .before in
-    let call = told .before .before .before .before in
-    lent (told .before .n .given .0 .0) (call .next-part .last .0) (array-share-prefix-job told)
-
-array-share-prefix-job-3 : tie.Need-array-share-prefix-job-3
-array-share-prefix-job-3 c = array-share-prefix-job-2 (c .before .before .before .before .before)
-
-slice-aggregate-compare-next-3 : tie.Need-slice-aggregate-compare-next-3
-slice-aggregate-compare-next-3 c = slice-aggregate-compare-next-2 (c .before .before .before .before .before)
 
 pub next-record-spec : {M : Type 1} → statement M
 next-record-spec =
@@ -45,21 +30,6 @@ next-record-spec =
     (λ c. search needs)
     (λ c. search needs)
     array-share-prefix-job
-    slice-aggregate-compare-next
+    slice-aggregate-compare-all
     (λ c κs. search needs)
-    (λ c. search needs)
-    (λ c. search needs)
-    (λ c. search needs)
-    array-share-prefix-job-2
-    slice-aggregate-compare-next-2
-    (λ c κs. search needs)
-    (λ c. search needs)
-    (λ c. search needs)
-    (λ c. search needs)
-    array-share-prefix-job-3
-    slice-aggregate-compare-next-3
-    (λ c κs. search needs)
-    (λ c. search needs)
-    (λ c. search needs)
-    (λ c. search needs)
     (λ c. search needs))
