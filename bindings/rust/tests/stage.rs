@@ -100,7 +100,7 @@ fn without_loops_both_propagations_write_the_same_bytes() {
 }
 
 #[test]
-fn the_smallest_difference_between_the_propagations() {
+fn a_small_job_tells_the_propagations_apart() {
     let job: Job = "scope 1 block 0 assumes 1 block 1 after 1, 0 candidate 1.10".parse().unwrap();
     assert_eq!(answer(&job).unwrap().to_string(), "rounds 2, settled\nreturned 1.10\n");
     assert_eq!(strict_answer(&job).unwrap().to_string(), "rounds 1, settled\nreturned 1\n");

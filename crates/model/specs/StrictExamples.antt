@@ -131,7 +131,8 @@ pub more-strict : (nodesOf doneNeighbours moreStrict ≡ 5) × (nodesOf strictNe
 unfolding propagated doneNeighbours strictNeighbours
 more-strict = (refl, refl)
 
--- More under the existing rule: 1 comes in from block 1, past block 0, and makes nodes.
+-- More under the existing rule: backward, 1?.10?.10 joins block 1 from block 2, past block 1
+-- itself, which is Active then, and is reduced there.
 abbrev pub fewerStrict : List Block
 fewerStrict = block 0 [] [] ∷ block 1 (1 ∷ []) (one [] ∷ []) ∷ block 2 (1 ∷ 0 ∷ []) (one (optional 10 ∷ optional 10 ∷ []) ∷ []) ∷ []
 
