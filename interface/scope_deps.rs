@@ -77,13 +77,15 @@ pub fn sheet(job: &[u8], out: &mut [u8]) -> Result<usize, u8> {
 }
 
 /// Writes the answer of `job` by the strict propagation to the start of `out`, on the same
-/// terms. A block then takes paths over from its neighbours only where every one of them is
-/// done. So no returned path throws where the job has loops, either, on any finite run from a
-/// block with no predecessor, by way of the scope block, to a block with no successor, where
-/// what the run's blocks assume is there. Where the job has no loops the bytes are those of
-/// `answer`.
+/// terms. A block then takes paths over from the blocks before it, or after it, only where it
+/// has one and all of them are finished. So no returned path throws where the job has loops,
+/// either, on any finite run from a block with no predecessor, by way of the scope block, to a
+/// block with no successor, where what the run's blocks assume is there. Where the job has no
+/// loops the bytes are those of `answer`. With loops a returned path may be shorter, or where
+/// optional chains are assumed longer.
 ///
-/// Refusal 9 counts the nodes of the strict propagation, which may be more or fewer.
+/// Refusal 9 counts the nodes of the strict propagation, which may be more or fewer, so that
+/// each of the two may refuse a job that the other answers.
 pub fn strict_answer(job: &[u8], out: &mut [u8]) -> Result<usize, u8> {
     let (job_len, out_len) = (job.len(), out.len());
     // SAFETY: as in `answer`.

@@ -67,7 +67,7 @@ Writes the answer of the job on standard input by the strict propagation, as pro
 answer's bytes, or RF and the number of the refusal. The Rust has no such propagation, so this is the
 harness's own: the Rust's text, with the step exchanged by which neighbours join a block.
 
-  $ bin/scope-deps encode examples/diamond.job | compare/oracle strict_answer | xxd
+  $ bin/scope-deps encode examples/loop.job | compare/oracle strict_answer | xxd
 ";
 
 const STRICT_SHEET: &str = "\
@@ -76,7 +76,7 @@ usage: compare/oracle strict_sheet < JOB
 Writes the sheet of the job on standard input by the strict propagation, as program `strict_sheet` does: the
 sheet's bytes, or RF and the number of the refusal. As for `strict_answer`, the propagation is the harness's own.
 
-  $ bin/scope-deps encode examples/diamond.job | compare/oracle strict_sheet | xxd
+  $ bin/scope-deps encode examples/loop.job | compare/oracle strict_sheet | xxd
 ";
 
 const CHECK: &str = "\

@@ -128,14 +128,15 @@ Where blocks are on a loop, a block may hold a path that a run of control avoids
 then throw on that run. With `--strict`, a block takes paths over from the blocks before it, or after it,
 only where all of these are finished. So no returned path throws, loops or not, on a run from a block
 with no predecessor, by way of the scope block, to one with no successor, where what the run's blocks
-assume is there. Without loops both are the same.
+assume is there. Without loops both are the same. With loops a returned path may be shorter than without
+`--strict`, or, where optional chains are assumed, longer; and refusal 9 may be met by one of them alone.
 
-  $ echo 'scope 1 block 0 assumes 1 block 1 after 1, 0 candidate 1.10' | scope-deps answer
+  $ scope-deps examples loop | scope-deps answer
   rounds 2, settled
-  returned 1.10
-  $ echo 'scope 1 block 0 assumes 1 block 1 after 1, 0 candidate 1.10' | scope-deps answer --strict
+  returned beat@31.rate@31
+  $ scope-deps examples loop | scope-deps answer --strict
   rounds 1, settled
-  returned 1
+  returned beat@30
 ";
 
 const SHEET: &str = "\

@@ -88,20 +88,13 @@ fn explained(run: &Run, job: &Job, sheet: &Sheet, answer: &Answer) -> Result<Str
     let explain = if run.strict { explain_strict } else { explain };
     let explanation = explain(job, sheet, answer).map_err(Failure::Mismatch)?;
     let text = if run.all { explanation.in_full().to_string() } else { explanation.to_string() };
-    Ok(if leaves_out(&explanation) { format!("{text}\n{LEFT_OUT}\n") } else { text })
+    Ok(if explanation.leaves_out() { format!("{text}\n{LEFT_OUT}\n") } else { text })
 }
 
-/// What is said where a returned path rests on one that came past a block without it.
+/// What is said where a returned path rests on one that came past a block.
 #[cfg(feature = "explain")]
-const LEFT_OUT: &str = "with `--strict`, nothing is taken over where a block would be left out";
-
-/// Whether an explanation tells of a block that was left out and does not have the base.
-#[cfg(feature = "explain")]
-fn leaves_out(explanation: &scope_deps::explain::Explanation) -> bool {
-    use scope_deps::explain::Base;
-    let mut bases = explanation.reasons.iter().flat_map(|reason| &reason.bases);
-    bases.any(|base| matches!(base, Base::Known(known) if known.left_out.is_some()))
-}
+const LEFT_OUT: &str = "blocks on a loop were left out on the way of such a path, so that a run of control may avoid \
+                        those that assume it; with `--strict`, nothing is taken over where a block would be left out";
 
 #[cfg(not(feature = "explain"))]
 fn explained(_: &Run, _: &Job, _: &Sheet, _: &Answer) -> Result<String, Failure> {

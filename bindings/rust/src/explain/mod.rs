@@ -54,7 +54,7 @@ use crate::names::Names;
 use crate::path::{Entry, Path};
 use crate::replay::{Propagation, Replay};
 use crate::sheet::Sheet;
-use bases::Bases;
+use bases::{on_the_way, Bases};
 use std::fmt;
 
 /// Why each candidate's returned path is what it is.
@@ -73,6 +73,24 @@ pub struct Explanation {
     pub steps: Vec<Step>,
     /// The job's names, by which paths are shown.
     pub names: Names,
+}
+
+impl Explanation {
+    /// Whether a returned path rests on one that a block took over past another, which was left out
+    /// because the two are on a loop. Then a run of control may avoid the blocks that assume it. By
+    /// the strict propagation no block is left out.
+    #[must_use]
+    pub fn leaves_out(&self) -> bool {
+        let past_another = |&step: &usize| match &self.steps[step].how {
+            How::TookOver { left_out, .. } => !left_out.is_empty(),
+            _ => false,
+        };
+        let mut bases = self.reasons.iter().flat_map(|reason| &reason.bases);
+        bases.any(|base| match base {
+            Base::Known(known) => on_the_way(&self.steps, known.step).iter().any(past_another),
+            Base::Unknown(_) => false,
+        })
+    }
 }
 
 /// Why one candidate's returned path is what it is.
