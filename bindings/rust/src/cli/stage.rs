@@ -24,7 +24,7 @@ const STRICT: Operations = Operations {
 
 /// What the command makes of the job that was read.
 pub fn made(run: &Run, input: &Input, job: &Job) -> Result<Vec<u8>, Failure> {
-    let refused = |why: Refusal| Failure::Refused { place: input.place.clone(), why };
+    let refused = |why: Refusal| refused(run, input, why);
     let stage = operations(run);
     match run.command {
         Command::Answer if run.bytes => (stage.answer_bytes)(job.as_bytes()).map_err(refused),
@@ -42,6 +42,15 @@ pub fn made(run: &Run, input: &Input, job: &Job) -> Result<Vec<u8>, Failure> {
         Command::Explain => asked(run, input, job, explained),
         Command::Draw => asked(run, input, job, drawn),
         Command::Encode | Command::Decode => unreachable!("these ask nothing of the stage"),
+    }
+}
+
+/// That the stage turned the job back: by which propagation, where that matters.
+fn refused(run: &Run, input: &Input, why: Refusal) -> Failure {
+    let place = input.place.clone();
+    match why {
+        Refusal::ManyNodes if run.strict => Failure::RefusedStrictly { place, why },
+        why => Failure::Refused { place, why },
     }
 }
 
@@ -76,7 +85,7 @@ fn asked(
     job: &Job,
     make: impl Fn(&Run, &Job, &Sheet, &Answer) -> Result<String, Failure>,
 ) -> Result<Vec<u8>, Failure> {
-    let refused = |why: ManyNodes| Failure::Refused { place: input.place.clone(), why: why.into() };
+    let refused = |why: ManyNodes| refused(run, input, why.into());
     let stage = operations(run);
     let (sheet, answer) = ((stage.sheet)(job).map_err(refused)?, (stage.answer)(job).map_err(refused)?);
     make(run, job, &sheet, &answer).map(String::into_bytes)

@@ -50,7 +50,11 @@ fn refusal_9_is_that_of_the_propagation_that_was_asked_for() {
     let job = format!("scope 1 block 0{of_0} block 1 after 1, 0{}", of_1.collect::<String>());
     for command in ["answer", "sheet", "explain", "draw"] {
         assert!(!text(&[command], &job).is_empty());
-        assert!(message(&[command, "--strict"], &job, 1).contains("refusal 9, ManyNodes"), "{command}");
+        let said = message(&[command, "--strict"], &job, 1);
+        assert!(
+            said.contains("refusal 9, ManyNodes") && said.contains("the strict one; without `--strict`"),
+            "{said}"
+        );
     }
 }
 
