@@ -111,15 +111,19 @@ pub other-paths : (heldIn doneNeighbours otherPaths 3 ≡ 0) × (heldIn strictNe
 unfolding propagated doneNeighbours strictNeighbours
 other-paths = (refl, refl)
 
--- A block without a neighbour joins nothing, and its set is still reduced.
-pub alone-strict :
-    PropagatesTo strictNeighbours (block 7 [] (one [] ∷ one (optional 10 ∷ []) ∷ []) ∷ []) ((one [] ∷ one (plain 10 ∷ []) ∷ []) ∷ []) 2
-unfolding propagated strictNeighbours
-alone-strict = (refl, refl, refl)
-
 -- how many nodes a run ends with
 abbrev pub nodesOf : JoiningRule → List Block → ℕ
 nodesOf rule bs = length (propagated rule bs .work .registry)
+
+-- A block without a neighbour joins nothing, and its set is still reduced: of 1 and 1?.10 the
+-- second becomes 1.10, a third node, and the round after that changes nothing.
+abbrev pub alone : List Block
+alone = block 7 [] (one [] ∷ one (optional 10 ∷ []) ∷ []) ∷ []
+
+pub alone-strict :
+    (nodesOf strictNeighbours alone ≡ 3) × (heldIn strictNeighbours alone 0 ≡ 2) × (propagated strictNeighbours alone .rounds ≡ 2)
+unfolding propagated strictNeighbours
+alone-strict = (refl, refl, refl)
 
 -- More under the strict rule. Where 1 comes in from block 0, 1?.10?.10 becomes 1.10.10 at once.
 -- Where it does not, it becomes 1?.10.10, since 1?.10 is there, and 1.10.10 only in block 0, which
