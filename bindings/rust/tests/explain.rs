@@ -323,7 +323,7 @@ fn a_base_that_no_block_assumes() {
     assert_eq!(cut("scope 7 block 7 assumes 1 candidate 1.10.11"), ["no block assumes 1.10"]);
     assert_eq!(
         cut("scope 7 block 4 assumes 1?.10 block 7 candidate 1.10"),
-        ["no block assumes 1; block 4 assumes 1?.10, which leaves open whether 1 is there"]
+        ["no block assumes 1; block 4 assumes 1?.10, which does not make 1 known to the stage"]
     );
 }
 
@@ -331,19 +331,19 @@ fn a_base_that_no_block_assumes() {
 fn a_path_of_the_scope_block_that_leaves_the_base_open() {
     assert_eq!(
         cut("scope 7 block 7 assumes 1?.10 candidate 1.10"),
-        ["block 7 assumes 1?.10; that leaves open whether 1 is there", "no block assumes 1"]
+        ["block 7 assumes 1?.10; that does not make 1 known to the stage", "no block assumes 1"]
     );
     assert_eq!(
         cut("scope 7 block 7 assumes 1.11, 1?.10 candidate 1.10"),
         [
-            "block 7 assumes 1?.10; that leaves open whether 1 is there",
+            "block 7 assumes 1?.10; that does not make 1 known to the stage",
             "block 7 assumes 1.11, too, but a path that has `?.` right after its variable decides before others"
         ]
     );
     assert_eq!(
         cut("scope 7 block 7 assumes 1, 1.10?.11, 1.10.12 candidate 1.10.13"),
         [
-            "block 7 assumes 1.10?.11; that leaves open whether 1.10 is there",
+            "block 7 assumes 1.10?.11; that does not make 1.10 known to the stage",
             "block 7 assumes 1.10.12, too, but of two such paths the one that the stage met first decides"
         ]
     );
@@ -355,7 +355,7 @@ fn a_path_that_leaves_the_base_open_is_told_with_the_block_that_it_comes_from() 
     assert_eq!(
         cut(job),
         [
-            "block 2 has 1?.10 from block 1, which assumes it; that leaves open whether 1 is there",
+            "block 2 has 1?.10 from block 1, which assumes it; that does not make 1 known to the stage",
             "block 2 assumes 1.11, too, but a path that has `?.` right after its variable decides before others"
         ]
     );
@@ -365,7 +365,7 @@ fn a_path_that_leaves_the_base_open_is_told_with_the_block_that_it_comes_from() 
 candidate 1.12
  returned 1
     .12  is cut: 1 is not known to be there in block 2
-         block 2 has 1?.10 [1]; that leaves open whether 1 is there
+         block 2 has 1?.10 [1]; that does not make 1 known to the stage
          block 2 has 1.11 [2], too, but a path that has `?.` right after its variable decides before others
 
 [1] how 1?.10 came there
@@ -390,14 +390,14 @@ candidate 1?.10
 candidate 2?.10?.11
  returned 2?.10.11
     ?.10  stays optional: 2 is not known to be there in block 7
-          block 7 assumes 2?.10; that leaves open whether 2 is there
+          block 7 assumes 2?.10; that does not make 2 known to the stage
           no block assumes 2
     ?.11  becomes .11: 2?.10 is known to be there in block 7; block 7 assumes it
 
 candidate 2?.10?.11.12
  returned 2?.10.11
     ?.10  stays optional: 2 is not known to be there in block 7
-          block 7 assumes 2?.10; that leaves open whether 2 is there
+          block 7 assumes 2?.10; that does not make 2 known to the stage
           no block assumes 2
     ?.11  becomes .11: 2?.10 is known to be there in block 7; block 7 assumes it
     .12   is cut: 2?.10.11 is not known to be there in block 7

@@ -8,7 +8,7 @@ pub(super) fn shows(path: &Path, base: &Path) -> bool {
     base.names_start(path) && !goes_on_optional(path, base)
 }
 
-/// Whether the path leaves open whether the base is there: it goes on from it by `?.`.
+/// Whether the path goes on from the base by `?.`, so that by it the stage does not know the base.
 pub(super) fn leaves_open(path: &Path, base: &Path) -> bool {
     base.names_start(path) && goes_on_optional(path, base)
 }

@@ -71,10 +71,10 @@ pub fn check_unknown(world: &World, base: &Path, said: &str, sections: &[Section
         assert!(!assumed.any(|path| shows(path, base)) && world.having(base).is_empty(), "{said}");
         return "no block";
     }
-    if let Some(found) = holes(&format!("{{}}, which leaves open whether {shown} is there"), said) {
+    if let Some(found) = holes(&format!("{{}}, which does not make {shown} known to the stage"), said) {
         return check_assumed_open(world, base, found[0]);
     }
-    if let Some(found) = holes(&format!("{{}}; that leaves open whether {shown} is there"), said) {
+    if let Some(found) = holes(&format!("{{}}; that does not make {shown} known to the stage"), said) {
         return check_open(world, base, found[0], sections);
     }
     if let Some(found) = holes("{}, too, but {}", said) {

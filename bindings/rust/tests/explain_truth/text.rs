@@ -155,7 +155,7 @@ fn check_complete(world: &World, base: &Path, said: &[&str]) {
     let scope = world.job.scope();
     let starts = [format!("block {scope} has "), format!("block {scope} assumes ")];
     let is_own = |line: &str| starts.iter().any(|start| line.starts_with(start));
-    let own = |line: &&&str| is_own(line) && line.contains("; that leaves open");
+    let own = |line: &&&str| is_own(line) && line.contains("; that does not make");
     let is_open = world.deciding().iter().any(|path| base.names_start(path));
     assert_eq!(said.iter().filter(own).count(), usize::from(is_open), "{said:?}");
     let unsettled = said.iter().filter(|line| line.contains("before it had settled")).count();

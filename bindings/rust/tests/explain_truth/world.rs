@@ -44,7 +44,7 @@ pub fn shows(path: &Path, base: &Path) -> bool {
     base.names_start(path) && next.is_none_or(|entry| !entry.optional)
 }
 
-/// Whether a path leaves open whether the base is there.
+/// Whether a path goes on from the base by `?.`, so that by it the stage does not know the base.
 pub fn leaves_open(path: &Path, base: &Path) -> bool {
     base.names_start(path) && !shows(path, base)
 }

@@ -20,7 +20,7 @@ pub(super) fn unknown(text: &Text, why: &Unknown) -> Vec<String> {
 }
 
 fn leaves_open(text: &Text, base: &Path) -> String {
-    format!("leaves open whether {} is there", text.path(base))
+    format!("does not make {} known to the stage", text.path(base))
 }
 
 /// That the scope block has a path: from where, or where it is told.
