@@ -1,9 +1,10 @@
 -- The graph of blocks that refusals 7 and 8 let pass: its edges are the predecessors that the
--- blocks name, a block's place is its own, and successors are the converse of predecessors.
+-- blocks name, a block's place is its own, successors are the converse of predecessors, and no
+-- neighbour of a block stands twice.
 use Prim.Native.Nat.{ℕ, zero, suc, _+_, _≤_, _<_}
 use native.Mathlib.Nat.{not-suc-le-zero}
 use native.Mathlib.Omega.{arith}
-use mathlib.Core.Path.{_≡_, sym, ap, subst, _∙_}
+use mathlib.Core.Path.{_≡_, refl, sym, ap, subst, _∙_}
 use mathlib.Core.Logic.{_⊎_, inl, inr}
 use mathlib.Core.Bool.{true, false, _||_, not, cond}
 use mathlib.Core.List.{List, [], _∷_, _++_, map}
@@ -13,7 +14,7 @@ use borrow.Author.Tests.{not-false}
 use Rattle.entries.specs.declared.BlockId.{BlockId}
 use Rattle.model.specs.Lists.{select, anyOf}
 use Rattle.model.specs.Tests.{by-cond, decide, never, eqb-same, eqb-true, eqb-false, or-cases, or-second}
-use Rattle.model.specs.ListLaws.{All, all-map, all-select, all-getD}
+use Rattle.model.specs.ListLaws.{All, all-map, all-both, all-select, all-getD, NoRepeats, no-repeats-select}
 use Rattle.model.specs.Rounds.{jobOrder}
 use Rattle.model.specs.Propagation.{Graph}
 use Rattle.model.specs.Job.{Block, Job, sameBlock, containsId, repeats, idsOf, hasRepeat, hasUnknown}
@@ -39,7 +40,7 @@ use Rattle.laws.specs.Membership.{
   some-unmap,
 }
 use Rattle.laws.specs.VisitOrder.{Reach, one, more}
-use Rattle.laws.specs.Places.{order-below, order-member}
+use Rattle.laws.specs.Places.{order-below, order-member, order-once}
 
 -- Ids.
 
@@ -130,11 +131,30 @@ module _ (P : ℕ → Type 0) (bs : List Block) where
   sort-some (k ∷ ks) (inl p) = insert-some k (sortById bs ks) (inl p)
   sort-some (k ∷ ks) (inr s) = insert-some k (sortById bs ks) (inr (sort-some ks s))
 
+module _ (bs : List Block) where
+  insert-once : (k : ℕ) (js : List ℕ) → All (λ j. j ≡ k → ⊥) js → NoRepeats js → NoRepeats (insertById bs k js)
+  insert-once k [] a n = (tt, tt)
+  insert-once k (j ∷ js) a n =
+      by-cond NoRepeats (ltb (blockAt bs k .id .0) (blockAt bs j .id .0)) (λ t. (a, n))
+      (λ t. (insert-all (λ i. i ≡ j → ⊥) bs k js (λ e. a .0 (sym e)) (n .0), insert-once k js (a .1) (n .1)))
+
+  sort-once : (ks : List ℕ) → NoRepeats ks → NoRepeats (sortById bs ks)
+  sort-once [] n = tt
+  sort-once (k ∷ ks) n = insert-once k (sortById bs ks) (sort-all (λ j. j ≡ k → ⊥) bs ks (n .0)) (sort-once ks (n .1))
+
+  -- By their definition no successor of a block stands twice, whatever the blocks name.
+  pub successors-once : (b : ℕ) → NoRepeats (successorsOf bs b)
+  unfolding successorsOf byAscendingId
+  successors-once b =
+      no-repeats-select (λ c. containsId (blockAt bs c .predecessors) (blockAt bs b .id)) (byAscendingId bs)
+      (sort-once (jobOrder (length bs)) (order-once (length bs)))
+
 -- The edges.
 
--- no id stands twice, and each predecessor is a block
+-- no id stands twice, nor a predecessor within one block, and each predecessor is a block
 pub record ProperBlocks (bs : List Block) : Type 0 where
   pub distinct : repeats (idsOf bs) ≡ false
+  pub predecessors-distinct : All (λ b. repeats (b .predecessors) ≡ false) bs
   pub known : All (λ b. All (λ i. Member i (idsOf bs)) (b .predecessors)) bs
 
 -- the blocks of a job that refusals 7 and 8 let pass
@@ -146,6 +166,7 @@ proper-blocks j r u =
     (not (containsId ids (j .scope))) u .0 in
     record {
       distinct = neither (repeats ids) _ r .0;
+      predecessors-distinct = none-any (λ (b : Block). repeats (b .predecessors)) (j .blocks) (neither (repeats ids) _ r .1);
       known = all-map (λ (b : Block). anyOf (λ i. not (containsId ids i)) (b .predecessors) ≡ false)
           (λ b. All (λ i. Member i ids) (b .predecessors))
           (λ b h. all-map (λ i. not (containsId ids i) ≡ false) (λ i. Member i ids)
@@ -240,3 +261,29 @@ module _ (bs : List Block) (ok : ProperBlocks bs) where
   pub reach-back : {a b : ℕ} → a < length bs → Reach (successorsOf bs) a b → Reach (predecessorsOf bs) b a
   reach-back {a} {b} h (one m) = one (successor-predecessor a b h m)
   reach-back {b = c} h (more {b = b} r m) = reach-first (successor-predecessor b c (reach-inside r) m) (reach-back h r)
+
+  -- No predecessor of a block stands twice.
+
+  -- known ids with one place are one id
+  place-apart : (i k : BlockId) → Member i (idsOf bs) → Member k (idsOf bs) → sameBlock i k ≡ false → placeOf bs k ≡ placeOf bs i → ⊥
+  place-apart i k here there apart e =
+      let same : k ≡ i = sym (place-known bs k there .1) ∙ ap (λ p. blockAt bs p .id) e ∙ place-known bs i here .1 in
+      never (ap (sameBlock i) same ∙ eqb-same (i .0)) apart
+
+  ids-once : (ids : List BlockId) → All (λ i. Member i (idsOf bs)) ids → repeats ids ≡ false → NoRepeats (map (placeOf bs) ids)
+  ids-once [] known r = tt
+  ids-once (i ∷ ids) known r =
+      let apart = neither (containsId ids i) (repeats ids) r in (
+        all-of-map (λ p. p ≡ placeOf bs i → ⊥) (placeOf bs) ids
+            (all-map (λ k. Member k (idsOf bs) × (sameBlock i k ≡ false)) (λ k. placeOf bs k ≡ placeOf bs i → ⊥)
+            (λ k h. place-apart i k (known .0) (h .0) (h .1)) ids
+            (all-both (λ k. Member k (idsOf bs)) (λ k. sameBlock i k ≡ false) ids (known .1) (none-any (sameBlock i) ids (apart .0)))),
+        ids-once ids (known .1) (apart .1),
+      )
+
+  -- By refusal 7 no id of a predecessor stands twice, and by refusal 8 each has a place of its own.
+  pub predecessors-once : (b : ℕ) → NoRepeats (predecessorsOf bs b)
+  unfolding predecessorsOf
+  predecessors-once b =
+      ids-once (blockAt bs b .predecessors) (known-at b)
+      (all-getD (λ c. repeats (c .predecessors) ≡ false) bs b _ (ok .predecessors-distinct) refl)

@@ -1,6 +1,7 @@
 -- lists
 pub mod Membership
 pub mod CountLaws
+pub mod Intersections
 -- the graph and its walks
 pub mod Places
 pub mod VisitOrder

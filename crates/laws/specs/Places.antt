@@ -1,10 +1,11 @@
--- The orders of the walks hold each block's place.
+-- Job order holds each block's place, and once.
 use Prim.Native.Nat.{ℕ, zero, suc, _+_, _≤_, _<_}
 use native.Mathlib.Omega.{arith}
+use mathlib.Core.Path.{_≡_}
 use mathlib.Core.Logic.{_⊎_, inl, inr}
 use lib.Dec.{eqb}
 use Rattle.model.specs.Tests.{decide, eqb-true, eqb-false}
-use Rattle.model.specs.ListLaws.{All, all-map}
+use Rattle.model.specs.ListLaws.{All, all-map, NoRepeats}
 use Rattle.model.specs.Rounds.{placesFrom, jobOrder}
 use Rattle.laws.specs.Membership.{Member}
 
@@ -31,3 +32,25 @@ places-member k (suc n) b low high =
 pub order-member : (n b : ℕ) → b < n → Member b (jobOrder n)
 unfolding jobOrder
 order-member n b h = places-member zero n b (omega arith) (omega arith)
+
+places-from : (k n : ℕ) → All (λ b. k ≤ b) (placesFrom k n)
+unfolding placesFrom
+places-from k zero = tt
+places-from k (suc n) = (
+  omega arith,
+  all-map (λ b. suc k ≤ b) (λ b. k ≤ b) (λ b h. omega arith) (placesFrom (suc k) n)
+      (places-from (suc k) n),
+)
+
+places-once : (k n : ℕ) → NoRepeats (placesFrom k n)
+unfolding placesFrom
+places-once k zero = tt
+places-once k (suc n) = (
+  all-map (λ b. suc k ≤ b) (λ b. b ≡ k → ⊥) (λ b h e. omega arith) (placesFrom (suc k) n)
+      (places-from (suc k) n),
+  places-once (suc k) n,
+)
+
+pub order-once : (n : ℕ) → NoRepeats (jobOrder n)
+unfolding jobOrder
+order-once n = places-once zero n

@@ -53,3 +53,15 @@ module _ {A : Type 0} where
 pub all-mapped : {A B : Type 0} (P : B → Type 0) (f : A → B) (xs : List A) → ((x : A) → P (f x)) → All P (map f xs)
 all-mapped P f [] h = tt
 all-mapped P f (x ∷ xs) h = (h x, all-mapped P f xs h)
+
+-- No number stands twice in a list ("each once": document 02, E3).
+abbrev pub NoRepeats : List ℕ → Type 0
+NoRepeats [] = Unit {0}
+NoRepeats (k ∷ ks) = All (λ j. j ≡ k → ⊥) ks × NoRepeats ks
+
+-- What a test chooses from such a list has no repeats either.
+pub no-repeats-select : (test : ℕ → Bool) (ks : List ℕ) → NoRepeats ks → NoRepeats (select test ks)
+no-repeats-select test [] n = tt
+no-repeats-select test (k ∷ ks) n =
+    by-cond NoRepeats (test k) (λ e. (all-select (λ j. j ≡ k → ⊥) test ks (n .0), no-repeats-select test ks (n .1)))
+    (λ e. no-repeats-select test ks (n .1))

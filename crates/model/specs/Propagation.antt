@@ -29,7 +29,8 @@ JoiningRule = List TraversalState → List ℕ → List ℕ
 unfoldable pub doneNeighbours : JoiningRule
 doneNeighbours marks bs = select (λ b. isDone (getD marks b Unmarked)) bs
 
--- "The intersection of its Done neighbours' sets (none Done: nothing joins)"
+-- The intersection of some sets, and of none the empty one: "the intersection of its Done
+-- neighbours' sets (none Done: nothing joins)".
 unfoldable pub intersectionOf : List NodeSet → NodeSet
 intersectionOf [] = []
 intersectionOf (s ∷ ss) = foldl intersection s ss
