@@ -4,9 +4,8 @@ use Prim.Native.Nat.{ℕ, zero, suc, _+_, _*_, _-_, _/_, _%_, _≤_, _<_}
 use native.Mathlib.Omega.{arith}
 use native.Mathlib.Numerals.{add-one}
 use mathlib.Core.Bool.{Bool, true, false}
-use mathlib.Core.Path.{_≡_, ap, subst, _∙_}
+use mathlib.Core.Path.{_≡_, sym, ap, subst, _∙_}
 use mathlib.Core.List.{List, [], _∷_, map}
-use lib.ListN.{getD}
 use Rattle.model.specs.Lists.{select}
 use Rattle.model.specs.Rounds.{placesFrom}
 use Rattle.rows.specs.Members.{bit}
@@ -22,6 +21,7 @@ use Rattle.graph.specs.Bytes.{
   GraphFits,
   Next,
   Finds,
+  HoldsBits,
   Lowest,
 }
 use Rattle.graph.specs.declared.Neighbour.{Neighbour}
@@ -88,30 +88,30 @@ module _ {g : List ℕ} {b : ℕ} (fits : GraphFits g) (here : b < sizeIn g) whe
   none-past false from l = let d = fits .degree b here in no-predecessor g b from (omega arith)
   none-past true from l = no-successor g b from l
 
-  -- the byte of rank r, whose lowest bit from there on is bit m
-  module _ (r m : ℕ) (small : r < 128) (lowest : Lowest (getD g (8448 + b * 16 + r / 8) 0) (r % 8) m) where
-    in-byte : (j : ℕ) → r ≤ j → j < r / 8 * 8 + 8 → isSuccessor g b j ≡ bit (getD g (8448 + b * 16 + r / 8) 0) (j % 8)
-    in-byte j h l = let e : j / 8 ≡ r / 8 = omega arith in ap (λ (i : ℕ). bit (getD g (8448 + b * 16 + i) 0) (j % 8)) e
+  -- the word of rank r, whose lowest bit from there on is bit m
+  module _ (r w m : ℕ) (small : r < 128) (holds : HoldsBits g b (r / 64) w) (lowest : Lowest w (r % 64) m) where
+    in-word : (j : ℕ) → r ≤ j → j < r / 64 * 64 + 64 → isSuccessor g b j ≡ bit w (j % 64)
+    in-word j h l = let e : j ≡ r / 64 * 64 + j % 64 = omega arith in ap (isSuccessor g b) e ∙ sym (holds (j % 64) (omega arith))
 
-    pub passed : successorsFrom g b r ≡ successorsFrom g b (r / 8 * 8 + m)
+    pub passed : successorsFrom g b r ≡ successorsFrom g b (r / 64 * 64 + m)
     passed =
         let a = lowest .above in
-        let w = lowest .within in
-        none-among g b (r / 8 * 8 + m - r) r (omega arith)
-        (λ j h l. in-byte j h (omega arith) ∙ lowest .none (j % 8) (omega arith) (omega arith))
+        let i = lowest .within in
+        none-among g b (r / 64 * 64 + m - r) r (omega arith)
+        (λ j h l. in-word j h (omega arith) ∙ lowest .none (j % 64) (omega arith) (omega arith))
         ∙ ap (successorsFrom g b) (omega arith)
 
-    pub successor-next : (start k : ℕ) → start ≤ r → successorsFrom g b start ≡ successorsFrom g b r → m < 8 → k ≡ blockOfRank g (r / 8 * 8 + m)
-        → Next g true b start k (r / 8 * 8 + m + 1)
+    pub successor-next : (start k : ℕ) → start ≤ r → successorsFrom g b start ≡ successorsFrom g b r → m < 64 → k ≡ blockOfRank g (r / 64 * 64 + m)
+        → Next g true b start k (r / 64 * 64 + m + 1)
     successor-next start k le same l found =
         let a = lowest .above in
-        let e : (r / 8 * 8 + m) % 8 ≡ m = omega arith in
-        let set : isSuccessor g b (r / 8 * 8 + m) ≡ true = in-byte (r / 8 * 8 + m) (omega arith) (omega arith) ∙ rw e (lowest .found l) in
+        let e : (r / 64 * 64 + m) % 64 ≡ m = omega arith in
+        let set : isSuccessor g b (r / 64 * 64 + m) ≡ true = in-word (r / 64 * 64 + m) (omega arith) (omega arith) ∙ rw e (lowest .found l) in
         record {
-          inside = rw found (fits .successor b (r / 8 * 8 + m) here (omega arith) set);
+          inside = rw found (fits .successor b (r / 64 * 64 + m) here (omega arith) set);
           onward = omega arith;
           within = omega arith;
-          rest = same ∙ passed ∙ successor-here g b (r / 8 * 8 + m) (omega arith) set ∙ rw found;
+          rest = same ∙ passed ∙ successor-here g b (r / 64 * 64 + m) (omega arith) set ∙ rw found;
         }
 
 -- An answer by its case.

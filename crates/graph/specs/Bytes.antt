@@ -8,6 +8,7 @@ use lib.ListN.{getD}
 use Rattle.model.specs.Lists.{select}
 use Rattle.model.specs.Rounds.{placesFrom}
 use Rattle.model.specs.Propagation.{Graph}
+use Rattle.model.specs.ListLaws.{NoRepeats}
 use Rattle.rows.specs.Members.{bit}
 use Rattle.graph.specs.declared.Neighbour.{Neighbour}
 use Rattle.graph.specs.declared.Neighbour.the-variants.{At, Nothing}
@@ -67,6 +68,10 @@ pub record GraphFits (g : List ℕ) : Type 0 where
   pub successor : (b r : ℕ) → b < sizeIn g → r < 128 → isSuccessor g b r ≡ true → blockOfRank g r < sizeIn g
   pub low : (b r : ℕ) → b < sizeIn g → r < 128 - sizeIn g → isSuccessor g b r ≡ false
 
+-- No neighbour of a block stands twice among its neighbours.
+abbrev pub NeighboursOnce : List ℕ → Type 0
+NeighboursOnce g = (backward : Bool) (b : ℕ) → b < sizeIn g → NoRepeats (neighbours g backward b)
+
 -- k is the next neighbour, and the others come from number `next` on
 pub record Next (g : List ℕ) (backward : Bool) (b from k next : ℕ) : Type 0 where
   pub inside : k < sizeIn g
@@ -79,9 +84,13 @@ abbrev pub Finds : List ℕ → Bool → ℕ → ℕ → Neighbour → Type 0
 Finds g backward b from (At k next) = Next g backward b from k next
 Finds g backward b from Nothing = neighboursFrom g backward b from ≡ []
 
--- The lowest bit of a byte that is set at place m or above; 8 where there is none.
+-- Bit j of the word w says whether the block of rank 64 * half + j is a successor of block b.
+abbrev pub HoldsBits : List ℕ → ℕ → ℕ → ℕ → Type 0
+HoldsBits g b half w = (j : ℕ) → j < 64 → bit w j ≡ isSuccessor g b (half * 64 + j)
+
+-- The lowest set bit of a word w from bit m on is bit k; 64 where there is none.
 pub record Lowest (w m k : ℕ) : Type 0 where
   pub above : m ≤ k
-  pub within : k ≤ 8
+  pub within : k ≤ 64
   pub none : (j : ℕ) → m ≤ j → j < k → bit w j ≡ false
-  pub found : k < 8 → bit w k ≡ true
+  pub found : k < 64 → bit w k ≡ true

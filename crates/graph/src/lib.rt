@@ -6,7 +6,7 @@
 ghost use mathlib.Core.Path.{_≡_};
 ghost use mathlib.Core.Bool.{true, false};
 ghost use Prim.Native.Nat.{_<_};
-ghost use Rattle.graph.specs.Bytes.{sizeIn, GraphFits, Finds, Lowest};
+ghost use Rattle.graph.specs.Bytes.{sizeIn, GraphFits, Finds, HoldsBits, Lowest};
 
 // The next neighbour of a block, and from where on the one after it is looked for.
 pub enum Neighbour {
@@ -21,21 +21,46 @@ pub fn as_number(x: u8) -> usize
     x as usize
 }
 
+// A byte as a word, so that others can be put above it.
+fn as_word(x: u8) -> u64
+    ensures { λ r. ⌜ (r ≡ x) × (r < 256) ⌝ }
+{
+    x as u64
+}
+
 pub fn size(graph: &[u8; 10497]) -> usize
     ensures { λ r. ⌜ r ≡ sizeIn (now (graph .entry)) ⌝ }
 {
     as_number(graph[10496])
 }
 
-fn lowest_bit(w: u8, from: usize) -> usize
-    requires { ⌜ from < 8 ⌝ }
+// Bit j says whether the block of rank 64 * half + j is a successor of block b. The eight bytes are
+// loaded at once, as compiled.
+fn successor_bits(graph: &[u8; 10497], b: usize, half: usize) -> u64
+    requires { ⌜ (b < 128) × (half < 2) ⌝ }
+    ensures { λ r. ⌜ HoldsBits (now (graph .entry)) b half r ⌝ }
+{
+    let at = 8448 + b * 16 + half * 8;
+    as_word(graph[at])
+        | as_word(graph[at + 1]) << 8
+        | as_word(graph[at + 2]) << 16
+        | as_word(graph[at + 3]) << 24
+        | as_word(graph[at + 4]) << 32
+        | as_word(graph[at + 5]) << 40
+        | as_word(graph[at + 6]) << 48
+        | as_word(graph[at + 7]) << 56
+}
+
+// The lowest set bit of a word from a bit on; 64 where there is none.
+fn lowest_bit(w: u64, from: usize) -> usize
+    requires { ⌜ from < 64 ⌝ }
     ensures { λ r. ⌜ Lowest w from r ⌝ }
 {
     let left = w >> from;
     if left == 0 {
-        return 8;
+        return 64;
     }
-    let passed = u8::trailing_zeros(left) as usize;
+    let passed = u64::trailing_zeros(left) as usize;
     from + passed
 }
 
@@ -52,7 +77,7 @@ fn next_predecessor(graph: &[u8; 10497], b: usize, from: usize) -> Neighbour
     }
 }
 
-// The blocks have the last ranks, so a search from below them starts at the first. A byte with no
+// The blocks have the last ranks, so a search from below them starts at the first. A word with no
 // bit left is passed in one test.
 fn next_successor(graph: &[u8; 10497], b: usize, from: usize) -> Neighbour
     requires { ⌜ GraphFits (now graph) × (b < sizeIn (now graph)) ⌝ }
@@ -64,10 +89,10 @@ fn next_successor(graph: &[u8; 10497], b: usize, from: usize) -> Neighbour
         r = first;
     }
     while r < 128 {
-        let at = r / 8;
-        let bit = lowest_bit(graph[8448 + b * 16 + at], r % 8);
-        let rank = at * 8 + bit;
-        if bit < 8 {
+        let at = r / 64;
+        let bit = lowest_bit(successor_bits(graph, b, at), r % 64);
+        let rank = at * 64 + bit;
+        if bit < 64 {
             let k = as_number(graph[8320 + rank]);
             return Neighbour::At(k, rank + 1);
         }

@@ -1,7 +1,7 @@
 -- `next_successor` meets its contract. The loop's invariant: what is still to come from `r` on is
 -- what is still to come from `from` on. It holds at the start, since no bit is set below the
--- blocks' ranks. The lowest bit from there in the byte of `r` is that of the next successor; where
--- the byte has none left, the next byte is as good a place to start. The measure is what is left of
+-- blocks' ranks. The lowest bit from there in the word of `r` is that of the next successor; where
+-- the word has none left, the next word is as good a place to start. The measure is what is left of
 -- 128.
 use Prim.Native.Nat.{_-_, _≤_}
 use native.Mathlib.Omega.{arith}
@@ -31,19 +31,24 @@ loop-holds c =
 returns : tie.Need-returns Inv-loop μ-loop
 returns c =
     let t = c .before .before in
-    let l = t .before .before .before .before .before in
+    let w = t .before .before in
+    let l = w .before .before .before in
     let s = l .before .before .before in
-    successor-next (s .pre .0) (s .pre .1) (l .loop .r) (t .before .lowest-bit .result) (t .before .before .before .before .loop-test .taken)
-    (t .before .lowest-bit .ensures)
+    successor-next (s .pre .0) (s .pre .1) (l .loop .r) (w .successor-bits .result) (t .before .lowest-bit .result) (w .before .before .loop-test .taken)
+    (w .successor-bits .ensures) (t .before .lowest-bit .ensures)
     (s .args .from) _ (l .loop .inv .0) (l .loop .inv .1) (t .if2 .taken) (c .as-number .ensures)
 
 loop-again : tie.Need-loop-again Inv-loop μ-loop
 loop-again c =
     let m = c .before .lowest-bit in
-    let l = c .before .before .before .before .before in
+    let w = c .before .before in
+    let l = w .before .before .before in
     let s = l .before .before .before in
-    let a = m .ensures .above in
-    (omega arith, l .loop .inv .1 ∙ passed (s .pre .0) (s .pre .1) (l .loop .r) (m .result) (c .before .before .before .before .loop-test .taken) (m .ensures))
+    let a = m .ensures .above in (
+      omega arith,
+      l .loop .inv .1 ∙ passed (s .pre .0) (s .pre .1) (l .loop .r) (w .successor-bits .result) (m .result) (w .before .before .loop-test .taken)
+          (w .successor-bits .ensures) (m .ensures),
+    )
 
 returns-2 : tie.Need-returns-2 Inv-loop μ-loop
 returns-2 c =
@@ -60,10 +65,7 @@ next-successor-spec =
     (λ c κs. search needs)
     (λ c. search needs)
     loop-holds
-    (λ c. search needs)
-    (λ c. search needs)
-    (λ c. search needs)
-    (λ c. search needs)
+    (λ c κs. search needs)
     (λ c κs. search needs)
     (λ c. search needs)
     (λ c. search needs)
