@@ -3,3 +3,4 @@ pub mod Words
 pub mod Members
 pub mod Ahead
 pub mod Rows
+pub mod Intersections

@@ -2,9 +2,11 @@
 // lends. The contracts speak of the ascending lists that the words stand for.
 use entries::NodeId;
 ghost use mathlib.Core.Path.{_≡_};
-ghost use mathlib.Core.List.{[]};
+ghost use mathlib.Core.List.{[], map};
 ghost use Prim.Native.Nat.{_<_};
+ghost use Rattle.model.specs.ListLaws.{All, NoRepeats};
 ghost use Rattle.model.specs.Sets.{contains, insert, remove, union, intersection, sameSet};
+ghost use Rattle.model.specs.Propagation.{intersectionOf};
 ghost use Rattle.rows.specs.Members.{membersOf, membersFrom, firstOf};
 ghost use Rattle.rows.specs.Rows.{Lent, RowSet, rowOf};
 
@@ -96,6 +98,27 @@ impl NodeBits {
         }
     }
 
+    // The intersection with row b, whose words are read where they stand.
+    fn intersection_with_row(self, ws: &[u64; 1024], b: usize) -> NodeBits
+        requires { ⌜ b < 128 ⌝ }
+        ensures { λ r. ⌜ membersOf (r .words) ≡ intersection (membersOf (self .words)) (rowOf (now (ws .entry)) b) ⌝ }
+    {
+        let a = self.words;
+        let at = b * 8;
+        NodeBits {
+            words: [
+                a[0] & ws[at],
+                a[1] & ws[at + 1],
+                a[2] & ws[at + 2],
+                a[3] & ws[at + 3],
+                a[4] & ws[at + 4],
+                a[5] & ws[at + 5],
+                a[6] & ws[at + 6],
+                a[7] & ws[at + 7],
+            ],
+        }
+    }
+
     pub fn same_set(self, other: NodeBits) -> bool
         ensures { λ r. ⌜ r ≡ sameSet (membersOf (self .words)) (membersOf (other .words)) ⌝ }
     {
@@ -150,6 +173,24 @@ pub fn row(ws: &[u64; 1024], b: usize) -> NodeBits
         i += 1;
     }
     NodeBits { words: words }
+}
+
+// The intersection of the rows at these places; of none, the empty set. Each place stands once, as
+// document 02's E3 says; the result does not depend on it.
+pub fn intersection_of_rows(ws: &[u64; 1024], places: &[u8]) -> NodeBits
+    requires { ⌜ All (λ b. b < 128) (now places) × NoRepeats (now places) ⌝ }
+    ensures { λ r. ⌜ membersOf (r .words) ≡ intersectionOf (map (rowOf (now (ws .entry))) (now (places .entry))) ⌝ }
+{
+    if places.len() == 0 {
+        return NodeBits { words: [0; 8] };
+    }
+    let mut found = row(ws, places[0] as usize);
+    let mut i: usize = 1;
+    while i < places.len() {
+        found = found.intersection_with_row(ws, places[i] as usize);
+        i += 1;
+    }
+    found
 }
 
 pub fn set_row(ws: &mut [u64; 1024], b: usize, s: NodeBits)
