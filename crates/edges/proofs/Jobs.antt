@@ -4,14 +4,14 @@ use Prim.Native.Nat.{ℕ, zero, suc, _+_, _-_, _≤_, _<_}
 use native.Mathlib.Omega.{arith}
 use native.Mathlib.Nat.{zero-add}
 use mathlib.Core.Path.{_≡_, refl, sym, ap, subst, _∙_}
-use mathlib.Core.Bool.{Bool, false}
+use mathlib.Core.Bool.{Bool, true, false}
 use mathlib.Core.List.{List, [], _∷_, map}
 use lib.ListN.{length, getD, set, drop, replicate}
 use lib.Seq.{getD-drop}
 use lib.Dec.{eqb, leb, ltb, leb→le, le→leb}
 use Rattle.entries.specs.declared.BlockId.{BlockId}
 use Rattle.model.specs.Lists.{select, anyOf}
-use Rattle.model.specs.ListLaws.{All, all-map, all-getD}
+use Rattle.model.specs.ListLaws.{All, all-map, all-getD, NoRepeats}
 use Rattle.model.specs.Tests.{decide, never, passes-test, test-passes, eqb-same, eqb-equal, eqb-apart, ltb-true, ltb-false}
 use Rattle.model.specs.ReadingBytes.{got, readMany}
 use Rattle.model.specs.Job.{Block, Job, readBlockId, sameBlock, containsId, idsOf}
@@ -23,7 +23,18 @@ use Rattle.job.proofs.Many.{many-all}
 use Rattle.job.proofs.BlocksAt.{blocks-read, job-accepted, same-job, block-there}
 use Rattle.job.proofs.RecordParts.{block-parts}
 use Rattle.laws.specs.Membership.{Member}
-use Rattle.laws.specs.GraphLaws.{ProperBlocks, proper-blocks, place-own, place-known, known-at, same-block, predecessors-inside}
+use Rattle.laws.specs.GraphLaws.{
+  ProperBlocks,
+  proper-blocks,
+  place-own,
+  place-known,
+  known-at,
+  same-block,
+  predecessors-inside,
+  predecessors-once,
+  successors-once,
+}
+use Rattle.graph.specs.Bytes.{neighbours}
 use Rattle.edges.specs.Rows.{idsFrom, idsNoted, placeAmong, place-among, placesNoted, rowsAt, RowsFilled}
 use Rattle.edges.specs.Order.{insertByNumber, sortByNumber, Ordered}
 use Rattle.edges.specs.Successors.{RanksFit, AllMarked}
@@ -184,11 +195,28 @@ module _ (s ids places : List ℕ) (n : ℕ) (job : NotedJob s ids places n) (g�
   graph-ranks = ranks-fit (rowsAt s ids places n) n (sortByNumber ids (placesFrom 0 n)) g₀ g₁ g₂ (job .few) few small x₁ x₂ inside
 
   module _ (g₃ : List ℕ) (zeros : (p : ℕ) → 8448 ≤ p → getD g₀ p 0 ≡ 0) (x₃ : AllMarked g₂ g₃ (128 - n) 128) where
+    held-predecessors : (b : ℕ) → b < n → neighbours (set g₃ 10496 n) false b ≡ predecessorsOf (job .job .blocks) b
+    held-predecessors b l =
+        predecessors-are (rowsAt s ids places n) n (sortByNumber ids (placesFrom 0 n)) g₀ g₁ g₂ (job .few) few small x₁ x₂ inside g₃ zeros x₃ b l
+        ∙ row-is s ids places n (job .job) (job .blocks) (job .numbers) b l
+
+    held-successors : (b : ℕ) → b < n → neighbours (set g₃ 10496 n) true b ≡ successorsOf (job .job .blocks) b
+    held-successors b l =
+        let count = job .blocks .count in
+        let most = job .few in
+        successors-are (rowsAt s ids places n) n (sortByNumber ids (placesFrom 0 n)) g₀ g₁ g₂ most few small x₁ x₂ inside g₃ zeros x₃ b (omega arith)
+        ∙ ap (select (λ c. anyOf (eqb b) (rowsAt s ids places n c))) (order-is s ids places n (job .job) (job .blocks) (job .numbers))
+        ∙ successors-named s ids places n (job .job) (job .blocks) (job .numbers) b (omega arith)
+
+    held-once : (backward : Bool) (b : ℕ) → b < n → NoRepeats (neighbours (set g₃ 10496 n) backward b)
+    held-once false b l = subst NoRepeats (sym (held-predecessors b l))
+        (predecessors-once (job .job .blocks) (proper s ids places n (job .job) (job .blocks) (job .numbers)) b)
+    held-once true b l = subst NoRepeats (sym (held-successors b l))
+        (successors-once (job .job .blocks) b)
+
     job-held : HoldsGraph (job .job .blocks) (set g₃ 10496 n)
     job-held =
-        let bs = job .job .blocks in
         let at = job .blocks in
-        let noted = job .numbers in
         let most = job .few in
         let count = at .count in
         let rows = rowsAt s ids places n in
@@ -212,13 +240,10 @@ module _ (s ids places : List ℕ) (n : ℕ) (job : NotedJob s ids places n) (g�
                 (λ f. never e (below b r (omega arith) (not-from (128 - n) r f))));
             low = λ b r l h. below b r (omega arith) (omega arith);
           };
+          once = λ backward b l. held-once backward b (omega arith);
           size = size ∙ sym count;
-          predecessors = λ b l. predecessors-are rows n order g₀ g₁ g₂ most few small x₁ x₂ inside g₃ zeros x₃ b (omega arith) ∙ row-is s ids places n
-              (job .job) at noted b (omega arith);
-          successors = λ b l.
-              successors-are rows n order g₀ g₁ g₂ most few small x₁ x₂ inside g₃ zeros x₃ b (omega arith)
-              ∙ ap (select (λ c. anyOf (eqb b) (rowsAt s ids places n c))) (order-is s ids places n (job .job) at noted)
-              ∙ successors-named s ids places n (job .job) at noted b l;
+          predecessors = λ b l. held-predecessors b (omega arith);
+          successors = λ b l. held-successors b (omega arith);
         }
       where
         all-below : (l : List ℕ) (i m : ℕ) → All (λ c. c < m) l → i < length l → getD l i 0 < m

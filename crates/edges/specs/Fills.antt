@@ -7,23 +7,24 @@ use lib.ListN.{length, getD}
 use Rattle.model.specs.Job.{Block, Job}
 use Rattle.model.specs.Stage.{blockAt, predecessorsOf, successorsOf}
 use Rattle.job.specs.Kept.{BlocksAt}
-use Rattle.graph.specs.Bytes.{sizeIn, neighbours, GraphFits}
+use Rattle.graph.specs.Bytes.{sizeIn, neighbours, GraphFits, NeighboursOnce}
 
 -- The numbers of the blocks' ids are noted.
 abbrev pub IdsAt : List ℕ → Job → Type 0
 IdsAt ids j = (k : ℕ) → k < length (j .blocks) → getD ids k 0 ≡ blockAt (j .blocks) k .id .0
 
--- A job is read, and its n blocks are noted by id and place.
+-- A job is read that refusals 3 to 8 let pass, and its n blocks are noted by id and place.
 pub record NotedJob (s ids places : List ℕ) (n : ℕ) : Type 0 where
   pub job : Job
   pub blocks : BlocksAt s n places job
   pub numbers : IdsAt ids job
   pub few : n ≤ 128
 
--- The bytes hold the graph of these blocks: "predecessors in job order", "successors by ascending
--- id".
+-- The bytes hold the graph of these blocks, "predecessors in job order", "successors by ascending
+-- id", and can be read as one, and no neighbour of a block stands twice.
 pub record HoldsGraph (bs : List Block) (g : List ℕ) : Type 0 where
   pub fits : GraphFits g
+  pub once : NeighboursOnce g
   pub size : sizeIn g ≡ length bs
   pub predecessors : (b : ℕ) → b < length bs → neighbours g false b ≡ predecessorsOf bs b
   pub successors : (b : ℕ) → b < length bs → neighbours g true b ≡ successorsOf bs b

@@ -22,10 +22,23 @@ use Rattle.registry.specs.Words.{registryOf, Held}
 use Rattle.reduction.specs.declared.ReducedSet.{ReducedSet}
 use Rattle.reduction.specs.Reduces.{KnownReduced, reducedOf, Reduces}
 use Rattle.reduction.proofs.Repeats.{reduces-to, reduces-full}
-use Rattle.graph.specs.Bytes.{sizeIn, neighbours}
+use Rattle.graph.specs.Bytes.{sizeIn}
 use Rattle.propagation.specs.declared.Progress.{Progress}
 use Rattle.propagation.specs.declared.Progress.the-variants.{Changed, Full}
-use Rattle.propagation.specs.Joins.{marksOf, workOf, visitedOf, joinIn, setsToJoin, Ready, ReducedBefore, AllReduced, HoldsWork, Joins, Visits}
+use Rattle.propagation.specs.Joins.{
+  marksOf,
+  workOf,
+  visitedOf,
+  joinIn,
+  neighboursToJoin,
+  setsToJoin,
+  Ready,
+  ReducedBefore,
+  AllReduced,
+  HoldsWork,
+  Joins,
+  Visits,
+}
 use Rattle.propagation.proofs.Marks.{mark-set}
 use Rattle.propagation.proofs.Reductions.{stands-proper}
 
@@ -34,12 +47,8 @@ pub record Made (rule : JoiningRule) (g : List ℕ) (backward : Bool) (b : ℕ) 
   pub ready : Ready g sets ws os
   pub inside : b < sizeIn g
   pub own-is : membersOf own ≡ rowOf sets b
-  pub found-is : membersOf found ≡ intersectionOf (setsToJoin rule (sizeIn g) marks sets (neighbours g backward b))
+  pub found-is : membersOf found ≡ intersectionOf (setsToJoin rule g backward b marks sets)
   pub all-is : membersOf all ≡ union (membersOf own) (membersOf found)
-
--- the neighbours that join
-abbrev joining : JoiningRule → List ℕ → Bool → ℕ → List ℕ → List ℕ
-joining rule g backward b marks = rule (marksOf (sizeIn g) marks) (neighbours g backward b)
 
 abbrev want : JoiningRule → List ℕ → Bool → ℕ → List ℕ → List ℕ → List ℕ → Bool → Work
 want rule g backward b marks sets ws changed = joinIn rule g backward b (marksOf (sizeIn g) marks) (workOf (sizeIn g) sets ws changed)
@@ -56,14 +65,14 @@ module _ {rule : JoiningRule} {g : List ℕ} {backward : Bool} {b : ℕ} {marks 
     proper : ProperWork (workOf (sizeIn g) sets ws changed)
     proper = stands-proper (made .ready .stands) changed
 
-    joined-is : membersOf all ≡ joinedSet (joining rule g backward b marks) b (workOf (sizeIn g) sets ws changed)
+    joined-is : membersOf all ≡ joinedSet (neighboursToJoin rule g backward b marks) b (workOf (sizeIn g) sets ws changed)
     unfolding workOf setsToJoin
     joined-is = made .all-is ∙ ap₂ union own-row (made .found-is)
 
     pub join-members : Members (registryOf ws) (membersOf all)
     unfolding workOf
     join-members = subst (Members (registryOf ws)) (sym joined-is)
-        (members-joined (joining rule g backward b marks) b (workOf (sizeIn g) sets ws changed) proper)
+        (members-joined (neighboursToJoin rule g backward b marks) b (workOf (sizeIn g) sets ws changed) proper)
 
     -- the block's own set is reduced where all are
     pub join-known : {later : Bool} → ReducedBefore later (sizeIn g) sets ws → KnownReduced later (registryOf ws) (membersOf own)
@@ -126,7 +135,7 @@ module _ {rule : JoiningRule} {g : List ℕ} {backward : Bool} {b : ℕ} {marks 
             lent = stored .lent;
             held = held .0;
             members = subst (λ (w : Work). All (Members (w .registry)) (w .sets)) became
-                (join-proper (joining rule g backward b marks) b (workOf (sizeIn g) sets ws changed) proper .members);
+                (join-proper (neighboursToJoin rule g backward b marks) b (workOf (sizeIn g) sets ws changed) proper .members);
           };
           same = became;
         }

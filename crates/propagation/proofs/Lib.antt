@@ -1,5 +1,5 @@
 pub mod Marks
-pub mod Intersecting
+pub mod Gathering
 pub mod Reductions
 pub mod Joined
 pub mod Along

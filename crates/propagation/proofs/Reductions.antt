@@ -1,5 +1,5 @@
--- Which sets are reduced already: a visit keeps those that are, and after a forward walk all of
--- them are.
+-- What the rows are between two joins, and which sets are reduced already: a visit keeps those that
+-- are, and after a forward walk all of them are.
 use Prim.Native.Nat.{ℕ, _<_}
 use mathlib.Core.Path.{_≡_, subst}
 use mathlib.Core.Bool.{Bool, false}
@@ -10,8 +10,12 @@ use Rattle.model.specs.RoundsLaws as laws
 use Rattle.model.specs.Propagation.{Work, JoiningRule, join}
 use Rattle.model.specs.PropagationLaws.{ProperWork, join-proper, ReducedAt, join-reduces, join-keeps-reduced}
 use Rattle.graph.specs.Bytes.{sizeIn, neighbours}
-use Rattle.propagation.specs.Joins.{workOf, joinIn, visitIn, RowsStand, AllReduced}
+use Rattle.propagation.specs.Joins.{workOf, joinIn, visitIn, RowsStand, Ready, AllReduced}
 use Rattle.propagation.specs.Propagates.{orderOf, walkIn}
+
+-- Rows that stand again leave all ready: the graph is as it was.
+pub ready-again : {g sets ws os sets′ ws′ os′ : List ℕ} → Ready g sets ws os → RowsStand (sizeIn g) sets′ ws′ os′ → Ready g sets′ ws′ os′
+ready-again r s = record { fits = r .fits; once = r .once; stands = s }
 
 pub stands-proper : {n : ℕ} {sets ws os : List ℕ} → RowsStand n sets ws os → (c : Bool) → ProperWork (workOf n sets ws c)
 unfolding workOf

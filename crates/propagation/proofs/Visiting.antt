@@ -14,6 +14,7 @@ use Rattle.graph.specs.Bytes.{sizeIn, neighboursFrom, neighbours, Next}
 use Rattle.propagation.specs.declared.Progress.{Progress}
 use Rattle.propagation.specs.declared.Progress.the-variants.{Changed, Full}
 use Rattle.propagation.specs.Joins.{marksOf, workOf, visitedOf, joinIn, visitIn, Ready, ReducedBefore, Visits}
+use Rattle.propagation.proofs.Reductions.{ready-again}
 use Rattle.propagation.proofs.Marks.{mark-set, zero-unmarked}
 use Rattle.propagation.proofs.Along.{
   join-adds,
@@ -80,7 +81,7 @@ module _ {rule : JoiningRule} {g : List ℕ} {backward later : Bool} {b : ℕ} {
     {c : Bool} {from : ℕ}
     (l : Looping rule g backward later b marks sets ws os changed marks′ sets′ ws′ os′ c from) where
   pub still-ready : Ready g sets′ ws′ os′
-  still-ready = record { fits = l .entry .ready .fits; stands = l .inv .along .stands }
+  still-ready = ready-again (l .entry .ready) (l .inv .along .stands)
 
   pub call-falls : unmarkedIn (marksOf (sizeIn g) marks′) < unmarkedIn (marksOf (sizeIn g) marks)
   call-falls = let f = l .inv .fewer in let e = entered-fewer (l .entry) in omega arith

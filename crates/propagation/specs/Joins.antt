@@ -1,21 +1,20 @@
--- The work and the marks that the lent arrays hold, and what a join and a visit leave.
-use Prim.Native.Nat.{ℕ, zero, suc, _<_}
+-- The work and the marks that the lent arrays hold, which neighbours are to be joined, and what a
+-- join and a visit leave.
+use Prim.Native.Nat.{ℕ, zero, suc, _≤_, _<_}
 use mathlib.Core.Path.{_≡_}
-use mathlib.Core.Bool.{Bool, true, false}
-use mathlib.Core.List.{List, _∷_, map, foldl}
+use mathlib.Core.Bool.{Bool, true}
+use mathlib.Core.List.{List, map}
 use lib.ListN.{length, take}
-use Rattle.model.specs.ListLaws.{All}
-use Rattle.model.specs.Sets.{NodeSet, intersection}
+use Rattle.model.specs.ListLaws.{All, NoRepeats}
+use Rattle.model.specs.Sets.{NodeSet}
 use Rattle.model.specs.Registry.{nodeLimit}
 use Rattle.model.specs.Reduction.{reduceMaybeOptionalChains}
 use Rattle.model.specs.ReductionLaws.{Members, IsReduced}
 use Rattle.model.specs.Visit.{TraversalState, Unmarked, Active, Done, Visited, visit}
-use Rattle.model.specs.Propagation.{Work, setOf, JoiningRule, doneNeighbours, intersectionOf, join}
-use Rattle.rows.specs.Members.{membersOf}
+use Rattle.model.specs.Propagation.{Work, setOf, JoiningRule, join}
 use Rattle.rows.specs.Rows.{Lent, rowsOf}
 use Rattle.registry.specs.Words.{registryOf, Held}
-use Rattle.graph.specs.Bytes.{sizeIn, neighbours, GraphFits}
-use Rattle.propagation.specs.declared.Intersection.{Intersection}
+use Rattle.graph.specs.Bytes.{sizeIn, neighbours, GraphFits, NeighboursOnce}
 use Rattle.propagation.specs.declared.Progress.{Progress}
 use Rattle.propagation.specs.declared.Progress.the-variants.{Changed, Full}
 
@@ -45,25 +44,23 @@ joinIn rule g backward b marks w = join reduceMaybeOptionalChains rule (neighbou
 unfoldable pub visitIn : JoiningRule → List ℕ → Bool → ℕ → Visited Work → Visited Work
 visitIn rule g backward b v = visit (neighbours g backward) (joinIn rule g backward) b v
 
--- the sets of those among some blocks that join under a rule
-unfoldable pub setsToJoin : JoiningRule → ℕ → List ℕ → List ℕ → List ℕ → List NodeSet
-setsToJoin rule n marks sets bs = map (setOf (rowsOf sets n)) (rule (marksOf n marks) bs)
+-- "The neighbours to be joined" (document 02, E3): those of a block that the rule chooses by the
+-- marks of that moment
+abbrev pub neighboursToJoin : JoiningRule → List ℕ → Bool → ℕ → List ℕ → List ℕ
+neighboursToJoin rule g backward b marks = rule (marksOf (sizeIn g) marks) (neighbours g backward b)
 
--- the intersection of a first set, where the flag says that there is one, and of those to come
-abbrev pub intersectionBy : Bool → NodeSet → List NodeSet → NodeSet
-intersectionBy true s ss = foldl intersection s ss
-intersectionBy false s ss = intersectionOf ss
+-- their sets
+unfoldable pub setsToJoin : JoiningRule → List ℕ → Bool → ℕ → List ℕ → List ℕ → List NodeSet
+setsToJoin rule g backward b marks sets = map (setOf (rowsOf sets (sizeIn g))) (neighboursToJoin rule g backward b marks)
 
--- the same, from what the code holds
-abbrev pub intersectionWith : Intersection → List NodeSet → NodeSet
-intersectionWith x ss = intersectionBy (x .any) (membersOf (x .set .words)) ss
-
--- Block k is taken in, among however many blocks: where it is Done, its set is no more to come.
-abbrev pub Intersects : List ℕ → List ℕ → ℕ → Intersection → Intersection → Type 0
-Intersects marks sets k before after =
-    (n : ℕ) (bs : List ℕ) → k < n
-    → intersectionWith after (setsToJoin doneNeighbours n marks sets bs)
-    ≡ intersectionWith before (setsToJoin doneNeighbours n marks sets (k ∷ bs))
+-- What gathering among n blocks leaves: the first `count` places are these, "each once". What
+-- stands behind them is of no account.
+pub record Gathers (want : List ℕ) (n count : ℕ) (places : List ℕ) : Type 0 where
+  pub few : count ≤ 128
+  pub long : length places ≡ 128
+  pub same : take count places ≡ want
+  pub inside : All (λ b. b < n) (take count places)
+  pub once : NoRepeats (take count places)
 
 -- What the lent arrays are between two joins: each of n rows is a set of the registry's nodes.
 pub record RowsStand (n : ℕ) (sets ws os : List ℕ) : Type 0 where
@@ -74,6 +71,7 @@ pub record RowsStand (n : ℕ) (sets ws os : List ℕ) : Type 0 where
 -- the same, with a graph of these blocks
 pub record Ready (g sets ws os : List ℕ) : Type 0 where
   pub fits : GraphFits g
+  pub once : NeighboursOnce g
   pub stands : RowsStand (sizeIn g) sets ws os
 
 -- a pass over any of n rows changes nothing and makes nothing

@@ -1,8 +1,7 @@
 // `propagate_non_null`: rounds of a forward and a backward walk over the blocks, until one changes
-// nothing. Mark 0 is an unmarked block, 1 an Active one, 2 a Done one.
+// nothing. Mark 0 is an unmarked block, 1 an Active one, 2 a Done one, as any above it would be.
 ghost use mathlib.Core.Path.{_≡_};
 ghost use mathlib.Core.Bool.{true, false};
-ghost use mathlib.Core.List.{[]};
 ghost use Prim.Native.Nat.{_<_};
 ghost use lib.ListN.{length, getD};
 ghost use Rattle.model.specs.Reduction.{reduceMaybeOptionalChains};
@@ -11,7 +10,7 @@ ghost use Rattle.model.specs.Propagation.{intersectionOf, round, propagateNonNu
 ghost use Rattle.rows.specs.Members.{membersOf};
 ghost use Rattle.rows.specs.Rows.{rowsOf};
 ghost use Rattle.registry.specs.Words.{registryOf};
-ghost use Rattle.graph.specs.Bytes.{sizeIn, neighbours, GraphFits, graphIn};
+ghost use Rattle.graph.specs.Bytes.{sizeIn, GraphFits, NeighboursOnce, graphIn};
 ghost use Rattle.propagation.specs.Rules.{ruleOf, asksAll};
 ghost use Rattle.propagation.specs.Joins.{
   marksOf,
@@ -19,9 +18,9 @@ ghost use Rattle.propagation.specs.Joins.{
   visitedOf,
   joinIn,
   visitIn,
+  neighboursToJoin,
   setsToJoin,
-  intersectionWith,
-  Intersects,
+  Gathers,
   Ready,
   ReducedBefore,
   Joins,
@@ -36,12 +35,6 @@ use rows::NodeBits;
 pub enum Joining {
     DoneNeighbours,
     StrictNeighbours,
-}
-
-// The intersection of some sets, where there are any.
-struct Intersection {
-    any: bool,
-    set: NodeBits,
 }
 
 // Whether a join of this round changed its set; or the registry has no room.
@@ -62,25 +55,6 @@ pub enum Propagated {
     Full,
 }
 
-impl Intersection {
-    fn of_none() -> Intersection
-        ensures { λ r. ⌜ r .any ≡ false ⌝ }
-    {
-        Intersection {
-            any: false,
-            set: NodeBits::empty(),
-        }
-    }
-
-    // The empty set where there are none, so that nothing joins.
-    fn or_empty(self) -> NodeBits
-        ensures { λ r. ⌜ membersOf (r .words) ≡ intersectionWith self [] ⌝ }
-    {
-        let none = NodeBits::empty();
-        if self.any { self.set } else { none }
-    }
-}
-
 // Whether a neighbour that is not Done keeps the others from joining.
 fn asks_all(joining: Joining) -> bool
     ensures { λ r. ⌜ r ≡ asksAll joining ⌝ }
@@ -91,28 +65,36 @@ fn asks_all(joining: Joining) -> bool
     }
 }
 
-// The intersection with the set of neighbour k as well, where it is Done.
-fn with_neighbour(
+// The neighbours of a block that are to be joined, each once: their places stand at the front of
+// `places`, and the result is how many there are. Marks are looked up for a join here and nowhere
+// else, that of a neighbour once. Where every neighbour has to be Done, the first that is not ends
+// the search. Each place is stored behind those gathered so far, and the count goes up only if that
+// neighbour is Done, so that under the existing rule the compiled loop has no branch on the mark.
+fn neighbours_to_join(
+    joining: Joining,
+    graph: &[u8; 10497],
+    backward: bool,
+    b: usize,
     marks: &[u8; 128],
-    sets: &[u64; 1024],
-    k: usize,
-    before: Intersection,
-) -> Intersection
-    requires { ⌜ k < 128 ⌝ }
-    ensures { λ r. ⌜ Intersects (now (marks .entry)) (now (sets .entry)) k before r ⌝ }
+    places: &mut [u8; 128],
+) -> usize
+    requires { ⌜ GraphFits (now graph) × NeighboursOnce (now graph) × (b < sizeIn (now graph)) × (length (now places) ≡ 128) ⌝ }
+    ensures { λ r. ⌜ Gathers (neighboursToJoin (ruleOf joining) (now (graph .entry)) backward b (now (marks .entry)))
+        (sizeIn (now (graph .entry))) r (now (places .exit)) ⌝ }
 {
-    if marks[k] < 2 {
-        return before;
-    }
-    let s = rows::row(sets, k);
-    if before.any {
-        let t = before.set;
-        Intersection {
-            any: true,
-            set: t.intersection(s),
+    let mut count = 0;
+    let mut start = 0;
+    loop {
+        let Neighbour::At(k, next) = graph::next_neighbour(graph, backward, b, start) else {
+            return count;
+        };
+        places[count] = k as u8;
+        if 2 <= marks[k] {
+            count += 1;
+        } else if asks_all(joining) {
+            return 0;
         }
-    } else {
-        Intersection { any: true, set: s }
+        start = next;
     }
 }
 
@@ -125,23 +107,13 @@ fn intersection_of_joining(
     marks: &[u8; 128],
     sets: &[u64; 1024],
 ) -> NodeBits
-    requires { ⌜ GraphFits (now graph) × (b < sizeIn (now graph)) ⌝ }
+    requires { ⌜ GraphFits (now graph) × NeighboursOnce (now graph) × (b < sizeIn (now graph)) ⌝ }
     ensures { λ r. ⌜ membersOf (r .words) ≡ intersectionOf
-        (setsToJoin (ruleOf joining) (sizeIn (now (graph .entry))) (now (marks .entry)) (now (sets .entry))
-        (neighbours (now (graph .entry)) backward b)) ⌝ }
+        (setsToJoin (ruleOf joining) (now (graph .entry)) backward b (now (marks .entry)) (now (sets .entry))) ⌝ }
 {
-    let mut found = Intersection::of_none();
-    let mut from = 0;
-    loop {
-        let Neighbour::At(k, next) = graph::next_neighbour(graph, backward, b, from) else {
-            return found.or_empty();
-        };
-        if marks[k] < 2 && asks_all(joining) {
-            return NodeBits::empty();
-        }
-        found = with_neighbour(marks, sets, k, found);
-        from = next;
-    }
+    let mut places = [0u8; 128];
+    let count = neighbours_to_join(joining, graph, backward, b, marks, &mut places);
+    rows::intersection_of_rows(sets, &places[..count])
 }
 
 // The block's set is joined with that intersection and reduced. In a walk later than the first it
@@ -165,8 +137,8 @@ fn join(
         (workOf n (now (sets .entry)) (now (ws .entry)) changed))
         n r (now (sets .exit)) (now (ws .exit)) (now (optional .exit))) ⌝ }
 {
-    let own = rows::row(sets, b);
     let found = intersection_of_joining(joining, graph, backward, b, marks, sets);
+    let own = rows::row(sets, b);
     let all = own.union(found);
     if later && own.same_set(all) {
         return Progress::Changed(changed);

@@ -47,6 +47,7 @@ module _ {bs : List Block} {n : ℕ} {ws os sets g : List ℕ} (count : length b
   pub ready : Ready g sets ws os
   ready = record {
     fits = y .fits;
+    once = y .once;
     stands = subst (λ m. RowsStand m sets ws os) (sym size-same) (record {
       lent = x .lent;
       held = x .held;

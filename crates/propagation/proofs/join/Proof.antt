@@ -18,20 +18,20 @@ reduced r = r .before .before .before .before
 
 made : (u : tie.After-union) → let a = entry u .args in
     Made (ruleOf (a .joining)) (a .graph .now) (a .backward) (a .b) (a .marks .now) (a .sets .now) (a .ws .now) (a .optional .now)
-    (u .before .before .before .row .result .words) (u .before .intersection-of-joining .result .words) (u .union .result .words)
+    (u .before .row .result .words) (u .before .before .before .intersection-of-joining .result .words) (u .union .result .words)
 made u = record {
   ready = entry u .pre .0;
   inside = entry u .pre .2;
-  own-is = u .before .before .before .row .ensures;
-  found-is = u .before .intersection-of-joining .ensures;
+  own-is = u .before .row .ensures;
+  found-is = u .before .before .before .intersection-of-joining .ensures;
   all-is = u .union .ensures;
 }
 
 row-requires : tie.Need-row-requires
-row-requires c κs = let s = c .before in let few = s .pre .0 .fits .size in let inside = s .pre .2 in omega arith
+row-requires c κs = let s = c .before .before .before in let few = s .pre .0 .fits .size in let inside = s .pre .2 in omega arith
 
 intersection-of-joining-requires : tie.Need-intersection-of-joining-requires
-intersection-of-joining-requires c κs = let s = c .before .before .before in (s .pre .0 .fits, s .pre .2)
+intersection-of-joining-requires c κs = let s = c .before in (s .pre .0 .fits, s .pre .0 .once, s .pre .2)
 
 reduce-maybe-optional-chains-requires : tie.Need-reduce-maybe-optional-chains-requires
 reduce-maybe-optional-chains-requires c κs = let u = c .before .before .before in
@@ -68,8 +68,8 @@ pub join-spec : {M : Type 1} → statement M
 join-spec =
     tie.close
     (tie.spec
-    row-requires
     intersection-of-joining-requires
+    row-requires
     (λ c κs. search needs)
     (λ c κs. search needs)
     returns

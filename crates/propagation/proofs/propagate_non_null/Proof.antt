@@ -9,6 +9,7 @@ use Rattle.propagation.specs.Rules.{ruleOf}
 use Rattle.rows.specs.Rows.{rowsOf}
 use Rattle.registry.specs.Words.{registryOf}
 use Rattle.graph.specs.Bytes.{sizeIn, graphIn}
+use Rattle.propagation.proofs.Reductions.{ready-again}
 use Rattle.propagation.proofs.Rounding.{Rounding, rounds-start, rounds-over, rounds-full, rounds-more, rounds-settled}
 use Rattle.propagation.proofs.propagate_non_null.Statement.{statement}
 use Rattle.propagation.proofs.propagate_non_null.Tie as tie
@@ -27,7 +28,7 @@ loop-holds : tie.Need-loop-holds Inv-loop μ-loop
 loop-holds c = let a = c .args in rounds-start (ruleOf (a .joining)) (a .graph .now) (a .sets .now) (a .ws .now) (a .optional .now) (c .pre .stands)
 
 round-requires : tie.Need-round-requires Inv-loop μ-loop
-round-requires c κs = let l = to-round c .before in (record { fits = l .before .pre .fits; stands = l .loop .inv .stands }, l .loop .inv .before)
+round-requires c κs = let l = to-round c .before in (ready-again (l .before .pre) (l .loop .inv .stands), l .loop .inv .before)
 
 returns : tie.Need-returns Inv-loop μ-loop
 returns c =

@@ -6,6 +6,7 @@ use Rattle.propagation.specs.Rules.{ruleOf}
 use Rattle.graph.specs.Bytes.{sizeIn}
 use Rattle.propagation.specs.Joins.{workOf, HoldsWork}
 use Rattle.propagation.specs.Propagates.{walkIn}
+use Rattle.propagation.proofs.Reductions.{ready-again}
 use Rattle.propagation.proofs.Along.{joined-to}
 use Rattle.propagation.proofs.Rounding.{round-full, round-halfway, round-done}
 use Rattle.propagation.proofs.round.Statement.{statement}
@@ -38,7 +39,7 @@ walk-requires-2 : tie.Need-walk-requires-2
 walk-requires-2 c κs =
     let k = to-walk c in
     let s = entry (k .before .before) in (
-      record { fits = s .pre .0 .fits; stands = forth k .stands },
+      ready-again (s .pre .0) (forth k .stands),
       λ t. round-halfway (ruleOf (s .args .joining)) (s .args .graph .now) (s .args .sets .now)
           (s .args .ws .now) (s .pre .0 .stands) (forth k),
     )

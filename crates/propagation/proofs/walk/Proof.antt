@@ -8,6 +8,7 @@ use borrow.Author.Needs.{needs}
 use Rattle.propagation.specs.Rules.{ruleOf}
 use Rattle.graph.specs.Bytes.{sizeIn}
 use Rattle.propagation.specs.Joins.{workOf}
+use Rattle.propagation.proofs.Reductions.{ready-again}
 use Rattle.propagation.proofs.Along.{Along, along-by, along-marked, along-more, along-full}
 use Rattle.propagation.proofs.Walking.{orderFrom, order-end, walkEnd, walk-start, walk-next, walk-full, walk-end}
 use Rattle.propagation.proofs.walk.Statement.{statement}
@@ -56,7 +57,7 @@ visit-requires : tie.Need-visit-requires Inv-loop μ-loop
 visit-requires c κs =
     let o = of-visit c in
     let l = o .before .before in
-    (record { fits = entry l .pre .0 .fits; stands = l .loop .inv .stands }, l .loop .inv .before, inside o, l .loop .inv .long, to-visit c .if1 .taken)
+    (ready-again (entry l .pre .0) (l .loop .inv .stands), l .loop .inv .before, inside o, l .loop .inv .long, to-visit c .if1 .taken)
 
 returns : tie.Need-returns Inv-loop μ-loop
 returns c =
