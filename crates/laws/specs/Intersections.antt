@@ -1,5 +1,5 @@
--- "Exactly the intersection" (document 02, E3): a node is in `intersectionOf` some sets where it is
--- in each of them, and of no sets there is none.
+-- "Exactly the intersection" (document 02, E3): a node is in `intersectionOf` some sets exactly
+-- where it is in each of them, and of no sets there is none.
 use mathlib.Core.Path.{_≡_, refl}
 use mathlib.Core.Bool.{true}
 use mathlib.Core.List.{List, [], _∷_, foldl}
