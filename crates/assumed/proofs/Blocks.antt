@@ -16,6 +16,7 @@ use Rattle.model.specs.Registry.{nodeLimit, PropertyPathRegistry}
 use Rattle.model.specs.RegistryLaws.{Extends, extends-refl, extends-trans, extends-length}
 use Rattle.model.specs.Stage.{PathsEntered, Started, enterPaths, enterBlock, enterBlocks}
 use Rattle.registry.specs.Words.{registryOf, Held}
+use Rattle.registry.proofs.View.{registry-length}
 use Rattle.rows.specs.Members.{membersOf}
 use Rattle.rows.specs.Rows.{Lent, RowSet, rowOf, rowsFrom, rowsOf}
 use Rattle.rows.proofs.Rows.{row-at, rows-count}
@@ -77,16 +78,28 @@ one-more front more e reg s bs cs is stored same =
     ∙ ap (λ (l : List NodeSet). after l (enterBlocks reg bs)) (sym stored)
     ∙ ap (λ bs. after more (enterBlocks reg bs)) same
 
--- The blocks that are left start, after the sets before them, what is wanted.
-pub record Starting (bs : List Block) (n : ℕ) (ws os sets : List ℕ) (b : ℕ) : Type 0 where
+-- The blocks that are left start, after the sets before them, what is wanted, and as many nodes
+-- were made as there are.
+pub record Starting (bs : List Block) (n : ℕ) (ws os sets : List ℕ) (made b : ℕ) : Type 0 where
   pub held : Held ws os
+  pub counted : made ≡ length (registryOf ws)
   pub lent : Lent sets
   pub below : b ≤ n
   pub same : enterBlocks [] bs ≡ after (rowsOf sets b) (enterBlocks (registryOf ws) (drop b bs))
 
-pub starting : (bs : List Block) (n : ℕ) (ws os sets : List ℕ) → Held ws os → registryOf ws ≡ [] → Lent sets → Starting bs n ws os sets 0
+pub starting : (bs : List Block) (n : ℕ) (ws os sets : List ℕ) → Held ws os → registryOf ws ≡ [] → Lent sets → Starting bs n ws os sets 0 0
 unfolding rowsOf
-starting bs n ws os sets held none lent = record { held = held; lent = lent; below = omega arith; same = ap (λ reg. enterBlocks reg bs) (sym none) }
+starting bs n ws os sets held none lent = record {
+  held = held;
+  counted = ap length (sym none);
+  lent = lent;
+  below = omega arith;
+  same = ap (λ reg. enterBlocks reg bs) (sym none);
+}
+
+-- what was made is among the nodes, for which the words have room
+pub starting-few : {bs : List Block} {n : ℕ} {ws os sets : List ℕ} {made b : ℕ} → Starting bs n ws os sets made b → made ≤ 512
+starting-few {ws = ws} x = let size = registry-length ws in let room = x .held .sized .room in let counted = x .counted in omega arith
 
 module _ {s : List ℕ} {n : ℕ} {places : List ℕ} (job : PlacedJob s n places) where
   count : length (blocksOf s) ≡ n
@@ -95,10 +108,10 @@ module _ {s : List ℕ} {n : ℕ} {places : List ℕ} (job : PlacedJob s n place
   pub block-read : (b : ℕ) → b < n → IsRead (readBlock 4 s (getD places b 0))
   block-read b l = let t = block-there (job .job) (job .blocks) b l in record { value = t .0; next = t .1; read = t .2 }
 
-  module _ {ws os sets : List ℕ} {b : ℕ} (x : Starting (blocksOf s) n ws os sets b) where
-    pub starting-end : n ≤ b → StartHeld (enterBlocks [] (blocksOf s)) n ws os sets
+  module _ {ws os sets : List ℕ} {made b : ℕ} (x : Starting (blocksOf s) n ws os sets made b) where
+    starting-held : n ≤ b → StartHeld (enterBlocks [] (blocksOf s)) n ws os sets
     unfolding enterBlocks
-    starting-end none =
+    starting-held none =
         let all : b ≡ n = let l = x .below in omega arith in
         let few : length (blocksOf s) ≤ b = let size = count in omega arith in
         let gone : drop b (blocksOf s) ≡ [] = drop-of-length-le (blocksOf s) few in
@@ -110,17 +123,24 @@ module _ {s : List ℕ} {n : ℕ} {places : List ℕ} (job : PlacedJob s n place
               ∙ ap (λ (l : List NodeSet). record { registry = registryOf ws; sets = l }) (append-nil (rowsOf sets b) ∙ ap (rowsOf sets) all);
         }
 
-    module _ (some : b < n) (r : EnteredSet) (us ps : List ℕ) (entered : Fills (enterPaths (registryOf ws) [] (assumedAt s (getD places b 0))) r us ps) where
+    pub starting-end : n ≤ b → StartHeld (enterBlocks [] (blocksOf s)) n ws os sets × (made ≡ length (enterBlocks [] (blocksOf s) .registry))
+    starting-end none =
+        let held = starting-held none in
+        (held, x .counted ∙ sym (ap (λ (st : Started). length (st .registry)) (held .same)))
+
+    module _ (some : b < n) (r : EnteredSet) (us ps : List ℕ)
+        (entered : Fills (registryOf ws) (enterPaths (registryOf ws) [] (assumedAt s (getD places b 0))) r us ps) where
       -- the block that is entered, and what that does to the whole
       next-block : (a : Block) × (enterBlocks [] (blocksOf s) ≡ after (rowsOf sets b) (enterBlocks (registryOf ws) (a ∷ drop (suc b) (blocksOf s))))
-          × Fills (enterBlock (registryOf ws) a) r us ps
+          × Fills (registryOf ws) (enterBlock (registryOf ws) a) r us ps
       next-block =
           let t = block-there (job .job) (job .blocks) b some in
           let here : drop b (blocksOf s) ≡ t .0 ∷ drop (suc b) (blocksOf s) =
           subst (λ (bs : List Block). drop b bs ≡ t .0 ∷ drop (suc b) bs) (sym (blocks-read (job .job) (job .blocks))) (t .3) in (
             t .0,
             x .same ∙ ap (λ bs. after (rowsOf sets b) (enterBlocks (registryOf ws) bs)) here,
-            subst (λ (ds : List ReactiveScopeDependency). Fills (enterPaths (registryOf ws) [] ds) r us ps) (assumed-are s (getD places b 0) (t .2)) entered,
+            subst (λ (ds : List ReactiveScopeDependency). Fills (registryOf ws) (enterPaths (registryOf ws) [] ds) r us ps)
+                (assumed-are s (getD places b 0) (t .2)) entered,
           )
 
       pub starting-full : r .full ≡ true → nodeLimit < length (enterBlocks [] (blocksOf s) .registry)
@@ -128,18 +148,25 @@ module _ {s : List ℕ} {n : ℕ} {places : List ℕ} (job : PlacedJob s n place
       starting-full e =
           let t = next-block in
           let f : nodeLimit < length (enterBlock (registryOf ws) (t .0) .registry) =
-          subst (λ f. FillsBy f (enterBlock (registryOf ws) (t .0)) r us ps) e (t .2) in
+          subst (λ f. FillsBy f (registryOf ws) (enterBlock (registryOf ws) (t .0)) r us ps) e (t .2) in
           let longer = extends-length (blocks-extend (enterBlock (registryOf ws) (t .0) .registry) (drop (suc b) (blocksOf s))) in
           subst (λ (st : Started). nodeLimit < length (st .registry)) (sym (t .1)) (omega arith)
 
-      pub starting-more : r .full ≡ false → (more : List ℕ) → RowSet sets more b (membersOf (r .set .words)) → Starting (blocksOf s) n us ps more (b + 1)
+      pub starting-more : r .full ≡ false → (more : List ℕ) → RowSet sets more b (membersOf (r .set .words))
+          → Starting (blocksOf s) n us ps more (made + r .made) (b + 1)
       unfolding enterBlocks
       starting-more e more stored =
           let t = next-block in
-          let is : Held us ps × (enterBlock (registryOf ws) (t .0) ≡ record { registry = registryOf us; set = membersOf (r .set .words) }) =
-          subst (λ f. FillsBy f (enterBlock (registryOf ws) (t .0)) r us ps) e (t .2) in
+          let is : Held us ps × (enterBlock (registryOf ws) (t .0) ≡ record { registry = registryOf us; set = membersOf (r .set .words) })
+          × (length (enterBlock (registryOf ws) (t .0) .registry) ≡ length (registryOf ws) + r .made) =
+          subst (λ f. FillsBy f (registryOf ws) (enterBlock (registryOf ws) (t .0)) r us ps) e (t .2) in
           record {
             held = is .0;
+            counted =
+                let so-far = x .counted in
+                let there = ap (λ (y : PathsEntered). length (y .registry)) (is .1) in
+                let longer = is .2 in
+                omega arith;
             lent = stored .lent;
             below = omega arith;
             same =

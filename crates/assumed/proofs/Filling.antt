@@ -1,5 +1,5 @@
 -- The assumed paths that are left of a block: what enters them after those before enters them all.
-use Prim.Native.Nat.{ℕ, _-_, _≤_, _<_}
+use Prim.Native.Nat.{ℕ, _+_, _-_, _≤_, _<_}
 use native.Mathlib.Omega.{arith}
 use mathlib.Core.Path.{_≡_, refl, sym, ap, subst, _∙_}
 use mathlib.Core.List.{List, [], _∷_}
@@ -10,7 +10,7 @@ use Rattle.model.specs.ReadingBytes.{Read, got, refused, readMany}
 use Rattle.model.specs.Job.{PA, readPath}
 use Rattle.model.specs.Sets.{NodeSet, insert}
 use Rattle.model.specs.Registry.{nodeLimit, PropertyPathRegistry, Reached, ownMark, getOrCreateProperty}
-use Rattle.model.specs.RegistryLaws.{Extends, extends-refl, extends-trans, extends-length, path-extends, path-proper}
+use Rattle.model.specs.RegistryLaws.{Extends, extends-refl, extends-trans, extends-length, path-extends, path-made, path-proper}
 use Rattle.model.specs.Stage.{PathsEntered, enterPaths}
 use Rattle.registry.specs.Words.{registryOf, Held}
 use Rattle.registry.proofs.View.{registry-length}
@@ -32,10 +32,10 @@ paths-extend reg s (d ∷ ds) =
 
 -- The answers of `enter_path` by their case.
 
-entered-at : {A : Type 0} (x : Read A) (reach : A → Reached) (k : NodeId) (n : ℕ) (ws os : List ℕ) → Enters x reach (path.At k n) ws os
-    → (a : A) × (x ≡ got a n) × Held ws os × (reach a ≡ record { registry = registryOf ws; node = k })
-entered-at (got a m) reach k n ws os h = (a, ap (got a) (sym (h .1)), h .0 .0, h .0 .1)
-entered-at (refused r) reach k n ws os h = absurd h
+entered-at : {A : Type 0} (x : Read A) (reach : A → Reached) (k : NodeId) (made n : ℕ) (ws os : List ℕ) → Enters x reach (path.At k made n) ws os
+    → (a : A) × (x ≡ got a n) × Held ws os × (reach a ≡ record { registry = registryOf ws; node = k; made = made })
+entered-at (got a m) reach k made n ws os h = (a, ap (got a) (sym (h .1)), h .0 .0, h .0 .1)
+entered-at (refused r) reach k made n ws os h = absurd h
 
 entered-full : {A : Type 0} (x : Read A) (reach : A → Reached) (ws os : List ℕ) → Enters x reach path.Full ws os → {a : A} {n : ℕ} → x ≡ got a n
     → nodeLimit < length (reach a .registry)
@@ -44,16 +44,18 @@ entered-full x reach ws os h {a} {n} e = subst (λ y. Enters y reach path.Full w
 -- The paths that are left.
 
 next-path : (reg more : PropertyPathRegistry) (s t : NodeSet) (es rest : List ReactiveScopeDependency) (c d : ReactiveScopeDependency) (k : NodeId)
-    → c ∷ rest ≡ es → c ≡ d
-    → getOrCreateProperty reg d ≡ record { registry = more; node = k } → t ≡ insert k s → enterPaths reg s es ≡ enterPaths more t rest
+    {made : ℕ} → c ∷ rest ≡ es → c ≡ d
+    → getOrCreateProperty reg d ≡ record { registry = more; node = k; made = made } → t ≡ insert k s → enterPaths reg s es ≡ enterPaths more t rest
 next-path reg more s t es rest c d k all same reached inserted =
     ap (enterPaths reg s) (sym all)
     ∙ ap (λ (at : Reached). enterPaths (at .registry) (insert (at .node) s) rest) (ap (getOrCreateProperty reg) same ∙ reached)
     ∙ ap (λ u. enterPaths more u rest) (sym inserted)
 
--- The paths that are left were read, and entering them after those before gives what is wanted.
-pub record Filling (want : PathsEntered) (s ws os set : List ℕ) (at left : ℕ) : Type 0 where
+-- The paths that are left were read, entering them after those before gives what is wanted, and for
+-- those before as many nodes were made as the registry is longer by.
+pub record Filling (before : PropertyPathRegistry) (want : PathsEntered) (s ws os set : List ℕ) (made at left : ℕ) : Type 0 where
   pub held : Held ws os
+  pub longer : length (registryOf ws) ≡ length before + made
   pub rest : List ReactiveScopeDependency
   pub end : ℕ
   pub read : readMany left (readPath 4 PA) s at ≡ got rest end
@@ -67,9 +69,10 @@ paths-are s start count e = ap (λ (x : Read (List ReactiveScopeDependency)). or
 
 pub filling : (reg : PropertyPathRegistry) (s ws os set : List ℕ) (start count : ℕ) → Held ws os → registryOf ws ≡ reg → membersOf set ≡ []
     → IsRead (readMany count (readPath 4 PA) s start)
-    → Filling (enterPaths reg [] (pathsAt s start count)) s ws os set start count
+    → Filling reg (enterPaths reg [] (pathsAt s start count)) s ws os set 0 start count
 filling reg s ws os set start count held is none x = record {
   held = held;
+  longer = let same = ap length is in omega arith;
   rest = x .value;
   end = x .next;
   read = x .read;
@@ -78,13 +81,20 @@ filling reg s ws os set start count held is none x = record {
       ∙ ap (λ t. enterPaths (registryOf ws) t (x .value)) (sym none);
 }
 
-module _ {want : PathsEntered} {s ws os set : List ℕ} {at left : ℕ} (x : Filling want s ws os set at left) where
+module _ {before : PropertyPathRegistry} {want : PathsEntered} {s ws os set : List ℕ} {made at left : ℕ}
+    (x : Filling before want s ws os set made at left) where
   pub filling-end : left ≤ 0 → Held ws os × (want ≡ record { registry = registryOf ws; set = membersOf set })
+      × (length (want .registry) ≡ length before + made)
   filling-end none =
       let zero-left : left ≡ 0 = omega arith in
       let nothing : got [] at ≡ got (x .rest) (x .end) = subst (λ n. readMany n (readPath 4 PA) s at ≡ got (x .rest) (x .end)) zero-left (x .read) in
       let no : [] ≡ x .rest = cc in
-      (x .held, x .same ∙ ap (enterPaths (registryOf ws) (membersOf set)) (sym no))
+      let same = x .same ∙ ap (enterPaths (registryOf ws) (membersOf set)) (sym no) in
+      (x .held, same, ap (λ (y : PathsEntered). length (y .registry)) same ∙ x .longer)
+
+  -- what was made is among the nodes, for which the words have room
+  pub filling-few : made ≤ 512
+  filling-few = let size = registry-length ws in let room = x .held .sized .room in let longer = x .longer in omega arith
 
   module _ (some : 0 < left) where
     -- the first of the paths that are left, and the others
@@ -104,11 +114,11 @@ module _ {want : PathsEntered} {s ws os set : List ℕ} {at left : ℕ} (x : Fil
           let more = entered-full (readPath 4 PA s at) (getOrCreateProperty (registryOf ws)) us ps full (first .3) in
           rw (x .same, ← (first .5)) (omega (arith, more, longer))
 
-      module _ (k : NodeId) (n : ℕ) (same : r ≡ path.At k n) where
+      module _ (k : NodeId) (new n : ℕ) (same : r ≡ path.At k new n) where
         reached : (d : ReactiveScopeDependency) × (readPath 4 PA s at ≡ got d n) × Held us ps
-            × (getOrCreateProperty (registryOf ws) d ≡ record { registry = registryOf us; node = k })
+            × (getOrCreateProperty (registryOf ws) d ≡ record { registry = registryOf us; node = k; made = new })
         reached =
-            entered-at (readPath 4 PA s at) (getOrCreateProperty (registryOf ws)) k n us ps
+            entered-at (readPath 4 PA s at) (getOrCreateProperty (registryOf ws)) k new n us ps
             (subst (λ q. Enters (readPath 4 PA s at) (getOrCreateProperty (registryOf ws)) q us ps) same entered)
 
         pub node-inside : k .0 < 512
@@ -120,13 +130,22 @@ module _ {want : PathsEntered} {s ws os set : List ℕ} {at left : ℕ} (x : Fil
             let room = reached .2 .sized .room in
             omega arith
 
-        pub filling-more : (more : List ℕ) → membersOf more ≡ insert k (membersOf set) → Filling want s us ps more n (left - 1)
+        pub more-longer : length (registryOf us) ≡ length before + (made + new)
+        unfolding getOrCreateProperty
+        more-longer =
+            let so-far = x .longer in
+            let one = subst (λ (y : Reached). length (y .registry) ≡ length (registryOf ws) + y .made) (reached .3)
+            (path-made ownMark (registryOf ws) (reached .0)) in
+            omega arith
+
+        pub filling-more : (more : List ℕ) → membersOf more ≡ insert k (membersOf set) → Filling before want s us ps more (made + new) n (left - 1)
         filling-more more inserted =
             let there : got (reached .0) n ≡ got (first .0) (first .1) = sym (reached .1) ∙ first .3 in
             let d-same : first .0 ≡ reached .0 = cc in
             let n-same : first .1 ≡ n = cc in
             record {
               held = reached .2;
+              longer = more-longer;
               rest = first .2;
               end = x .end;
               read = subst (λ m. readMany (left - 1) (readPath 4 PA) s m ≡ got (first .2) (x .end)) n-same (first .4);

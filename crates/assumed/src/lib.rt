@@ -16,9 +16,11 @@ use job::ReadBlockHead;
 use paths::EnteredPath;
 use rows::NodeBits;
 
-// The nodes of the paths entered, or that the registry had no room.
+// The nodes of the paths entered, and how many nodes were made for them; or that the registry had
+// no room.
 pub struct EnteredSet {
     pub set: NodeBits,
+    pub made: usize,
     pub full: bool,
 }
 
@@ -31,33 +33,44 @@ fn enter_paths(
     optional: &mut [u64; 8],
 ) -> EnteredSet
     requires { ⌜ Held (now ws) (now optional) × IsRead (readMany count (readPath spanWidth PA) (now s) start) ⌝ }
-    ensures { λ r. ⌜ Fills (enterPaths (registryOf (now (ws .entry))) [] (pathsAt (now (s .entry)) start count)) r (now (ws .exit))
-        (now (optional .exit)) ⌝ }
+    ensures { λ r. ⌜ Fills (registryOf (now (ws .entry)))
+        (enterPaths (registryOf (now (ws .entry))) [] (pathsAt (now (s .entry)) start count)) r (now (ws .exit)) (now (optional .exit)) ⌝ }
 {
     let mut set = NodeBits::empty();
+    let mut made = 0;
     let mut at = start;
     let mut left = count;
     while 0 < left {
         let entered = paths::enter_path(s, at, ws, optional);
-        let EnteredPath::At(node, next) = entered else {
-            return EnteredSet { set, full: true };
+        let EnteredPath::At(node, new, next) = entered else {
+            return EnteredSet {
+                set,
+                made,
+                full: true,
+            };
         };
         set = set.insert(node);
+        made = made + new;
         at = next;
         left = left - 1;
     }
-    EnteredSet { set, full: false }
+    EnteredSet {
+        set,
+        made,
+        full: false,
+    }
 }
 
 // The assumed paths of the block at a place, which was read before.
 fn enter_block(s: &[u8], at: usize, ws: &mut [u64; 1665], optional: &mut [u64; 8]) -> EnteredSet
     requires { ⌜ Held (now ws) (now optional) × IsRead (readBlock spanWidth (now s) at) ⌝ }
-    ensures { λ r. ⌜ Fills (enterPaths (registryOf (now (ws .entry))) [] (assumedAt (now (s .entry)) at)) r (now (ws .exit))
-        (now (optional .exit)) ⌝ }
+    ensures { λ r. ⌜ Fills (registryOf (now (ws .entry)))
+        (enterPaths (registryOf (now (ws .entry))) [] (assumedAt (now (s .entry)) at)) r (now (ws .exit)) (now (optional .exit)) ⌝ }
 {
     // A block that was read has its head and its ids, so this is never the answer.
     let never = EnteredSet {
         set: NodeBits::empty(),
+        made: 0,
         full: true,
     };
     let head_field = job::block_head_at(s, at);
@@ -71,9 +84,9 @@ fn enter_block(s: &[u8], at: usize, ws: &mut [u64; 1665], optional: &mut [u64; 8
     enter_paths(s, paths_at, head.assumed, ws, optional)
 }
 
-// Whether all assumed paths were entered, or the registry had no room.
+// How many nodes were made where all assumed paths were entered; or the registry had no room.
 pub enum BlocksEntered {
-    All,
+    All(usize),
     Full,
 }
 
@@ -91,6 +104,7 @@ pub fn enter_blocks(
     ensures { λ r. ⌜ Starts (enterBlocks [] (blocksOf (now (s .entry)))) blocks r (now (ws .exit)) (now (optional .exit))
         (now (sets .exit)) ⌝ }
 {
+    let mut made = 0;
     let mut b: usize = 0;
     while b < blocks {
         let at = places[b];
@@ -99,7 +113,8 @@ pub fn enter_blocks(
             return BlocksEntered::Full;
         }
         rows::set_row(sets, b, entered.set);
+        made = made + entered.made;
         b += 1;
     }
-    BlocksEntered::All
+    BlocksEntered::All(made)
 }

@@ -4,7 +4,7 @@
 use Prim.Native.Nat.{ℕ, _≤_}
 use native.Mathlib.Omega.{arith}
 use mathlib.Core.Path.{_≡_, refl}
-use mathlib.Core.List.{List}
+use mathlib.Core.List.{List, []}
 use lib.ListN.{length}
 use lib.Dec.{ltb}
 use Rattle.entries.specs.declared.Refusal.{Refusal}
@@ -15,7 +15,7 @@ use Rattle.model.specs.Rounds.{Rounds}
 use Rattle.model.specs.Propagation.{Work, JoiningRule}
 use Rattle.model.specs.ReadingBytes.{Read, got, refused}
 use Rattle.model.specs.Job.{Job, hasRepeat, hasUnknown, readRecords, acceptIds, readJob}
-use Rattle.model.specs.Stage.{propagated, hoistablePaths, returnedPaths}
+use Rattle.model.specs.Stage.{Started, enterBlocks, propagated, hoistablePaths, returnedPaths}
 use Rattle.model.specs.Answer.{
   Verdict,
   writes,
@@ -24,6 +24,7 @@ use Rattle.model.specs.Answer.{
   onJob,
   leastBuffer,
   longestJob,
+  Writing,
   verdict,
   answerBytes,
   Answered,
@@ -46,13 +47,13 @@ job-proper head w s =
 different : (r : Refusal) (bytes : List ℕ) → turnsBack r ≡ writes bytes → ⊥
 different r bytes e = let z : _≡_ {A = ℕ} 0 1 = cc in omega arith
 
-module _ (rule : JoiningRule) (bytes : Job → Rounds Work → List ℕ) where
+module _ (rule : JoiningRule) (bytes : Job → Started → Rounds Work → List ℕ) where
   -- a job was read, and what is written are its bytes
   pub record ReadAndWritten (x : Read Job) (out : List ℕ) : Type 0 where
     pub j : Job
     pub end : ℕ
     pub reads : x ≡ got j end
-    pub written : out ≡ bytes j (propagated rule (j .blocks))
+    pub written : out ≡ bytes j (enterBlocks [] (j .blocks)) (propagated rule (j .blocks))
 
   -- where the verdict on what was read is to write, a job was read, and its bytes are written
   verdict-job : (x : Read Job) (out : List ℕ) → onJob rule bytes x ≡ writes out → ReadAndWritten x out
@@ -68,7 +69,7 @@ lengths-written least most job out bytes rest e =
     decide (ltb (length out) least) (λ t. absurd (different _ bytes (rw t at e)))
     (λ t. let e′ = rw t at e in decide (ltb most (length job)) (λ u. absurd (different _ bytes (rw u at e′))) (λ u. rw u at e′))
 
-pub verdict-written : (head spanBytes : ℕ) (rule : JoiningRule) (bytes : ℕ → Job → Rounds Work → List ℕ) (job out written : List ℕ)
+pub verdict-written : (head spanBytes : ℕ) (rule : JoiningRule) (bytes : Writing) (job out written : List ℕ)
     → verdict head spanBytes rule bytes job out ≡ writes written
     → ReadAndWritten rule (bytes spanBytes) (readJob head spanBytes job) written
 unfolding verdict

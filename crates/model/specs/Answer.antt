@@ -35,7 +35,7 @@ use Rattle.model.specs.ReadingBytes.{
   readFlag,
 }
 use Rattle.model.specs.Job.{Block, Job, markOf, HD, readPath, readJob}
-use Rattle.model.specs.Stage.{propagated, returnedPaths}
+use Rattle.model.specs.Stage.{Started, enterBlocks, propagated, returnedPaths}
 
 -- Bytes.
 
@@ -165,15 +165,26 @@ setBytes [] sets = []
 setBytes (b ∷ bs) [] = []
 setBytes (b ∷ bs) (s ∷ sets) = u16 SE ++ u32 (b .id .0) ++ rowBytes s 0 64 ++ setBytes bs sets
 
--- "The sheet is SH, nodes u16, blocks u16, rounds u8, settled u8; per node ..; per block .."
-unfoldable pub sheetBytes : ℕ → Job → Rounds Work → List ℕ
+-- "The sheet is SH, nodes u16, blocks u16, rounds u8, settled u8; per node ..; per block .." "The
+-- sheet's head gains a u16 at its end: nodes present before the first round" (E4): those of the
+-- registry with which propagation starts.
+unfoldable pub sheetBytes : ℕ → Job → Started → Rounds Work → List ℕ
 unfolding numberBytes nodeBytes setBytes
-sheetBytes spanBytes job p =
+sheetBytes spanBytes job start p =
     let w = p .work in
     u16 SH ++ u16 (length (w .registry)) ++ u16 (length (job .blocks)) ++ u8 (p .rounds) ++ u8 (flag (p .settled))
-    ++ concatMap (nodeBytes spanBytes) (w .registry) ++ setBytes (job .blocks) (w .sets)
+    ++ u16 (length (start .registry)) ++ concatMap (nodeBytes spanBytes) (w .registry) ++ setBytes (job .blocks) (w .sets)
 
 -- The two operations.
+
+-- what is written of a job: its spans in so many bytes, the job, what entering its assumed paths
+-- left, and its propagation from there
+abbrev pub Writing : Type 0
+Writing = ℕ → Job → Started → Rounds Work → List ℕ
+
+-- The answer tells nothing of the start.
+abbrev pub answerWriting : Writing
+answerWriting spanBytes job start p = answerBytes spanBytes job p
 
 -- what an operation does: it writes these bytes, or turns the job back
 pub data Verdict : Type 0 where
@@ -192,8 +203,8 @@ withinNodes p bytes = cond (ltb nodeLimit (length (p .work .registry))) (turnsBa
 
 -- A job that was read is propagated, 9 is looked at, and the bytes are written; 3 to 8 stay what
 -- they are.
-abbrev pub onJob : JoiningRule → (Job → Rounds Work → List ℕ) → Read Job → Verdict
-onJob rule bytes (got job next) = let p = propagated rule (job .blocks) in withinNodes p (bytes job p)
+abbrev pub onJob : JoiningRule → (Job → Started → Rounds Work → List ℕ) → Read Job → Verdict
+onJob rule bytes (got job next) = let p = propagated rule (job .blocks) in withinNodes p (bytes job (enterBlocks [] (job .blocks)) p)
 onJob rule bytes (refused r) = turnsBack r
 
 -- 1: "Shorter than 24,576 bytes."
@@ -210,15 +221,15 @@ spanWidth = 4
 
 -- 1 and 2, then 3 to 8, and 9: of a job with a header of this mark and spans of so many bytes,
 -- under a joining rule; `bytes` says what is written.
-unfoldable pub verdict : ℕ → ℕ → JoiningRule → (ℕ → Job → Rounds Work → List ℕ) → List ℕ → List ℕ → Verdict
-unfolding readJob propagated
+unfoldable pub verdict : ℕ → ℕ → JoiningRule → Writing → List ℕ → List ℕ → Verdict
+unfolding readJob enterBlocks propagated
 verdict head spanBytes rule bytes job out =
     withinLengths leastBuffer longestJob job out (onJob rule (bytes spanBytes) (readJob head spanBytes job))
 
 -- "Two operations take a job and an out buffer": the answer.
 unfoldable pub answerOf : List ℕ → List ℕ → Verdict
 unfolding verdict answerBytes doneNeighbours
-answerOf job out = verdict HD spanWidth doneNeighbours answerBytes job out
+answerOf job out = verdict HD spanWidth doneNeighbours answerWriting job out
 
 -- And the sheet.
 unfoldable pub sheetOf : List ℕ → List ℕ → Verdict

@@ -27,6 +27,7 @@ use Rattle.model.specs.Registry.{
   rootNode,
   childNode,
   fullPathOf,
+  madeBefore,
   walkFrom,
   ownMark,
   getOrCreateProperty,
@@ -77,7 +78,7 @@ module _ (test : PropertyPathNode → Bool) (new : PropertyPathNode) (own : test
 
   -- and later, whatever new node is offered then
   found-later : (offered : PropertyPathNode) {b : PropertyPathRegistry} → Extends (ensure test new reg) b → findOrMake test
-      offered b ≡ record { registry = b; node = record { 0 = find test reg } }
+      offered b ≡ record { registry = b; node = record { 0 = find test reg }; made = 0 }
   found-later offered {b} x =
       let inside = reached-inside test new own reg in
       let longer = extends-length x in
@@ -86,7 +87,8 @@ module _ (test : PropertyPathNode → Bool) (new : PropertyPathNode) (own : test
 -- A walk by equal entries, in a registry that has what the first walk left.
 walk-repeated : (at : Reached) (es fs : List DependencyPathEntry) → areEqualPaths es fs ≡ true → {b : PropertyPathRegistry}
     → Extends (walkFrom ownMark at es .registry) b
-    → walkFrom ownMark (record { registry = b; node = at .node }) fs ≡ record { registry = b; node = walkFrom ownMark at es .node }
+    → walkFrom ownMark (record { registry = b; node = at .node; made = 0 }) fs
+    ≡ record { registry = b; node = walkFrom ownMark at es .node; made = 0 }
 unfolding walkFrom
 walk-repeated at [] [] h {b} x = refl
 walk-repeated at [] (f ∷ fs) h {b} x = never h refl
@@ -96,17 +98,17 @@ walk-repeated at (e ∷ es) (f ∷ fs) h {b} x =
     let d = fullPathOf (at .registry) (at .node) in
     let new = childNode (at .node) d e in
     let offered = childNode (at .node) (fullPathOf b (at .node)) f in
-    let next = findOrMake test new (at .registry) in
-    let there : findOrMake (isChildBy (at .node) f) offered b ≡ record { registry = b; node = next .node } = ap
+    let next = madeBefore (at .made) (findOrMake test new (at .registry)) in
+    let there : findOrMake (isChildBy (at .node) f) offered b ≡ record { registry = b; node = next .node; made = 0 } = ap
     (λ t. findOrMake t offered b) (child-alike (at .node) e f (and-first (sameEntry e f) _ h)) ∙ found-later test new
     (child-own (at .node) d e) (at .registry) offered (extends-trans (walk-extends ownMark next es) x) in
-    ap (λ (r : Reached). walkFrom ownMark r fs) there ∙ walk-repeated next es fs (and-second (sameEntry e f) _ h) x
+    ap (λ (r : Reached). walkFrom ownMark (madeBefore 0 r) fs) there ∙ walk-repeated next es fs (and-second (sameEntry e f) _ h) x
 
 -- A path with the same identifier and equal entries, entered in a registry that has what the first
 -- left, leads to the first one's node and makes none.
 pub entered-again : (reg b : PropertyPathRegistry) (d e : ReactiveScopeDependency) → eqb (d .identifier .0) (e .identifier .0) ≡ true
     → areEqualPaths (d .path) (e .path) ≡ true → Extends (getOrCreateProperty reg d .registry) b
-    → getOrCreateProperty b e ≡ record { registry = b; node = getOrCreateProperty reg d .node }
+    → getOrCreateProperty b e ≡ record { registry = b; node = getOrCreateProperty reg d .node; made = 0 }
 unfolding getOrCreateProperty walkFrom
 entered-again reg b d e same equal x =
     let test = isRootFor (d .identifier) in
@@ -114,7 +116,7 @@ entered-again reg b d e same equal x =
     let number : d .identifier .0 ≡ e .identifier .0 = eqb-true (d .identifier .0) (e .identifier .0) same in
     let offered = rootNode (e .identifier) (e .reactive) (e .span) in
     let first = findOrMake test new reg in
-    let there : findOrMake (isRootFor (e .identifier)) offered b ≡ record { registry = b; node = first .node } = ap
+    let there : findOrMake (isRootFor (e .identifier)) offered b ≡ record { registry = b; node = first .node; made = 0 } = ap
     (λ (n : ℕ). findOrMake (isRootFor (record { 0 = n })) offered b) (sym number) ∙ found-later test new
     (root-own (d .identifier) (d .reactive) (d .span)) reg offered (extends-trans (walk-extends ownMark first (d .path)) x) in
     ap (λ (r : Reached). walkFrom ownMark r (e .path)) there ∙ walk-repeated first (d .path) (e .path) equal x

@@ -21,6 +21,7 @@ pub mod PathExamples
 pub mod Examples
 pub mod ThinExamples
 pub mod StrictExamples
+pub mod SheetExamples
 -- laws
 pub mod Tests
 pub mod ListLaws

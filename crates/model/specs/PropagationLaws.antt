@@ -295,6 +295,11 @@ pub propagated-proper : (rule : JoiningRule) (bs : List Block) → ProperWork (p
 unfolding propagated
 propagated-proper rule bs = propagation-proper rule (graphOf bs) (enterBlocks [] bs .registry) (enterBlocks [] bs .sets) (start-proper bs)
 
+-- The nodes present before the first round keep their numbers; those behind them reductions made.
+pub propagated-extends : (rule : JoiningRule) (bs : List Block) → Extends (enterBlocks [] bs .registry) (propagated rule bs .work .registry)
+unfolding propagated
+propagated-extends rule bs = propagation-extends rule (graphOf bs) (enterBlocks [] bs .registry) (enterBlocks [] bs .sets)
+
 -- the same with any reduction that repeats passes until one changes nothing
 pub propagated-only : (v : Reducer) → Repeats v → (rule : JoiningRule) (bs : List Block)
     → propagated rule bs ≡ propagateWith v rule (graphOf bs) (enterBlocks [] bs .registry) (enterBlocks [] bs .sets)

@@ -24,6 +24,7 @@ use Rattle.model.specs.Registry.{
   getOrCreateIdentifier,
   getOrCreatePropertyEntry,
   withOptional,
+  madeBefore,
   walkFrom,
   walkPath,
   ownMark,
@@ -72,6 +73,7 @@ use Rattle.model.specs.RegistryLaws.{
   Proper,
   root-reached,
   child-reached,
+  step-proper,
   walk-proper,
   walk-extends,
   path-proper,
@@ -131,11 +133,10 @@ unfolding walkFrom optionalMarks
 walk-lowers mark low at [] h = record { fewer = omega arith; kept = λ e. refl }
 walk-lowers mark low at (e ∷ es) h =
     let o = mark (at .node) e in
-    go o (e .optional) refl refl (walk-lowers mark low _ es
-    (child-reached (at .registry) (at .node) (withOptional e o) (h .sound) (h .inside) .proper)) (child-marks at (withOptional e o) h)
+    go o (e .optional) refl refl (walk-lowers mark low _ es (step-proper mark at e h)) (child-marks at (withOptional e o) h)
   where
     next : Bool → Reached
-    next o = getOrCreatePropertyEntry (at .registry) (at .node) (withOptional e o)
+    next o = madeBefore (at .made) (getOrCreatePropertyEntry (at .registry) (at .node) (withOptional e o))
 
     all : optionalMarks (e ∷ es) ≡ mark-value (e .optional) + optionalMarks es
     all = marks-cons e es
@@ -466,7 +467,7 @@ IsReduced reg s = pass reg s ≡ passStart reg s
 
 -- a node's path, walked again, leads back to the node and makes nothing
 abbrev pub LeadsBack : PropertyPathRegistry → NodeSet → NodeId → Type 0
-LeadsBack reg s k = walkPath (reducedMark s) reg (fullPathOf reg k) ≡ record { registry = reg; node = k }
+LeadsBack reg s k = walkPath (reducedMark s) reg (fullPathOf reg k) ≡ record { registry = reg; node = k; made = 0 }
 
 -- a walk that comes back to its node took no mark away, so it is the walk under the path's own
 -- marks

@@ -1,5 +1,5 @@
 -- Document 01, module 2 (Registry): the nodes of paths, in the order of their making.
-use Prim.Native.Nat.{ℕ, zero, suc}
+use Prim.Native.Nat.{ℕ, zero, suc, _+_}
 use mathlib.Core.Bool.{Bool, true, false, _&&_, cond}
 use mathlib.Core.List.{List, [], _∷_, _++_}
 use lib.ListN.{getD}
@@ -8,6 +8,7 @@ use Rattle.entries.specs.declared.IdentifierId.{IdentifierId}
 use Rattle.entries.specs.declared.NodeId.{NodeId}
 use Rattle.entries.specs.declared.DependencyPathEntry.{DependencyPathEntry}
 use Rattle.entries.specs.Path.{sameEntry, ReactiveScopeDependency}
+use Rattle.model.specs.Lists.{anyOf}
 
 -- 9: "Would pass 512 nodes": the most nodes that an accepted job's registry has.
 abbrev pub nodeLimit : ℕ
@@ -62,14 +63,20 @@ abbrev pub ensure : (PropertyPathNode → Bool) → PropertyPathNode → Propert
 ensure test new [] = new ∷ []
 ensure test new (n ∷ ns) = n ∷ cond (test n) ns (ensure test new ns)
 
--- a registry and the node reached in it
+-- a registry, the node reached in it, and how many nodes were made on the way to it: 1 or 0 where a
+-- single one was to be found or made
 pub record Reached : Type 0 where
   pub registry : PropertyPathRegistry
   pub node : NodeId
+  pub made : ℕ
+
+-- "Whether the node was made" (E4): 1 where no node passes the test, so that a new one is made.
+abbrev pub makes : (PropertyPathNode → Bool) → PropertyPathRegistry → ℕ
+makes test reg = cond (anyOf test reg) 0 1
 
 -- The node that passes the test, found or made last ("numbered from 0 as made").
 abbrev pub findOrMake : (PropertyPathNode → Bool) → PropertyPathNode → PropertyPathRegistry → Reached
-findOrMake test new reg = record { registry = ensure test new reg; node = record { 0 = find test reg } }
+findOrMake test new reg = record { registry = ensure test new reg; node = record { 0 = find test reg }; made = makes test reg }
 
 -- "A root's reactive and span come from the path that first made it"
 abbrev pub rootNode : IdentifierId → Bool → ℕ → PropertyPathNode
@@ -99,11 +106,18 @@ getOrCreatePropertyEntry reg p e = findOrMake (isChildBy p e) (childNode p (full
 abbrev pub withOptional : DependencyPathEntry → Bool → DependencyPathEntry
 withOptional e o = record { property = e .property; optional = o; span = e .span }
 
--- down from a node by entries, each under the optional mark that `mark` gives it at the node
--- reached so far
+-- The same reached after so many nodes were made.
+abbrev pub madeBefore : ℕ → Reached → Reached
+madeBefore made at = record { registry = at .registry; node = at .node; made = made + at .made }
+
+-- the child of what was reached, by an entry under the optional mark that `mark` gives it there
+abbrev pub stepFrom : (NodeId → DependencyPathEntry → Bool) → Reached → DependencyPathEntry → Reached
+stepFrom mark at e = madeBefore (at .made) (getOrCreatePropertyEntry (at .registry) (at .node) (withOptional e (mark (at .node) e)))
+
+-- down from a node by entries, step by step
 unfoldable pub walkFrom : (NodeId → DependencyPathEntry → Bool) → Reached → List DependencyPathEntry → Reached
 walkFrom mark at [] = at
-walkFrom mark at (e ∷ es) = walkFrom mark (getOrCreatePropertyEntry (at .registry) (at .node) (withOptional e (mark (at .node) e))) es
+walkFrom mark at (e ∷ es) = walkFrom mark (stepFrom mark at e) es
 
 -- Down a whole path, from the root of its identifier.
 abbrev pub walkPath : (NodeId → DependencyPathEntry → Bool) → PropertyPathRegistry → ReactiveScopeDependency → Reached

@@ -1,6 +1,7 @@
 -- A registry keeps its nodes at their places. In a sound one a node is the only one with its
 -- identifier, or with its parent and entry, and a child's path is its parent's and one entry more.
--- Finding or making keeps it sound, and a node's own path leads back to it.
+-- Finding or making keeps it sound, tells how much longer the registry is, and a node's own path
+-- leads back to it.
 use Prim.Native.Nat.{ℕ, zero, suc, _+_, _≤_, _<_}
 use native.Mathlib.Nat.{le-refl, le-trans, not-suc-le-zero}
 use native.Mathlib.Omega.{arith}
@@ -38,6 +39,9 @@ use Rattle.model.specs.Registry.{
   getOrCreateIdentifier,
   getOrCreatePropertyEntry,
   withOptional,
+  makes,
+  madeBefore,
+  stepFrom,
   walkFrom,
   walkPath,
   ownMark,
@@ -117,15 +121,18 @@ module _ (test : PropertyPathNode → Bool) where
     pub same : ensure test new reg ≡ reg
     pub inside : find test reg < length reg
     pub passes : test (nodeAt reg (find test reg)) ≡ true
+    pub none : makes test reg ≡ 0
 
   -- it was made
   pub record WasMade (new : PropertyPathNode) (reg : PropertyPathRegistry) : Type 0 where
     pub appended : ensure test new reg ≡ reg ++ (new ∷ [])
     pub last : find test reg ≡ length reg
+    pub one : makes test reg ≡ 1
 
   pub found-or-made : (new : PropertyPathNode) (reg : PropertyPathRegistry) → WasFound new reg ⊎ WasMade new reg
-  found-or-made new [] = inr (record { appended = refl; last = refl })
-  found-or-made new (n ∷ ns) = decide (test n) (λ t. inl (record { same = rw t; inside = rw t (omega arith); passes = rw t t }))
+  found-or-made new [] = inr (record { appended = refl; last = refl; one = refl })
+  found-or-made new (n ∷ ns) = decide (test n)
+      (λ t. inl (record { same = rw t; inside = rw t (omega arith); passes = rw t t; none = rw t }))
       (λ t. go t (found-or-made new ns))
     where
       go : test n ≡ false → WasFound new ns ⊎ WasMade new ns → WasFound new (n ∷ ns) ⊎ WasMade new (n ∷ ns)
@@ -134,8 +141,18 @@ module _ (test : PropertyPathNode → Bool) where
         inside = rw t
             (let le = f .inside in omega arith);
         passes = rw t (f .passes);
+        none = rw t (f .none);
       })
-      go t (inr m) = inr (record { appended = rw t (ap (λ r. n ∷ r) (m .appended)); last = rw t (ap suc (m .last)) })
+      go t (inr m) = inr
+          (record { appended = rw t (ap (λ r. n ∷ r) (m .appended)); last = rw t (ap suc (m .last)); one = rw t (m .one) })
+
+  -- One is made exactly where the registry is longer by one.
+  pub makes-longer : (new : PropertyPathNode) (reg : PropertyPathRegistry) → length (ensure test new reg) ≡ length reg + makes test reg
+  makes-longer new reg = go (found-or-made new reg)
+    where
+      go : WasFound new reg ⊎ WasMade new reg → length (ensure test new reg) ≡ length reg + makes test reg
+      go (inl f) = let same = ap length (f .same) in let none = f .none in omega arith
+      go (inr m) = let longer = ap length (m .appended) ∙ length-append reg (new ∷ []) in let one = m .one in omega arith
 
   pub ensure-extends : (new : PropertyPathNode) (reg : PropertyPathRegistry) → Extends reg (ensure test new reg)
   ensure-extends new reg = go (found-or-made new reg)
@@ -338,12 +355,17 @@ child-reached reg p e h le =
 
 -- Walks.
 
+pub step-proper : (mark : NodeId → DependencyPathEntry → Bool) (at : Reached) (e : DependencyPathEntry) → Proper at
+    → Proper (stepFrom mark at e)
+step-proper mark at e h =
+    let next = child-reached (at .registry) (at .node) (withOptional e (mark (at .node) e)) (h .sound) (h .inside) .proper in
+    record { sound = next .sound; inside = next .inside }
+
 pub walk-proper : (mark : NodeId → DependencyPathEntry → Bool) (at : Reached) (es : List DependencyPathEntry) → Proper at → Proper
     (walkFrom mark at es)
 unfolding walkFrom
 walk-proper mark at [] h = h
-walk-proper mark at (e ∷ es) h = walk-proper mark _ es
-    (child-reached (at .registry) (at .node) (withOptional e (mark (at .node) e)) (h .sound) (h .inside) .proper)
+walk-proper mark at (e ∷ es) h = walk-proper mark _ es (step-proper mark at e h)
 
 pub walk-extends : (mark : NodeId → DependencyPathEntry → Bool) (at : Reached) (es : List DependencyPathEntry) → Extends
     (at .registry) (walkFrom mark at es .registry)
@@ -360,6 +382,28 @@ pub path-extends : (mark : NodeId → DependencyPathEntry → Bool) (reg : Prope
     → Extends reg (walkPath mark reg d .registry)
 path-extends mark reg d = extends-trans (ensure-extends (isRootFor (d .identifier)) _ reg) (walk-extends mark _ (d .path))
 
+-- A walk has made as many nodes as the registry is longer by.
+pub walk-made : (mark : NodeId → DependencyPathEntry → Bool) (at : Reached) (es : List DependencyPathEntry)
+    → length (walkFrom mark at es .registry) + at .made ≡ length (at .registry) + walkFrom mark at es .made
+unfolding walkFrom
+walk-made mark at [] = refl
+walk-made mark at (e ∷ es) =
+    let marked = withOptional e (mark (at .node) e) in
+    let test = isChildBy (at .node) marked in
+    let new = childNode (at .node) (fullPathOf (at .registry) (at .node)) marked in
+    let walked = walkFrom mark (stepFrom mark at e) es in
+    let one = makes-longer test new (at .registry) in
+    let rest : length (walked .registry) + (at .made + makes test (at .registry)) ≡ length (ensure test new (at .registry)) + walked .made =
+    walk-made mark (stepFrom mark at e) es in
+    omega arith
+
+pub path-made : (mark : NodeId → DependencyPathEntry → Bool) (reg : PropertyPathRegistry) (d : ReactiveScopeDependency)
+    → length (walkPath mark reg d .registry) ≡ length reg + walkPath mark reg d .made
+path-made mark reg d =
+    let rest = walk-made mark (getOrCreateIdentifier reg (d .identifier) (d .reactive) (d .span)) (d .path) in
+    let one = makes-longer (isRootFor (d .identifier)) (rootNode (d .identifier) (d .reactive) (d .span)) reg in
+    omega arith
+
 walk-append : (mark : NodeId → DependencyPathEntry → Bool) (at : Reached) (xs ys : List DependencyPathEntry) → walkFrom mark at
     (xs ++ ys) ≡ walkFrom mark (walkFrom mark at xs) ys
 unfolding walkFrom
@@ -369,11 +413,11 @@ walk-append mark at (x ∷ xs) ys = walk-append mark _ xs ys
 -- what is found is reached, and nothing is made
 pub found : (test : PropertyPathNode → Bool) (new : PropertyPathNode) (reg : PropertyPathRegistry) (k : NodeId) → k .0 < length reg
     → find test reg ≡ k .0
-    → findOrMake test new reg ≡ record { registry = reg; node = k }
+    → findOrMake test new reg ≡ record { registry = reg; node = k; made = 0 }
 found test new reg k h e = go (found-or-made test new reg)
   where
-    go : WasFound test new reg ⊎ WasMade test new reg → findOrMake test new reg ≡ record { registry = reg; node = k }
-    go (inl f) = λ i. record { registry = f .same i; node = record { 0 = e i } }
+    go : WasFound test new reg ⊎ WasMade test new reg → findOrMake test new reg ≡ record { registry = reg; node = k; made = 0 }
+    go (inl f) = λ i. record { registry = f .same i; node = record { 0 = e i }; made = f .none i }
     go (inr m) = absurd (let l = m .last in omega arith)
 
 -- A walk that makes nothing goes the same way in each registry that extends its own.
@@ -381,13 +425,13 @@ found test new reg k h e = go (found-or-made test new reg)
 -- what was there is found again
 found-again : (test : PropertyPathNode → Bool) (new new′ : PropertyPathNode) {a b : PropertyPathRegistry} → Extends a b → Extends
     (ensure test new a) a
-    → (findOrMake test new a ≡ record { registry = a; node = record { 0 = find test a } }) ×
-    (findOrMake test new′ b ≡ record { registry = b; node = record { 0 = find test a } })
+    → (findOrMake test new a ≡ record { registry = a; node = record { 0 = find test a }; made = 0 }) ×
+    (findOrMake test new′ b ≡ record { registry = b; node = record { 0 = find test a }; made = 0 })
 found-again test new new′ {a} {b} x back = go (found-or-made test new a)
   where
     go : WasFound test new a ⊎ WasMade test new a
-        → (findOrMake test new a ≡ record { registry = a; node = record { 0 = find test a } }) ×
-        (findOrMake test new′ b ≡ record { registry = b; node = record { 0 = find test a } })
+        → (findOrMake test new a ≡ record { registry = a; node = record { 0 = find test a }; made = 0 }) ×
+        (findOrMake test new′ b ≡ record { registry = b; node = record { 0 = find test a }; made = 0 })
     go (inl f) =
         let longer = extends-length x in
         let inside = f .inside in (
@@ -400,23 +444,24 @@ found-again test new new′ {a} {b} x back = go (found-or-made test new a)
 
 walk-again-from : (mark : NodeId → DependencyPathEntry → Bool) {a b : PropertyPathRegistry} → Extends a b → (q : NodeId)
     (es : List DependencyPathEntry) {k : NodeId}
-    → walkFrom mark (record { registry = a; node = q }) es ≡ record { registry = a; node = k } → walkFrom mark
-    (record { registry = b; node = q }) es ≡ record { registry = b; node = k }
+    → walkFrom mark (record { registry = a; node = q; made = 0 }) es ≡ record { registry = a; node = k; made = 0 } → walkFrom mark
+    (record { registry = b; node = q; made = 0 }) es ≡ record { registry = b; node = k; made = 0 }
 unfolding walkFrom
-walk-again-from mark {a} {b} x q [] e = λ i. record { registry = b; node = e i .node }
+walk-again-from mark {a} {b} x q [] e = λ i. record { registry = b; node = e i .node; made = 0 }
 walk-again-from mark {a} {b} x q (f ∷ fs) {k} e =
     let g = withOptional f (mark q f) in
     let new = childNode q (fullPathOf a q) g in
     let new′ = childNode q (fullPathOf b q) g in
     let test = isChildBy q g in
-    let back = subst (λ (r : Reached). Extends (ensure test new a) (r .registry)) e (walk-extends mark (findOrMake test new a) fs) in
+    let back = subst (λ (r : Reached). Extends (ensure test new a) (r .registry)) e
+    (walk-extends mark (madeBefore 0 (findOrMake test new a)) fs) in
     let there = found-again test new new′ x back in
-    ap (λ (at : Reached). walkFrom mark at fs) (there .1) ∙ walk-again-from mark x (record { 0 = find test a }) fs
-    (sym (ap (λ (at : Reached). walkFrom mark at fs) (there .0)) ∙ e)
+    ap (λ (at : Reached). walkFrom mark (madeBefore 0 at) fs) (there .1) ∙ walk-again-from mark x (record { 0 = find test a }) fs
+    (sym (ap (λ (at : Reached). walkFrom mark (madeBefore 0 at) fs) (there .0)) ∙ e)
 
 pub walk-extended : (mark : NodeId → DependencyPathEntry → Bool) {a b : PropertyPathRegistry} → Extends a b →
     (d : ReactiveScopeDependency) {k : NodeId}
-    → walkPath mark a d ≡ record { registry = a; node = k } → walkPath mark b d ≡ record { registry = b; node = k }
+    → walkPath mark a d ≡ record { registry = a; node = k; made = 0 } → walkPath mark b d ≡ record { registry = b; node = k; made = 0 }
 walk-extended mark {a} {b} x d {k} e =
     let new = rootNode (d .identifier) (d .reactive) (d .span) in
     let test = isRootFor (d .identifier) in
@@ -429,7 +474,7 @@ walk-extended mark {a} {b} x d {k} e =
 -- nothing.
 pub leads-back : (reg : PropertyPathRegistry) → Sound reg → (below : ℕ) (k : NodeId) → k .0 < below → k .0 < length reg → (r : Bool) (s : ℕ)
     → walkFrom ownMark (getOrCreateIdentifier reg (fullPathOf reg k .identifier) r s)
-    (fullPathOf reg k .path) ≡ record { registry = reg; node = k }
+    (fullPathOf reg k .path) ≡ record { registry = reg; node = k; made = 0 }
 unfolding walkFrom
 leads-back reg h zero k lt le r s = absurd (not-suc-le-zero lt)
 leads-back reg h (suc below) k lt le r s =
@@ -437,19 +482,15 @@ leads-back reg h (suc below) k lt le r s =
   where
     go : (o : Origin) (d : ReactiveScopeDependency) → StandsAt reg (k .0) o d
         → ((p : NodeId) → p .0 < k .0 → walkFrom ownMark (getOrCreateIdentifier reg (fullPathOf reg p .identifier) r s)
-        (fullPathOf reg p .path) ≡ record { registry = reg; node = p })
-        → walkFrom ownMark (getOrCreateIdentifier reg (d .identifier) r s) (d .path) ≡ record { registry = reg; node = k }
+        (fullPathOf reg p .path) ≡ record { registry = reg; node = p; made = 0 })
+        → walkFrom ownMark (getOrCreateIdentifier reg (d .identifier) r s) (d .path) ≡ record { registry = reg; node = k; made = 0 }
     go root d st parent = rw (st .path) (found (isRootFor (d .identifier)) (rootNode (d .identifier) r s) reg k le (st .only))
     go (childOf p e) d st parent =
         rw (st .child .path, st .child .identifier)
         (walk-append ownMark _ (fullPathOf reg p .path) (e ∷ []) ∙ ap (λ at. walkFrom ownMark at (e ∷ [])) (parent p (st .after))
-        ∙ found (isChildBy p e) (childNode p (fullPathOf reg p) e) reg k le (st .only))
+        ∙ ap (madeBefore 0) (found (isChildBy p e) (childNode p (fullPathOf reg p) e) reg k le (st .only)))
 
 -- A node's path walked again from its root, under any marks.
-
--- the child of what was reached, by an entry under its mark there
-abbrev pub stepFrom : (NodeId → DependencyPathEntry → Bool) → Reached → DependencyPathEntry → Reached
-stepFrom mark at e = getOrCreatePropertyEntry (at .registry) (at .node) (withOptional e (mark (at .node) e))
 
 -- a node's root is there, so that asking for it makes nothing, whatever reactive and span are given
 root-there : (reg : PropertyPathRegistry) → Sound reg → (k : NodeId) → k .0 < length reg → (r : Bool) (s : ℕ)
@@ -475,11 +516,12 @@ root-any : (reg : PropertyPathRegistry) → Sound reg → (k : NodeId) → k .0 
     → getOrCreateIdentifier reg (fullPathOf reg k .identifier) r s ≡ getOrCreateIdentifier reg (fullPathOf reg k .identifier) r′ s′
 root-any reg h k le r r′ s s′ =
     let same = root-there reg h k le r s ∙ sym (root-there reg h k le r′ s′) in
-    λ i. record { registry = same i; node = record { 0 = find (isRootFor (fullPathOf reg k .identifier)) reg } }
+    let test = isRootFor (fullPathOf reg k .identifier) in
+    λ i. record { registry = same i; node = record { 0 = find test reg }; made = makes test reg }
 
 module _ (mark : NodeId → DependencyPathEntry → Bool) (reg : PropertyPathRegistry) (h : Sound reg) (k : NodeId)
     (le : k .0 < length reg) where
-  pub again-root : nodeAt reg (k .0) .origin ≡ root → walkPath mark reg (fullPathOf reg k) ≡ record { registry = reg; node = k }
+  pub again-root : nodeAt reg (k .0) .origin ≡ root → walkPath mark reg (fullPathOf reg k) ≡ record { registry = reg; node = k; made = 0 }
   unfolding walkFrom
   again-root o =
       let st : StandsAsRoot reg (k .0) (fullPathOf reg k) = subst (λ x. StandsAt reg (k .0) x (fullPathOf reg k)) o (h (k .0) le) in

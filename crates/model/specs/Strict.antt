@@ -7,7 +7,7 @@ use lib.ListN.{getD, replicate}
 use Rattle.model.specs.Visit.{TraversalState, Unmarked, isDone}
 use Rattle.model.specs.Propagation.{JoiningRule}
 use Rattle.model.specs.Job.{HD}
-use Rattle.model.specs.Answer.{Verdict, verdict, spanWidth, leastBuffer, answerBytes, sheetBytes, programOutput}
+use Rattle.model.specs.Answer.{Verdict, verdict, spanWidth, leastBuffer, answerBytes, answerWriting, sheetBytes, programOutput}
 
 -- "Every neighbour is Done", by the marks at that moment.
 abbrev pub allDone : List TraversalState → List ℕ → Bool
@@ -23,7 +23,7 @@ strictNeighbours marks bs = cond (allDone marks bs) bs []
 -- The answer by the strict propagation. "9 counts the strict run's own nodes."
 unfoldable pub strictAnswerOf : List ℕ → List ℕ → Verdict
 unfolding verdict answerBytes strictNeighbours
-strictAnswerOf job out = verdict HD spanWidth strictNeighbours answerBytes job out
+strictAnswerOf job out = verdict HD spanWidth strictNeighbours answerWriting job out
 
 -- And the sheet.
 unfoldable pub strictSheetOf : List ℕ → List ℕ → Verdict

@@ -12,13 +12,14 @@ use Rattle.registry.specs.Words.{Arrives}
 use Rattle.paths.specs.declared.EnteredPath.{EnteredPath}
 use Rattle.paths.specs.declared.EnteredPath.the-variants.{At, Full}
 
--- down from a node by entries under their own marks
-abbrev pub walkOwn : PropertyPathRegistry → NodeId → List DependencyPathEntry → Reached
-walkOwn reg k es = walkFrom ownMark (record { registry = reg; node = k }) es
+-- down from a node by entries under their own marks, after so many nodes were made
+abbrev pub walkOwn : PropertyPathRegistry → NodeId → ℕ → List DependencyPathEntry → Reached
+walkOwn reg k made es = walkFrom ownMark (record { registry = reg; node = k; made = made }) es
 
--- The record that reads to a value leads to the node that `reach` gives for it, with the place
--- after the record; or the registry has no room for that (refusal 9 by the model's `withinNodes`).
+-- The record that reads to a value leads to the node that `reach` gives for it, with as many nodes
+-- made on the way, and with the place after the record; or the registry has no room for that
+-- (refusal 9 by the model's `withinNodes`).
 abbrev pub Enters : {A : Type 0} → Read A → (A → Reached) → EnteredPath → List ℕ → List ℕ → Type 0
-Enters (got a next) reach (At k n) ws os = Arrives (reach a) (entered.At k) ws os × (n ≡ next)
+Enters (got a next) reach (At k made n) ws os = Arrives (reach a) (entered.At k made) ws os × (n ≡ next)
 Enters (got a next) reach Full ws os = nodeLimit < length (reach a .registry)
 Enters (refused r) reach answer ws os = ⊥

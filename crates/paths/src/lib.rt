@@ -1,7 +1,7 @@
 // Enters an assumed path of a job into the registry, straight from its bytes. The path was read
 // before, with the whole job, so that no record is refused here.
 ghost use mathlib.Core.Path.{_≡_};
-ghost use Prim.Native.Nat.{_<_};
+ghost use Prim.Native.Nat.{_≤_, _<_};
 ghost use Rattle.model.specs.ReadingBytes.{readMany};
 ghost use Rattle.model.specs.Job.{PA, readEntry, readPath};
 ghost use Rattle.model.specs.Registry.{getOrCreateProperty};
@@ -15,14 +15,15 @@ use job::ReadEntry;
 use job::ReadPathHead;
 use registry::NodeEntered;
 
-// The path's node and the place after the record; or that the registry has no room. The code has to
-// answer for a field that is refused, too; that never happens, and it says `Full`.
+// The path's node, how many nodes were made on the way to it, and the place after the record; or
+// that the registry has no room. The code has to answer for a field that is refused, too; that
+// never happens, and it says `Full`.
 pub enum EnteredPath {
-    At(NodeId, usize),
+    At(NodeId, usize, usize),
     Full,
 }
 
-// From a node on by `count` entries.
+// From a node on by `count` entries, where so many nodes were made before.
 fn enter_entries(
     s: &[u8],
     start: usize,
@@ -30,29 +31,32 @@ fn enter_entries(
     ws: &mut [u64; 1665],
     optional: &mut [u64; 8],
     from: NodeId,
+    before: usize,
 ) -> EnteredPath
-    requires { ⌜ Held (now ws) (now optional) × (from .0 < countIn (now ws)) × IsRead (readMany count (readEntry spanWidth) (now s) start)
-        ⌝ }
-    ensures { λ r. ⌜ Enters (readMany count (readEntry spanWidth) (now (s .entry)) start) (walkOwn (registryOf (now (ws .entry))) from) r
-        (now (ws .exit)) (now (optional .exit)) ⌝ }
+    requires { ⌜ Held (now ws) (now optional) × (from .0 < countIn (now ws)) × (before ≤ countIn (now ws))
+        × IsRead (readMany count (readEntry spanWidth) (now s) start) ⌝ }
+    ensures { λ r. ⌜ Enters (readMany count (readEntry spanWidth) (now (s .entry)) start)
+        (walkOwn (registryOf (now (ws .entry))) from before) r (now (ws .exit)) (now (optional .exit)) ⌝ }
 {
     let mut at = start;
     let mut left = count;
     let mut node = from;
+    let mut made = before;
     while 0 < left {
         let field = job::entry_at(s, at);
         let ReadEntry::Value(entry, next) = field else {
             return EnteredPath::Full;
         };
         let child = registry::get_or_create_property_entry(ws, optional, node, entry);
-        let NodeEntered::At(reached) = child else {
+        let NodeEntered::At(reached, new) = child else {
             return EnteredPath::Full;
         };
         node = reached;
+        made = made + new;
         at = next;
         left = left - 1;
     }
-    EnteredPath::At(node, at)
+    EnteredPath::At(node, made, at)
 }
 
 // The assumed path at a place.
@@ -77,8 +81,8 @@ pub fn enter_path(s: &[u8], at: usize, ws: &mut [u64; 1665], optional: &mut [u64
         head.reactive,
         head.span,
     );
-    let NodeEntered::At(reached) = root else {
+    let NodeEntered::At(reached, made) = root else {
         return EnteredPath::Full;
     };
-    enter_entries(s, entries_at, head.entries, ws, optional, reached)
+    enter_entries(s, entries_at, head.entries, ws, optional, reached, made)
 }

@@ -53,7 +53,7 @@ module _ (ws : List ℕ) (r : PassSet) (k : NodeId) where
   pub node-full : nodeLimit < length (at .registry) → nodeLimit < length (wanted .registry)
   node-full full = let same = ap (λ (x : PassState). length (x .registry)) is-from in omega arith
 
-  module _ (vs : List ℕ) (q : NodeId) (walked : at ≡ record { registry = registryOf vs; node = q }) where
+  module _ (vs : List ℕ) (q : NodeId) (made : ℕ) (walked : at ≡ record { registry = registryOf vs; node = q; made = made }) where
     pub node-inside : Sound reg → countIn vs ≤ 512 → q .0 < 512
     node-inside h room = let size = registry-length vs in let l = subst Proper walked
         (path-proper (reducedMark s) reg (fullPathOf reg k) h) .inside in omega arith

@@ -1,7 +1,7 @@
 -- One entry of a path that is walked again, and one node more of it.
 use Prim.Native.Nat.{ℕ, _+_, _≤_, _<_}
 use native.Mathlib.Omega.{arith}
-use native.Mathlib.Nat.{le-trans}
+use native.Mathlib.Nat.{le-trans, add-zero}
 use mathlib.Core.Path.{_≡_, refl, sym, ap, subst, _∙_}
 use mathlib.Core.Bool.{Bool, true, false, Bool·beq}
 use mathlib.Core.List.{List, [], _∷_}
@@ -31,6 +31,8 @@ use Rattle.model.specs.Registry.{
   findOrMake,
   fullPathOf,
   withOptional,
+  madeBefore,
+  stepFrom,
   getOrCreatePropertyEntry,
   isChild,
   isChildBy,
@@ -52,7 +54,8 @@ use Rattle.model.specs.RegistryLaws.{
   path-extends,
   path-proper,
   found,
-  stepFrom,
+  makes-longer,
+  path-made,
   again-root,
   again-child,
   child-after,
@@ -66,9 +69,9 @@ use Rattle.reduction.specs.Reduces.{ChildAt, leadsBack}
 
 -- An answer by its case.
 
-pub arrived-at : (want : Reached) (r : NodeEntered) (k : NodeId) (ws os : List ℕ) → r ≡ At k → Arrives want r ws os → Held ws os ×
-    (want ≡ record { registry = registryOf ws; node = k })
-arrived-at want r k ws os e a = subst (λ x. Arrives want x ws os) e a
+pub arrived-at : (want : Reached) (r : NodeEntered) (k : NodeId) (made : ℕ) (ws os : List ℕ) → r ≡ At k made → Arrives want r ws os → Held ws os ×
+    (want ≡ record { registry = registryOf ws; node = k; made = made })
+arrived-at want r k made ws os e a = subst (λ x. Arrives want x ws os) e a
 
 pub arrived-full : (want : Reached) (r : NodeEntered) (ws os : List ℕ) → r ≡ Full → Arrives want r ws os → nodeLimit < length (want .registry)
 arrived-full want r ws os e a = subst (λ x. Arrives want x ws os) e a
@@ -77,17 +80,39 @@ arrived-full want r ws os e a = subst (λ x. Arrives want x ws os) e a
 
 module _ (mark : NodeId → DependencyPathEntry → Bool) (reg : PropertyPathRegistry) (p q k : NodeId) (e : DependencyPathEntry) (o : Bool)
     (own : o ≡ mark q e) where
-  -- the parent is where it was and the mark stays: the node is found
-  pub step-same : ChildAt reg p e k → q .0 ≡ p .0 → o ≡ e .optional → stepFrom mark
-      (record { registry = reg; node = q }) e ≡ record { registry = reg; node = k }
-  step-same c here kept =
-      ap (λ b. getOrCreatePropertyEntry reg q (withOptional e b)) (sym own ∙ kept)
-      ∙ ap (λ (i : ℕ). getOrCreatePropertyEntry reg (record { 0 = i }) e) here ∙ found (isChildBy p e) (childNode p (fullPathOf reg p) e) reg k
-      (c .inside) (c .first)
+  abbrev stepped : ℕ → Reached
+  stepped before = stepFrom mark (record { registry = reg; node = q; made = before }) e
 
-  pub step-made : (r : NodeEntered) (ws os : List ℕ) → Arrives (getOrCreatePropertyEntry reg q (withOptional e o)) r ws os → Arrives
-      (stepFrom mark (record { registry = reg; node = q }) e) r ws os
-  step-made r ws os a = subst (λ b. Arrives (getOrCreatePropertyEntry reg q (withOptional e b)) r ws os) own a
+  abbrev childOfReached : Reached
+  childOfReached = getOrCreatePropertyEntry reg q (withOptional e o)
+
+  stepped-is : (before : ℕ) → stepped before ≡ madeBefore before childOfReached
+  stepped-is before = ap (λ b. madeBefore before (getOrCreatePropertyEntry reg q (withOptional e b))) (sym own)
+
+  -- the parent is where it was and the mark stays: the node is found
+  pub step-same : (before : ℕ) → ChildAt reg p e k → q .0 ≡ p .0 → o ≡ e .optional → stepped before ≡ record { registry = reg; node = k; made = before }
+  step-same before c here kept =
+      let there : childOfReached ≡ record { registry = reg; node = k; made = 0 } =
+      ap (λ b. getOrCreatePropertyEntry reg q (withOptional e b)) kept
+      ∙ ap (λ (i : ℕ). getOrCreatePropertyEntry reg (record { 0 = i }) e) here ∙ found (isChildBy p e) (childNode p (fullPathOf reg p) e) reg k
+      (c .inside) (c .first) in
+      stepped-is before ∙ ap (madeBefore before) there ∙ (λ i. record { registry = reg; node = k; made = add-zero before i })
+
+  -- there is no room for the child
+  pub step-full : (before : ℕ) → nodeLimit < length (childOfReached .registry) → nodeLimit < length (stepped before .registry)
+  step-full before full = subst (λ (y : Reached). nodeLimit < length (y .registry)) (sym (stepped-is before)) full
+
+  -- the child is found or made
+  module _ (ws : List ℕ) (r : NodeId) (new : ℕ) (is : childOfReached ≡ record { registry = registryOf ws; node = r; made = new }) where
+    pub step-made : (before : ℕ) → stepped before ≡ record { registry = registryOf ws; node = r; made = before + new }
+    step-made before = stepped-is before ∙ ap (madeBefore before) is
+
+    pub step-fits : (before : ℕ) → before ≤ length reg → before + new ≤ countIn ws
+    step-fits before few =
+        let longer = subst (λ (y : Reached). length (y .registry) ≡ length reg + y .made) is
+        (makes-longer (isChildBy q (withOptional e o)) (childNode q (fullPathOf reg q) (withOptional e o)) reg) in
+        let size = registry-length ws in
+        omega arith
 
 -- One node more.
 
@@ -110,7 +135,7 @@ module _ (mark : NodeId → DependencyPathEntry → Bool) {ws : List ℕ} {k : N
   hangs : (m : Node) → n ≡ m → Rattle.model.specs.RegistryLaws.nodeAt reg (k .0) .origin ≡ originOf m
   hangs m e = origin-at ws (k .0) (x .here) ∙ ap originOf (sym (x .loaded) ∙ e)
 
-  pub walk-root : (i : IdentifierId) (r : Bool) (s : ℕ) → n ≡ Root i r s → again k ≡ record { registry = reg; node = k }
+  pub walk-root : (i : IdentifierId) (r : Bool) (s : ℕ) → n ≡ Root i r s → again k ≡ record { registry = reg; node = k; made = 0 }
   walk-root i r s e = again-root mark reg (x .sound) k inside (hangs (Root i r s) e)
 
   module _ {p : NodeId} {e : DependencyPathEntry} (child : n ≡ Child p e) where
@@ -129,12 +154,19 @@ module _ (mark : NodeId → DependencyPathEntry → Bool) {ws : List ℕ} {k : N
         let same = ap (λ (y : Reached). length (y .registry)) on in
         omega arith
 
-    module _ (vs : List ℕ) {q : NodeId} (walked : again p ≡ record { registry = registryOf vs; node = q }) where
+    module _ (vs : List ℕ) {q : NodeId} {made : ℕ} (walked : again p ≡ record { registry = registryOf vs; node = q; made = made }) where
       extends : Extends reg (registryOf vs)
       extends = subst (λ (y : Reached). Extends reg (y .registry)) walked (path-extends mark reg (fullPathOf reg p))
 
       pub reached-inside : q .0 < countIn vs
       reached-inside = let size = registry-length vs in let l = subst Proper walked (path-proper mark reg (fullPathOf reg p) (x .sound)) .inside in omega arith
+
+      -- what was made is among the nodes
+      pub walked-made : made ≤ countIn vs
+      walked-made =
+          let size = registry-length vs in
+          let longer = subst (λ (y : Reached). length (y .registry) ≡ length reg + y .made) walked (path-made mark reg (fullPathOf reg p)) in
+          omega arith
 
       pub child-still : ChildAt (registryOf vs) p e k
       child-still =
@@ -143,13 +175,14 @@ module _ (mark : NodeId → DependencyPathEntry → Bool) {ws : List ℕ} {k : N
           let longer = extends-length extends in
           record { inside = omega arith; first = find-extends (isChildBy p e) extends (omega arith) ∙ f }
 
-      pub walk-child : (r : NodeEntered) (us os : List ℕ) → Arrives (stepFrom mark (record { registry = registryOf vs; node = q }) e) r us os → Arrives
-          (again k) r us os
+      pub walk-child : (r : NodeEntered) (us os : List ℕ)
+          → Arrives (stepFrom mark (record { registry = registryOf vs; node = q; made = made }) e) r us os → Arrives (again k) r us os
       walk-child r us os a = subst (λ (y : Reached). Arrives y r us os) (ap (λ (y : Reached). stepFrom mark y e) (sym walked) ∙ sym on) a
 
     -- the parent's walk leads back to it, and the entry keeps its mark
-    pub walk-back : (o : Bool) → o ≡ mark p e → o ≡ e .optional → again p ≡ record { registry = reg; node = p } → again k ≡ record { registry = reg; node = k }
-    walk-back o own kept back = on ∙ ap (λ (y : Reached). stepFrom mark y e) back ∙ step-same mark reg p p k e o own (child-still ws back) refl kept
+    pub walk-back : (o : Bool) → o ≡ mark p e → o ≡ e .optional → again p ≡ record { registry = reg; node = p; made = 0 }
+        → again k ≡ record { registry = reg; node = k; made = 0 }
+    walk-back o own kept back = on ∙ ap (λ (y : Reached). stepFrom mark y e) back ∙ step-same mark reg p p k e o own 0 (child-still ws back) refl kept
 
     -- what the parent's walk reaches, the entry under its mark there, and the test for that child
     abbrev reached : NodeId
@@ -165,14 +198,15 @@ module _ (mark : NodeId → DependencyPathEntry → Bool) {ws : List ℕ} {k : N
     new = childNode reached (fullPathOf (again p .registry) reached) marked
 
     -- the node's walk leads back to it: so does its parent's, and the entry keeps its mark
-    pub back-parent : again k ≡ record { registry = reg; node = k } → (again p ≡ record { registry = reg; node = p }) × (mark p e ≡ e .optional)
+    pub back-parent : again k ≡ record { registry = reg; node = k; made = 0 } → (again p ≡ record { registry = reg; node = p; made = 0 })
+        × (mark p e ≡ e .optional)
     back-parent back = go (found-or-made wanted new (again p .registry))
       where
-        to : findOrMake wanted new (again p .registry) ≡ record { registry = reg; node = k }
+        to : madeBefore (again p .made) (findOrMake wanted new (again p .registry)) ≡ record { registry = reg; node = k; made = 0 }
         to = sym on ∙ back
 
-        go : WasFound wanted new (again p .registry) ⊎ WasMade wanted new (again p .registry) → (again p ≡ record { registry = reg; node = p }) ×
-            (mark p e ≡ e .optional)
+        go : WasFound wanted new (again p .registry) ⊎ WasMade wanted new (again p .registry)
+            → (again p ≡ record { registry = reg; node = p; made = 0 }) × (mark p e ≡ e .optional)
         go (inr m) =
             let longer = extends-length (path-extends mark reg (fullPathOf reg p)) in
             let more = ap length (m .appended) ∙ length-append (again p .registry) (new ∷ []) in
@@ -188,7 +222,8 @@ module _ (mark : NodeId → DependencyPathEntry → Bool) {ws : List ℕ} {k : N
             (hangs (Child p e) child) passes in
             let parent : p .0 ≡ reached .0 = eqb-true (p .0) (reached .0) (and-first (eqb (p .0) (reached .0)) _ child-test) in
             let kept : e .optional ≡ mark reached e = entry-optional e marked (and-second (eqb (p .0) (reached .0)) _ child-test) in
-            (λ i. record { registry = same i; node = record { 0 = sym parent i } }, ap (λ (i : ℕ). mark (record { 0 = i }) e) parent ∙ sym kept)
+            let none : again p .made ≡ 0 = let total = ap (λ (y : Reached). y .made) to in omega arith in
+            (λ i. record { registry = same i; node = record { 0 = sym parent i }; made = none i }, ap (λ (i : ℕ). mark (record { 0 = i }) e) parent ∙ sym kept)
 
 -- A node that is reached from parent to parent: its path leads back to it where that of the first
 -- node does, and the other way round.

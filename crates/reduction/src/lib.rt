@@ -1,12 +1,11 @@
 // `reduce_maybe_optional_chains`: passes over a set's nodes with an optional entry until one
 // changes nothing.
 ghost use mathlib.Core.Path.{_≡_};
-ghost use Prim.Native.Nat.{_<_};
+ghost use Prim.Native.Nat.{_≤_, _<_};
 ghost use Rattle.entries.specs.declared.NodeId.{NodeId};
 ghost use Rattle.rows.specs.Members.{membersOf};
 ghost use Rattle.registry.specs.Words.{countIn, registryOf, HoldsRegistry, Held, Arrives};
-ghost use Rattle.model.specs.Registry.{fullPathOf, walkPath};
-ghost use Rattle.model.specs.RegistryLaws.{stepFrom};
+ghost use Rattle.model.specs.Registry.{fullPathOf, stepFrom, walkPath};
 ghost use Rattle.model.specs.Reduction.{reducedMark, reduceNode, pass, reduceMaybeOptionalChains};
 ghost use Rattle.model.specs.ReductionLaws.{Members};
 ghost use Rattle.reduction.specs.Reduces.{ChildAt, leadsBack, KnownReduced, passOf, Passes, Reduces};
@@ -41,8 +40,8 @@ fn reduced_mark(set: NodeBits, k: NodeId, e: DependencyPathEntry) -> bool
     if e.optional { !set.contains(k) } else { false }
 }
 
-// From q on by the entry e, under its mark there. Node k is the child of p by e: where q is p and
-// the mark stays, there is nothing to look for.
+// From q on by the entry e, under its mark there, where so many nodes were made before. Node k is
+// the child of p by e: where q is p and the mark stays, there is nothing to look for or to make.
 fn step(
     ws: &mut [u64; 1665],
     optional: &mut [u64; 8],
@@ -51,10 +50,12 @@ fn step(
     p: NodeId,
     e: DependencyPathEntry,
     q: NodeId,
+    before: usize,
 ) -> NodeEntered
-    requires { ⌜ Held (now ws) (now optional) × (q .0 < countIn (now ws)) × ChildAt (registryOf (now ws)) p e k ⌝ }
+    requires { ⌜ Held (now ws) (now optional) × (q .0 < countIn (now ws)) × ChildAt (registryOf (now ws)) p e k
+        × (before ≤ countIn (now ws)) ⌝ }
     ensures { λ r. ⌜ Arrives (stepFrom (reducedMark (membersOf (set .words)))
-        (record { registry = registryOf (now (ws .entry)); node = q }) e) r (now (ws .exit)) (now (optional .exit)) ⌝ }
+        (record { registry = registryOf (now (ws .entry)); node = q; made = before }) e) r (now (ws .exit)) (now (optional .exit)) ⌝ }
 {
     let property = e.property;
     let marked = e.optional;
@@ -62,10 +63,10 @@ fn step(
     let kept = reduced_mark(set, q, e);
     if q.0 == p.0 {
         if kept == marked {
-            return NodeEntered::At(k);
+            return NodeEntered::At(k, before);
         }
     }
-    get_or_create_property_entry(
+    let child = get_or_create_property_entry(
         ws,
         optional,
         q,
@@ -74,7 +75,12 @@ fn step(
             optional: kept,
             span,
         },
-    )
+    );
+    let NodeEntered::At(reached, new) = child else {
+        return NodeEntered::Full;
+    };
+    let made = before + new;
+    NodeEntered::At(reached, made)
 }
 
 // The path of node k, walked again from its root under the marks that the set leaves.
@@ -90,12 +96,12 @@ pub fn walk_again(
 {
     let n = load(ws, k);
     match n {
-        Node::Root(_, _, _) => NodeEntered::At(k),
+        Node::Root(_, _, _) => NodeEntered::At(k, 0),
         Node::Child(p, e) => {
-            let NodeEntered::At(q) = walk_again(ws, optional, set, p) else {
+            let NodeEntered::At(q, made) = walk_again(ws, optional, set, p) else {
                 return NodeEntered::Full;
             };
-            step(ws, optional, set, k, p, e, q)
+            step(ws, optional, set, k, p, e, q, made)
         }
     }
 }
@@ -130,7 +136,7 @@ fn reduce_node(ws: &mut [u64; 1665], optional: &mut [u64; 8], r: PassSet, k: Nod
 {
     let set = r.set;
     let changed = r.changed;
-    let NodeEntered::At(q) = walk_again(ws, optional, set, k) else {
+    let NodeEntered::At(q, _) = walk_again(ws, optional, set, k) else {
         return PassSet {
             set,
             changed,

@@ -136,8 +136,8 @@ pub record Held (ws os : List ℕ) : Type 0 where
 abbrev pub HoldsNone : List ℕ → List ℕ → Type 0
 HoldsNone ws os = Held ws os × (registryOf ws ≡ [])
 
--- What is reached: the words hold the registry that was to be reached, and the node is its number;
--- or that registry has no room.
+-- What is reached: the words hold the registry that was to be reached, the node is its number, and
+-- as many nodes were made on the way; or that registry has no room.
 abbrev pub Arrives : Reached → NodeEntered → List ℕ → List ℕ → Type 0
-Arrives want (At k) ws os = Held ws os × (want ≡ record { registry = registryOf ws; node = k })
+Arrives want (At k made) ws os = Held ws os × (want ≡ record { registry = registryOf ws; node = k; made = made })
 Arrives want Full ws os = nodeLimit < length (want .registry)

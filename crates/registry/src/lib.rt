@@ -237,9 +237,10 @@ fn find(ws: &[u64; 1665], n: Node) -> usize
     count(ws)
 }
 
-// The node reached, or that the words have no room for it.
+// The node reached, and how many nodes were made on the way to it, 1 or 0 where a single one was to
+// be found or made; or that the words have no room.
 pub enum NodeEntered {
-    At(NodeId),
+    At(NodeId, usize),
     Full,
 }
 
@@ -281,13 +282,13 @@ fn find_or_make(ws: &mut [u64; 1665], optional: &mut [u64; 8], n: Node) -> NodeE
     let k = find(ws, n);
     let end = count(ws);
     if k < end {
-        return NodeEntered::At(NodeId(k));
+        return NodeEntered::At(NodeId(k), 0);
     }
     if end < Node::LIMIT {
         push(ws, n);
         let made = NodeId(end);
         note(optional, n, made);
-        NodeEntered::At(made)
+        NodeEntered::At(made, 1)
     } else {
         NodeEntered::Full
     }

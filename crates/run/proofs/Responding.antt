@@ -15,7 +15,7 @@ use Rattle.model.specs.Answer.{
   withinLengths,
   leastBuffer,
   longestJob,
-  answerBytes,
+  answerWriting,
   answerOf,
   answerProgram,
   sheetBytes,
@@ -44,9 +44,9 @@ by-room least s out rest wide =
 -- A buffer of the program's length gives the program's output.
 output : (p : Program) (s out : List ℕ) → length out ≡ bytesLent → programOutput (operationOf p s out) ≡ programOf p s
 unfolding answerProgram answerOf sheetProgram sheetOf strictAnswerProgram strictAnswerOf strictSheetProgram strictSheetOf thinProgram thinOf
-output program.Answer s out e = ap programOutput (by-room leastBuffer s out (readAnd doneNeighbours answerBytes s) (omega arith))
+output program.Answer s out e = ap programOutput (by-room leastBuffer s out (readAnd doneNeighbours answerWriting s) (omega arith))
 output program.Sheet s out e = ap programOutput (by-room leastBuffer s out (readAnd doneNeighbours sheetBytes s) (omega arith))
-output program.StrictAnswer s out e = ap programOutput (by-room leastBuffer s out (readAnd strictNeighbours answerBytes s) (omega arith))
+output program.StrictAnswer s out e = ap programOutput (by-room leastBuffer s out (readAnd strictNeighbours answerWriting s) (omega arith))
 output program.StrictSheet s out e = ap programOutput (by-room leastBuffer s out (readAnd strictNeighbours sheetBytes s) (omega arith))
 output program.Thin s out e = ap programOutput (by-room leastThinBuffer s out (readAndThin s) (omega arith))
 

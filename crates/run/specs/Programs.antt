@@ -18,7 +18,8 @@ use Rattle.model.specs.Answer.{
   leastBuffer,
   longestJob,
   spanWidth,
-  answerBytes,
+  Writing,
+  answerWriting,
   answerOf,
   answerProgram,
   sheetBytes,
@@ -81,7 +82,7 @@ first-bytes-verdict least rest s out =
     (λ e. rw (take-all bytesRead s (ltb-false bytesRead (length s) e)))
 
 -- What an operation does beside 1 and 2, under a joining rule.
-abbrev pub readAnd : JoiningRule → (ℕ → Job → Rounds Work → List ℕ) → List ℕ → Verdict
+abbrev pub readAnd : JoiningRule → Writing → List ℕ → Verdict
 readAnd rule bytes s = onJob rule (bytes spanWidth) (readJob HD spanWidth s)
 
 abbrev pub readAndThin : List ℕ → Verdict
@@ -91,11 +92,11 @@ readAndThin s = onThinJob HD spanWidth (readJob HD spanWidth s)
 pub first-bytes : (p : Program) (s : List ℕ) → programOf p (take bytesRead s) ≡ programOf p s
 unfolding answerProgram answerOf sheetProgram sheetOf strictAnswerProgram strictAnswerOf strictSheetProgram strictSheetOf thinProgram thinOf
 first-bytes program.Answer s =
-    ap programOutput (first-bytes-verdict leastBuffer (readAnd doneNeighbours answerBytes) s (replicate leastBuffer 0))
+    ap programOutput (first-bytes-verdict leastBuffer (readAnd doneNeighbours answerWriting) s (replicate leastBuffer 0))
 first-bytes program.Sheet s =
     ap programOutput (first-bytes-verdict leastBuffer (readAnd doneNeighbours sheetBytes) s (replicate leastBuffer 0))
 first-bytes program.StrictAnswer s =
-    ap programOutput (first-bytes-verdict leastBuffer (readAnd strictNeighbours answerBytes) s (replicate leastBuffer 0))
+    ap programOutput (first-bytes-verdict leastBuffer (readAnd strictNeighbours answerWriting) s (replicate leastBuffer 0))
 first-bytes program.StrictSheet s =
     ap programOutput (first-bytes-verdict leastBuffer (readAnd strictNeighbours sheetBytes) s (replicate leastBuffer 0))
 first-bytes program.Thin s = ap programOutput (first-bytes-verdict leastThinBuffer readAndThin s (replicate leastThinBuffer 0))

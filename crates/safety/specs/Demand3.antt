@@ -9,7 +9,7 @@ use Rattle.model.specs.Propagation.{JoiningRule, doneNeighbours}
 use Rattle.model.specs.ReadingBytes.{got}
 use Rattle.model.specs.Job.{Block, Job, HD, readJob}
 use Rattle.model.specs.Stage.{propagated, hoistablePaths, returnedPaths}
-use Rattle.model.specs.Answer.{spanWidth, verdict, answerBytes, answerOf, readAnswer}
+use Rattle.model.specs.Answer.{spanWidth, verdict, answerBytes, answerWriting, answerOf, readAnswer}
 use Rattle.model.specs.Strict.{strictNeighbours, strictAnswerOf}
 use Rattle.safety.specs.Runs.{WithoutLoops, Run, AssumedHold}
 use Rattle.safety.specs.Statement.{
@@ -49,11 +49,11 @@ job-demand Hypothesis rule safe j ok =
 
 -- What an operation's answer meets, under any rule that is safe under a hypothesis.
 pub verdict-meets : (head spanBytes : ℕ) (Hypothesis : List Block → Type 0) (rule : JoiningRule) → SafeRule rule Hypothesis
-    → OperationMeetsDemand3 head spanBytes Hypothesis (verdict head spanBytes rule answerBytes)
+    → OperationMeetsDemand3 head spanBytes Hypothesis (verdict head spanBytes rule answerWriting)
 verdict-meets head spanBytes Hypothesis rule safe job out answer bytes e = go
-    (verdict-written head spanBytes rule answerBytes job out answer e)
+    (verdict-written head spanBytes rule answerWriting job out answer e)
   where
-    go : ReadAndWritten rule (answerBytes spanBytes) (readJob head spanBytes job) answer
+    go : ReadAndWritten rule (answerWriting spanBytes) (readJob head spanBytes job) answer
         → AnswerMeetsDemand3 head spanBytes Hypothesis job answer
     go w =
         let fit = holds-got _ (w .reads) (job-fits job bytes head spanBytes) in

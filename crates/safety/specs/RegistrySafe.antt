@@ -14,12 +14,22 @@ use Rattle.model.specs.Registry.{
   Reached,
   fullPathOf,
   withOptional,
+  stepFrom,
   walkFrom,
   walkPath,
   getOrCreateIdentifier,
-  getOrCreatePropertyEntry,
 }
-use Rattle.model.specs.RegistryLaws.{Extends, extends-path, extends-length, Sound, Proper, root-reached, child-reached, entry-property}
+use Rattle.model.specs.RegistryLaws.{
+  Extends,
+  extends-path,
+  extends-length,
+  Sound,
+  Proper,
+  root-reached,
+  child-reached,
+  step-proper,
+  entry-property,
+}
 use Rattle.model.specs.Sets.{NodeSet}
 use Rattle.model.specs.ListLaws.{All, all-map}
 use Rattle.safety.specs.ReadingPathsLaws.{NonNull, Reaches, reaches-root, reaches-safe, reaches-next, nullish-not}
@@ -52,9 +62,9 @@ module _ {X : Type 0} (S : Store X) where
   walk-safe mark at (e ∷ es) undefined p r h = absurd (nullish-not S e h)
   walk-safe mark at (e ∷ es) (value x) p r h =
       let e′ = withOptional e (mark (at .node) e) in
-      let next = getOrCreatePropertyEntry (at .registry) (at .node) e′ in
+      let next = stepFrom mark at e in
       let c = child-reached (at .registry) (at .node) e′ (p .sound) (p .inside) in
-      walk-safe mark next es (S .ofProperty x (e .property)) (c .proper)
+      walk-safe mark next es (S .ofProperty x (e .property)) (step-proper mark at e p)
       (reaches-next S (fullPathOf (at .registry) (at .node)) (fullPathOf (next .registry) (next .node)) x (c .entry) (e .property) r
       (c .child .identifier) (c .child .path)
       (entry-property (c .entry) e′ (c .same))) h

@@ -20,8 +20,9 @@ use Rattle.model.specs.Answer.{
   leastBuffer,
   longestJob,
   spanWidth,
+  Writing,
   verdict,
-  answerBytes,
+  answerWriting,
   sheetBytes,
   answerOf,
   sheetOf,
@@ -55,7 +56,7 @@ propagated-same bs ok free =
     (enterBlocks [] bs .registry) (enterBlocks [] bs .sets)
 
 -- The verdicts, for any mark of the header, any width of a span and whatever is written.
-pub strict-verdict : (head spanBytes : ℕ) (bytes : ℕ → Job → Rounds Work → List ℕ) (job out : List ℕ)
+pub strict-verdict : (head spanBytes : ℕ) (bytes : Writing) (job out : List ℕ)
     → HoldsIfRead (λ (j : Job). WithoutLoops (j .blocks)) (readJob head spanBytes job)
     → verdict head spanBytes strictNeighbours bytes job out ≡ verdict head spanBytes doneNeighbours bytes job out
 unfolding verdict
@@ -65,9 +66,11 @@ strict-verdict head spanBytes bytes job out free =
     go : (x : Read Job) → HoldsIfRead (λ (j : Job). WithoutLoops (j .blocks)) x
         → HoldsIfRead (λ (j : Job). ProperBlocks (j .blocks)) x
         → onJob strictNeighbours (bytes spanBytes) x ≡ onJob doneNeighbours (bytes spanBytes) x
-    go (got j end) free ok = ap (λ (p : Rounds Work). withinNodes p (bytes spanBytes j p)) (propagated-same (j .blocks) ok free)
+    go (got j end) free ok =
+        ap (λ (p : Rounds Work). withinNodes p (bytes spanBytes j (enterBlocks [] (j .blocks)) p))
+        (propagated-same (j .blocks) ok free)
     go (refused r) free ok = refl
 
 pub strict-same : StrictSame
 unfolding strictAnswerOf strictSheetOf answerOf sheetOf
-strict-same job out free = (strict-verdict HD spanWidth answerBytes job out free, strict-verdict HD spanWidth sheetBytes job out free)
+strict-same job out free = (strict-verdict HD spanWidth answerWriting job out free, strict-verdict HD spanWidth sheetBytes job out free)

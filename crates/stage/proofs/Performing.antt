@@ -17,7 +17,7 @@ use Rattle.model.specs.Registry.{nodeLimit}
 use Rattle.model.specs.Rounds.{Rounds}
 use Rattle.model.specs.Propagation.{Work, JoiningRule, doneNeighbours}
 use Rattle.model.specs.Job.{HD, Job, readJob}
-use Rattle.model.specs.Stage.{propagated}
+use Rattle.model.specs.Stage.{enterBlocks, propagated}
 use Rattle.model.specs.Answer.{
   Verdict,
   writes,
@@ -28,9 +28,7 @@ use Rattle.model.specs.Answer.{
   longestJob,
   spanWidth,
   verdict,
-  answerBytes,
   answerOf,
-  sheetBytes,
   sheetOf,
   bufferAfter,
 }
@@ -65,20 +63,22 @@ module _ (rule : JoiningRule) (op : Operation) (s : List ℕ) (j : Job) (end : �
   abbrev p : Rounds Work
   p = propagated rule (j .blocks)
 
-  read-verdict : jobVerdict rule op s ≡ withinNodes p (operationBytes op spanWidth j p)
+  abbrev bytes : List ℕ
+  bytes = operationBytes op spanWidth j (enterBlocks [] (j .blocks)) p
+
+  read-verdict : jobVerdict rule op s ≡ withinNodes p bytes
   unfolding jobVerdict
   read-verdict = ap (onJob rule (operationBytes op spanWidth)) reads
 
   pub full-refused : nodeLimit < length (p .work .registry) → jobVerdict rule op s ≡ turnsBack ManyNodes
-  full-refused h = read-verdict ∙ ap (λ b. cond b (turnsBack ManyNodes) (writes (operationBytes op spanWidth j p)))
+  full-refused h = read-verdict ∙ ap (λ b. cond b (turnsBack ManyNodes) (writes bytes))
       (ltb-less nodeLimit (length (p .work .registry)) h)
 
-  pub room-written : {n : ℕ} {run : RoundsRun} {sets ws os : List ℕ} → HoldsRounds p n run sets ws os → jobVerdict rule op s ≡ writes
-      (operationBytes op spanWidth j p)
+  pub room-written : {n : ℕ} {run : RoundsRun} {sets ws os : List ℕ} → HoldsRounds p n run sets ws os → jobVerdict rule op s ≡ writes bytes
   room-written {ws = ws} x =
       let size = ap length (propagated-registry x) ∙ registry-length ws in
       let room = x .stands .held .sized .room in
-      read-verdict ∙ ap (λ b. cond b (turnsBack ManyNodes) (writes (operationBytes op spanWidth j p)))
+      read-verdict ∙ ap (λ b. cond b (turnsBack ManyNodes) (writes bytes))
       (ltb-not-less nodeLimit (length (p .work .registry)) (omega arith))
 
 -- Any bytes and any buffer.

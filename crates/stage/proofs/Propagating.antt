@@ -13,7 +13,7 @@ use Rattle.model.specs.RegistryLaws.{extends-length}
 use Rattle.model.specs.ReductionLaws.{Members}
 use Rattle.model.specs.Rounds.{Rounds}
 use Rattle.model.specs.Propagation.{Work, Graph, JoiningRule, propagateNonNull, roundStart}
-use Rattle.model.specs.PropagationLaws.{propagation-extends, start-proper}
+use Rattle.model.specs.PropagationLaws.{propagated-extends, start-proper}
 use Rattle.model.specs.Job.{Block}
 use Rattle.model.specs.Stage.{Started, graphOf, enterBlocks, propagated}
 use Rattle.rows.specs.Rows.{rowsOf}
@@ -34,11 +34,7 @@ use Rattle.propagation.specs.declared.Propagated.the-variants.{Full}
 -- a registry that has passed the limit before propagation stays beyond it
 pub full-start : (rule : JoiningRule) (bs : List Block) → nodeLimit < length (enterBlocks [] bs .registry) → nodeLimit < length
     (propagated rule bs .work .registry)
-unfolding propagated
-full-start rule bs h =
-    let start = enterBlocks [] bs in
-    let longer = extends-length (propagation-extends rule (graphOf bs) (start .registry) (start .sets)) in
-    omega arith
+full-start rule bs h = let longer = extends-length (propagated-extends rule bs) in omega arith
 
 module _ {bs : List Block} {n : ℕ} {ws os sets g : List ℕ} (count : length bs ≡ n) (x : StartHeld (enterBlocks [] bs) n ws os sets) (y : HoldsGraph bs g) where
   size-same : sizeIn g ≡ n
@@ -80,8 +76,8 @@ module _ {bs : List Block} {n : ℕ} {ws os sets g : List ℕ} (count : length b
 
 -- the answer of `enter_blocks` by its case
 module _ (want : Started) (n : ℕ) (r : BlocksEntered) (ws os sets : List ℕ) (h : Starts want n r ws os sets) where
-  pub entered-all : r ≡ entered.All → StartHeld want n ws os sets
-  entered-all e = subst (λ q. Starts want n q ws os sets) e h
+  pub entered-all : (made : ℕ) → r ≡ entered.All made → StartHeld want n ws os sets × (made ≡ length (want .registry))
+  entered-all made e = subst (λ q. Starts want n q ws os sets) e h
 
   pub entered-full : r ≡ entered.Full → nodeLimit < length (want .registry)
   entered-full e = subst (λ q. Starts want n q ws os sets) e h
@@ -94,3 +90,7 @@ module _ {s ids places : List ℕ} {n : ℕ} (noted : NotedJob s ids places n) w
   pub job-propagated : (rule : JoiningRule) (r : Propagated) (sets ws os : List ℕ) → Propagates (propagated rule (blocksOf s)) n r sets ws os
       → Propagates (propagated rule (noted .job .blocks)) n r sets ws os
   job-propagated rule r sets ws os = subst (λ (bs : List Block). Propagates (propagated rule bs) n r sets ws os) (blocks-read (noted .job) (noted .blocks))
+
+  -- what entering made is what the job's start has
+  pub job-entered : (made : ℕ) → made ≡ length (enterBlocks [] (blocksOf s) .registry) → length (enterBlocks [] (noted .job .blocks) .registry) ≡ made
+  job-entered made e = ap (λ (bs : List Block). length (enterBlocks [] bs .registry)) (sym (blocks-read (noted .job) (noted .blocks))) ∙ sym e

@@ -19,7 +19,7 @@ use Rattle.model.specs.Rounds.{Rounds}
 use Rattle.model.specs.Propagation.{Work, setOf}
 use Rattle.model.specs.PropagationLaws.{members-empty}
 use Rattle.model.specs.Tree.{deriveMinimalDependencies}
-use Rattle.model.specs.Stage.{placeOf, hoistablePaths, returnedPaths}
+use Rattle.model.specs.Stage.{Started, placeOf, hoistablePaths, returnedPaths}
 use Rattle.model.specs.Answer.{u8, u16, flag, AN, DE, pathBytes, answerBytes, nodeBytes, setBytes, sheetBytes, spanWidth, leastBuffer}
 use Rattle.rows.specs.Rows.{rowOf, rowsOf}
 use Rattle.rows.proofs.Rows.{row-at}
@@ -42,8 +42,8 @@ use Rattle.sheet_bytes.proofs.Nodes.{nodes-length}
 use Rattle.sheet_bytes.proofs.Blocks.{block-length}
 use Rattle.sheet_bytes.proofs.Whole.{head-length}
 use Rattle.registry.proofs.View.{registry-length}
-use Rattle.stage.specs.declared.Operation.the-variants.{Answer, Sheet}
-use Rattle.stage.specs.Jobs.{AcceptedJob, Standing, PutsJob}
+use Rattle.stage.specs.declared.Operation.the-variants.{Sheet}
+use Rattle.stage.specs.Jobs.{AcceptedJob, Standing, PutsAnswer, PutsJob}
 
 -- bytes stand in the buffer from its start on, and have their room there
 abbrev Stand : List ℕ → List ℕ → List ℕ → ℕ → Type 0
@@ -65,18 +65,20 @@ sets-length [] sets = omega arith
 sets-length (b ∷ bs) [] = omega arith
 sets-length (b ∷ bs) (t ∷ ts) = omega (arith, length-append (setRecord (b .id) t) (setBytes bs ts), block-length (b .id) t, sets-length bs ts)
 
-sheet-fits : (j : Job) (p : Rounds Work) (before : List ℕ) → length (p .work .registry) ≤ 512 → length (j .blocks) ≤ 128 → leastBuffer ≤ length before
-    → length (sheetBytes spanWidth j p) ≤ length before
+sheet-fits : (j : Job) (start : Started) (p : Rounds Work) (before : List ℕ) → length (p .work .registry) ≤ 512 → length (j .blocks) ≤ 128
+    → leastBuffer ≤ length before
+    → length (sheetBytes spanWidth j start p) ≤ length before
 unfolding sheetBytes
-sheet-fits j p before nodes blocks wide =
-    let head = headBytes (length (p .work .registry)) (length (j .blocks)) (p .rounds) (p .settled) in
+sheet-fits j start p before nodes blocks wide =
+    let entered = length (start .registry) in
+    let head = headBytes (length (p .work .registry)) (length (j .blocks)) (p .rounds) (p .settled) entered in
     let reg = concatMap (nodeBytes 4) (p .work .registry) in
     let rows = setBytes (j .blocks) (p .work .sets) in
     omega (
       arith,
       length-append (head ++ reg) rows,
       length-append head reg,
-      head-length (length (p .work .registry)) (length (j .blocks)) (p .rounds) (p .settled),
+      head-length (length (p .work .registry)) (length (j .blocks)) (p .rounds) (p .settled) entered,
       nodes-length (p .work .registry),
       sets-length (j .blocks) (p .work .sets),
     )
@@ -121,9 +123,9 @@ module _ {s ids places : List ℕ} {head : JobHead} (acc : AcceptedJob s ids pla
     -- the answer over the words is the job's
     pub puts-answer : (set : NodeSet) → set ≡ rowOf sets place → (run : RoundsRun) (before after : List ℕ) (next : ℕ)
         → WritesAnswer s (head .«candidates_at») (head .candidates) (registryOf ws) set (run .rounds) (run .settled) before after next
-        → PutsJob Answer s head sets ws run before after next
+        → PutsAnswer s head sets ws run before after next
     unfolding answerBytes returnedPaths hoistablePaths workOf
-    puts-answer set e run before after next w j end reads p same =
+    puts-answer set e run before after next w entered j end reads start size p same =
         let j-same : j ≡ job = (let b = sym reads ∙ acc .noted .blocks .reads in cc) in
         let a = job-accepted job (acc .noted .blocks) in
         let h = acc .keeps in
@@ -139,23 +141,25 @@ module _ {s ids places : List ℕ} {head : JobHead} (acc : AcceptedJob s ids pla
         (answerOver (deriveMinimalDependencies (map (fullPathOf (registryOf ws)) t) (job .candidates)) (run .rounds) (run .settled)) next)
         (sym sets-same) (w (job .candidates) (length s) cs)))
 
-  pub puts-sheet : (sets ws : List ℕ) → Standing n sets ws → (run : RoundsRun) (before after : List ℕ) (next : ℕ) → leastBuffer ≤ length before
-      → WritesSheet ws sets ids n (run .rounds) (run .settled) before after next → PutsJob Sheet s head sets ws run before after next
+  pub puts-sheet : (sets ws : List ℕ) → Standing n sets ws → (entered : ℕ) (run : RoundsRun) (before after : List ℕ) (next : ℕ)
+      → leastBuffer ≤ length before → WritesSheet ws sets ids n (run .rounds) (run .settled) entered before after next
+      → PutsJob Sheet s head sets ws entered run before after next
   unfolding workOf
-  puts-sheet sets ws stands run before after next wide w j end reads p same =
+  puts-sheet sets ws stands entered run before after next wide w j end reads start present p same =
       let j-same : j ≡ job = (let b = sym reads ∙ acc .noted .blocks .reads in cc) in
       let count : length (j .blocks) ≡ n = ap (λ (k : Job). length (k .blocks)) j-same ∙ acc .noted .blocks .count in
       let registry : p .work .registry ≡ registryOf ws = ap (λ (q : Rounds Work). q .work .registry) same in
       let few = acc .noted .few in
       let nodes = stands .sized .room in
       let size = ap length registry ∙ registry-length ws in (
-        w j p (record {
+        w j start p (record {
           count = count;
           ids = acc .listed ∙ ap (λ (k : Job). idsOf (k .blocks)) (sym j-same);
           registry = registry;
           sets = ap (λ (q : Rounds Work). q .work .sets) same;
           rounds = ap (λ (q : Rounds Work). q .rounds) same;
           settled = ap (λ (q : Rounds Work). q .settled) same;
+          before = present;
         }),
-        sheet-fits j p before (omega arith) (omega arith) wide,
+        sheet-fits j start p before (omega arith) (omega arith) wide,
       )

@@ -12,8 +12,8 @@ use Rattle.model.specs.RegistryLaws.{Sound}
 use Rattle.model.specs.ReductionLaws.{Members}
 use Rattle.model.specs.Rounds.{Rounds}
 use Rattle.model.specs.Propagation.{Work, JoiningRule}
-use Rattle.model.specs.Stage.{propagated}
-use Rattle.model.specs.Answer.{Verdict, writes, turnsBack, onJob, verdict, spanWidth, longestJob, answerBytes, sheetBytes, bufferAfter}
+use Rattle.model.specs.Stage.{Started, propagated}
+use Rattle.model.specs.Answer.{Verdict, writes, turnsBack, onJob, Writing, verdict, spanWidth, answerWriting, sheetBytes, bufferAfter}
 use Rattle.rows.specs.Rows.{rowsOf}
 use Rattle.registry.specs.Words.{registryOf, Sized}
 use Rattle.writer.specs.Writes.{Writes}
@@ -29,9 +29,9 @@ use Rattle.stage.specs.declared.Operation.the-variants as operation
 use Rattle.stage.specs.declared.Outcome.{Outcome}
 use Rattle.stage.specs.declared.Outcome.the-variants.{Written, Refused}
 
--- What each operation writes of a job and its propagation.
-abbrev pub operationBytes : Operation → ℕ → Job → Rounds Work → List ℕ
-operationBytes operation.Answer = answerBytes
+-- What each operation writes of a job, its start and its propagation.
+abbrev pub operationBytes : Operation → Writing
+operationBytes operation.Answer = answerWriting
 operationBytes operation.Sheet = sheetBytes
 
 -- For each verdict, the outcome that stands for it.
@@ -82,9 +82,15 @@ pub record Standing (n : ℕ) (sets ws : List ℕ) : Type 0 where
 abbrev pub PropagatesJob : JoiningRule → List ℕ → ℕ → Propagated → List ℕ → List ℕ → List ℕ → Type 0
 PropagatesJob rule s n r sets ws os = Propagates (propagated rule (blocksOf s)) n r sets ws os
 
--- The operation's bytes of the job that is read, where its propagation left these words after this
--- run, stand in the buffer from its start on, and have their room there.
-abbrev pub PutsJob : Operation → List ℕ → JobHead → List ℕ → List ℕ → RoundsRun → List ℕ → List ℕ → ℕ → Type 0
-PutsJob op s head sets ws run before after next =
-    (j : Job) (end : ℕ) → readJob HD spanWidth s ≡ got j end → (p : Rounds Work) → p ≡ roundsOf (head .blocks) sets ws run
-    → Writes before after 0 (operationBytes op spanWidth j p) next × (length (operationBytes op spanWidth j p) ≤ length before)
+-- The operation's bytes of the job that is read, where its start has so many nodes and its
+-- propagation left these words after this run, stand in the buffer from its start on, and have
+-- their room there.
+abbrev pub PutsJob : Operation → List ℕ → JobHead → List ℕ → List ℕ → ℕ → RoundsRun → List ℕ → List ℕ → ℕ → Type 0
+PutsJob op s head sets ws entered run before after next =
+    (j : Job) (end : ℕ) → readJob HD spanWidth s ≡ got j end → (start : Started) → length (start .registry) ≡ entered
+    → (p : Rounds Work) → p ≡ roundsOf (head .blocks) sets ws run
+    → Writes before after 0 (operationBytes op spanWidth j start p) next × (length (operationBytes op spanWidth j start p) ≤ length before)
+
+-- The answer's bytes, whatever the start: the answer tells nothing of it.
+abbrev pub PutsAnswer : List ℕ → JobHead → List ℕ → List ℕ → RoundsRun → List ℕ → List ℕ → ℕ → Type 0
+PutsAnswer s head sets ws run before after next = (entered : ℕ) → PutsJob operation.Answer s head sets ws entered run before after next

@@ -1,20 +1,22 @@
 // The operations on a job's bytes: its answer and its sheet, by the existing propagation or by the
 // strict one, and its thin job, written into an out buffer, or the refusal.
 ghost use mathlib.Core.Path.{_≡_};
+ghost use mathlib.Core.List.{[]};
 ghost use Prim.Native.Nat.{_≤_, _<_};
 ghost use lib.ListN.{length};
 ghost use Rattle.model.specs.Answer.{leastBuffer, answerOf, sheetOf, bufferAfter, numberReturned};
 ghost use Rattle.model.specs.Thin.{thinOf};
 ghost use Rattle.model.specs.Strict.{strictAnswerOf, strictSheetOf};
-ghost use Rattle.rows.specs.Rows.{Lent};
-ghost use Rattle.registry.specs.Words.{HoldsNone};
-ghost use Rattle.stage.specs.declared.Operation.the-variants.{Answer};
+ghost use Rattle.model.specs.Stage.{enterBlocks};
+ghost use Rattle.job.specs.Kept.{blocksOf};
+ghost use Rattle.assumed.specs.Start.{StartHeld};
 ghost use Rattle.edges.specs.Fills.{NotedJob};
 ghost use Rattle.propagation.specs.Rules.{ruleOf};
 ghost use Rattle.stage.specs.Jobs.{
   AcceptedJob,
   Standing,
   PropagatesJob,
+  PutsAnswer,
   PutsJob,
   verdictOf,
   jobVerdict,
@@ -22,6 +24,7 @@ ghost use Rattle.stage.specs.Jobs.{
   FitsNumber,
   outcomeNumber,
 };
+use assumed::BlocksEntered;
 use entries::Refusal;
 use job::JobHead;
 use job::ReadJob;
@@ -41,7 +44,7 @@ pub enum Outcome {
     Refused(Refusal),
 }
 
-// Enters the assumed paths, fills the graph and propagates.
+// Fills the graph and propagates, from the assumed paths that were entered.
 fn propagate(
     joining: Joining,
     s: &[u8],
@@ -52,13 +55,10 @@ fn propagate(
     optional: &mut [u64; 8],
     sets: &mut [u64; 1024],
 ) -> Propagated
-    requires { ⌜ NotedJob (now s) (now ids) (now places) blocks × HoldsNone (now ws) (now optional) × Lent (now sets) ⌝ }
+    requires { ⌜ NotedJob (now s) (now ids) (now places) blocks
+        × StartHeld (enterBlocks [] (blocksOf (now s))) blocks (now ws) (now optional) (now sets) ⌝ }
     ensures { λ r. ⌜ PropagatesJob (ruleOf joining) (now (s .entry)) blocks r (now (sets .exit)) (now (ws .exit)) (now (optional .exit)) ⌝ }
 {
-    let entered = assumed::enter_blocks(s, places, blocks, ws, optional, sets);
-    let assumed::BlocksEntered::All = entered else {
-        return Propagated::Full;
-    };
     let mut graph = [0u8; 10497];
     edges::fill_graph(s, ids, places, blocks, &mut graph);
     propagation::propagate_non_null(joining, &graph, sets, ws, optional)
@@ -77,7 +77,7 @@ fn put_answer(
 ) -> usize
     requires { ⌜ AcceptedJob (now s) (now ids) (now places) head × Standing (head .blocks) (now sets) (now ws) × (run .rounds < 256)
         × (leastBuffer ≤ length (now out)) ⌝ }
-    ensures { λ r. ⌜ PutsJob Answer (now (s .entry)) head (now (sets .entry)) (now (ws .entry)) run (now (out .entry))
+    ensures { λ r. ⌜ PutsAnswer (now (s .entry)) head (now (sets .entry)) (now (ws .entry)) run (now (out .entry))
         (now (out .exit)) r ⌝ }
 {
     let scope = head.scope;
@@ -95,7 +95,8 @@ fn put_answer(
     )
 }
 
-// The bytes of the operation, from the buffer's start on.
+// The bytes of the operation, from the buffer's start on; `entered` is how many nodes entering the
+// assumed paths made.
 fn put(
     operation: Operation,
     s: &[u8],
@@ -104,12 +105,13 @@ fn put(
     head: JobHead,
     ws: &[u64; 1665],
     sets: &[u64; 1024],
+    entered: usize,
     run: RoundsRun,
     out: &mut [u8],
 ) -> usize
     requires { ⌜ AcceptedJob (now s) (now ids) (now places) head × Standing (head .blocks) (now sets) (now ws) × (run .rounds < 256)
         × (leastBuffer ≤ length (now out)) ⌝ }
-    ensures { λ r. ⌜ PutsJob operation (now (s .entry)) head (now (sets .entry)) (now (ws .entry)) run (now (out .entry))
+    ensures { λ r. ⌜ PutsJob operation (now (s .entry)) head (now (sets .entry)) (now (ws .entry)) entered run (now (out .entry))
         (now (out .exit)) r ⌝ }
 {
     match operation {
@@ -121,12 +123,14 @@ fn put(
             head.blocks,
             run.rounds as u8,
             run.settled,
+            entered,
             out,
         ),
     }
 }
 
-// The operation on a job that was read: refusal 9, or its bytes.
+// The operation on a job that was read: its assumed paths are entered and its blocks propagated;
+// refusal 9, or its bytes.
 fn perform_read(
     joining: Joining,
     operation: Operation,
@@ -139,9 +143,14 @@ fn perform_read(
     requires { ⌜ AcceptedJob (now s) (now ids) (now places) head × (leastBuffer ≤ length (now out)) ⌝ }
     ensures { λ r. ⌜ Meets (jobVerdict (ruleOf joining) operation (now (s .entry))) r (now (out .entry)) (now (out .exit)) ⌝ }
 {
+    let full = Outcome::Refused(Refusal::ManyNodes);
     let mut ws = [0u64; 1665];
     let mut optional = [0u64; 8];
     let mut sets = [0u64; 1024];
+    let entered = assumed::enter_blocks(s, places, head.blocks, &mut ws, &mut optional, &mut sets);
+    let BlocksEntered::All(made) = entered else {
+        return full;
+    };
     let propagated = propagate(
         joining,
         s,
@@ -153,9 +162,9 @@ fn perform_read(
         &mut sets,
     );
     let Propagated::Ran(run) = propagated else {
-        return Outcome::Refused(Refusal::ManyNodes);
+        return full;
     };
-    let written = put(operation, s, ids, places, head, &ws, &sets, run, out);
+    let written = put(operation, s, ids, places, head, &ws, &sets, made, run, out);
     Outcome::Written(written)
 }
 

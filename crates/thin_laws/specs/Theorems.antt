@@ -5,7 +5,7 @@ use native.Mathlib.Omega.{arith}
 use mathlib.Core.Path.{_≡_, refl, sym, ap, subst, _∙_}
 use mathlib.Core.Logic.{inl, inr}
 use mathlib.Core.Bool.{Bool, true, false, cond}
-use mathlib.Core.List.{List}
+use mathlib.Core.List.{List, []}
 use lib.ListN.{length}
 use lib.Dec.{ltb}
 use Rattle.entries.specs.declared.Refusal.{Refusal}
@@ -18,7 +18,7 @@ use Rattle.model.specs.Rounds.{Rounds}
 use Rattle.model.specs.Propagation.{Work, JoiningRule, doneNeighbours}
 use Rattle.model.specs.Job.{Job, HD, readJob}
 use Rattle.model.specs.JobBytes.{jobBytes}
-use Rattle.model.specs.Stage.{propagated}
+use Rattle.model.specs.Stage.{Started, enterBlocks, propagated}
 use Rattle.model.specs.Answer.{
   Verdict,
   writes,
@@ -29,8 +29,9 @@ use Rattle.model.specs.Answer.{
   leastBuffer,
   longestJob,
   spanWidth,
+  Writing,
   verdict,
-  answerBytes,
+  answerWriting,
   sheetBytes,
   answerOf,
   sheetOf,
@@ -52,7 +53,7 @@ use Rattle.thin_laws.specs.Statement.{
 }
 use Rattle.thin_laws.specs.Repeats.{thinned-once}
 use Rattle.thin_laws.specs.Refused.{OfReading, reading-refuses}
-use Rattle.thin_laws.specs.ThinPaths.{propagated-thinned, answer-thinned, sheet-thinned}
+use Rattle.thin_laws.specs.ThinPaths.{blocks-thinned, propagated-thinned, answer-thinned, sheet-thinned}
 use Rattle.thin_laws.specs.ThinJobs.{
   scope-thinned,
   blocks-thinned-once,
@@ -124,8 +125,8 @@ module _ (head w : ℕ) (m : head < 256 ^ 2) (job o t : List ℕ) (bytes : All (
 
   -- an operation that writes the same of a thin job as of the job does the same with what was
   -- written
-  pub same-verdict : (rule : JoiningRule) (made : ℕ → Job → Rounds Work → List ℕ)
-      → ((j : Job) (p : Rounds Work) → made w (thinned j) p ≡ made w j p)
+  pub same-verdict : (rule : JoiningRule) (made : Writing)
+      → ((j : Job) (start : Started) (p : Rounds Work) → made w (thinned j) start p ≡ made w j start p)
       → (out : List ℕ) → verdict head w rule made t out ≡ verdict head w rule made job out
   unfolding verdict thinned
   same-verdict rule made same out =
@@ -134,8 +135,10 @@ module _ (head w : ℕ) (m : head < 256 ^ 2) (job o t : List ℕ) (bytes : All (
       let short = within .short in
       let on : onJob rule (made w) (readJob head w t) ≡ onJob rule (made w) (readJob head w job)
       = ap (onJob rule (made w)) reads-thin
-      ∙ ap (λ (q : Rounds Work). withinNodes q (made w (thinned j) q)) (propagated-thinned rule (j .blocks))
-      ∙ ap (withinNodes p) (same j p) ∙ ap (onJob rule (made w)) (sym (written .reads)) in
+      ∙ ap (λ (q : Rounds Work). withinNodes q (made w (thinned j) (enterBlocks [] (thinned j .blocks)) q))
+      (propagated-thinned rule (j .blocks))
+      ∙ ap (λ (start : Started). withinNodes p (made w (thinned j) start p)) (blocks-thinned [] (j .blocks))
+      ∙ ap (withinNodes p) (same j (enterBlocks [] (j .blocks)) p) ∙ ap (onJob rule (made w)) (sym (written .reads)) in
       rw (ltb-not-less longestJob (length t) (omega (arith, thin-no-longer)), ltb-not-less longestJob (length job) short)
       (ap (λ (v : Verdict). cond (ltb (length out) leastBuffer) (turnsBack ShortBuffer) v) on)
 
@@ -150,7 +153,7 @@ module _ (head w : ℕ) (m : head < 256 ^ 2) (job o t : List ℕ) (bytes : All (
 
 -- Refusals.
 
-module _ (head w : ℕ) (rule : JoiningRule) (made : ℕ → Job → Rounds Work → List ℕ) (r : Refusal) where
+module _ (head w : ℕ) (rule : JoiningRule) (made : Writing) (r : Refusal) where
   on-turned : (long : Bool) (read : Read Job) → cond long (turnsBack LongJob) (onThinJob head w read) ≡ turnsBack r
       → cond long (turnsBack LongJob) (onJob rule (made w) read) ≡ turnsBack r
   on-turned true read e = e
@@ -167,7 +170,9 @@ module _ (head w : ℕ) (rule : JoiningRule) (made : ℕ → Job → Rounds Work
       → cond long (turnsBack LongJob) (onJob rule (made w) read) ≡ turnsBack r
       → cond long (turnsBack LongJob) (onThinJob head w read) ≡ turnsBack r
   on-turned-back other true read e = e
-  on-turned-back other false (got j end) e = let p = propagated rule (j .blocks) in absurd (other (turned-nodes p (made w j p) e))
+  on-turned-back other false (got j end) e =
+      let p = propagated rule (j .blocks) in
+      absurd (other (turned-nodes p (made w j (enterBlocks [] (j .blocks)) p) e))
   on-turned-back other false (refused x) e = e
 
   module _ (job o out : List ℕ) (wide : leastThinBuffer ≤ length o) (roomy : leastBuffer ≤ length out) where
@@ -223,7 +228,7 @@ taken (turnsBack r) a back not-nine (inl w) =
 taken (turnsBack r) a back not-nine (inr nine) = absurd (not-nine (sym (back r refl) ∙ nine))
 
 -- the thin writer takes what an operation takes or turns back by 9
-pub thin-takes : (head w : ℕ) (rule : JoiningRule) (made : ℕ → Job → Rounds Work → List ℕ) (job o out : List ℕ)
+pub thin-takes : (head w : ℕ) (rule : JoiningRule) (made : Writing) (job o out : List ℕ)
     → leastThinBuffer ≤ length o → leastBuffer ≤ length out → PassedEight (verdict head w rule made job out)
     → (t : List ℕ) × (thinVerdict head w job o ≡ writes t)
 thin-takes head w rule made job o out wide roomy = taken (thinVerdict head w job o) (verdict head w rule made job out)
@@ -252,9 +257,9 @@ pub thin-same : ThinSame
 unfolding thinOf answerOf sheetOf strictAnswerOf strictSheetOf
 thin-same job o t bytes e out =
     let same = same-verdict HD spanWidth (omega arith) job o t bytes e in (
-      same doneNeighbours answerBytes (answer-thinned spanWidth) out,
+      same doneNeighbours answerWriting (λ j start p. answer-thinned spanWidth j p) out,
       same doneNeighbours sheetBytes (sheet-thinned spanWidth) out,
-      same strictNeighbours answerBytes (answer-thinned spanWidth) out,
+      same strictNeighbours answerWriting (λ j start p. answer-thinned spanWidth j p) out,
       same strictNeighbours sheetBytes (sheet-thinned spanWidth) out,
     )
 
@@ -273,9 +278,9 @@ thin-lengths job o t bytes e = record {
 pub thin-refuses : ThinRefuses
 unfolding thinOf answerOf
 thin-refuses job o out wide roomy = record {
-  from-thin = λ r. thin-turned HD spanWidth doneNeighbours answerBytes r job o out wide roomy;
-  from-answer = λ r. turned-thin HD spanWidth doneNeighbours answerBytes r job o out wide roomy;
-  takes = thin-takes HD spanWidth doneNeighbours answerBytes job o out wide roomy;
+  from-thin = λ r. thin-turned HD spanWidth doneNeighbours answerWriting r job o out wide roomy;
+  from-answer = λ r. turned-thin HD spanWidth doneNeighbours answerWriting r job o out wide roomy;
+  takes = thin-takes HD spanWidth doneNeighbours answerWriting job o out wide roomy;
 }
 
 pub never-nine : NeverNine

@@ -219,6 +219,7 @@ sets-thinned [] sets = refl
 sets-thinned (b ∷ bs) [] = refl
 sets-thinned (b ∷ bs) (s ∷ sets) = rw (sets-thinned bs sets)
 
-pub sheet-thinned : (spanBytes : ℕ) (j : Job) (p : Rounds Work) → sheetBytes spanBytes (thinned j) p ≡ sheetBytes spanBytes j p
+pub sheet-thinned : (spanBytes : ℕ) (j : Job) (start : Started) (p : Rounds Work)
+    → sheetBytes spanBytes (thinned j) start p ≡ sheetBytes spanBytes j start p
 unfolding sheetBytes thinned
-sheet-thinned spanBytes j p = rw (sets-thinned (j .blocks) (p .work .sets), length-map (j .blocks) thinnedBlock)
+sheet-thinned spanBytes j start p = rw (sets-thinned (j .blocks) (p .work .sets), length-map (j .blocks) thinnedBlock)

@@ -22,8 +22,8 @@ use Rattle.assumed.proofs.enter_block.Tie as tie
 
 -- equal paths are entered alike
 fills-as : (reg : PropertyPathRegistry) {ds es : List ReactiveScopeDependency} (r : EnteredSet) (ws os : List ℕ) → ds ≡ es
-    → Fills (enterPaths reg [] ds) r ws os → Fills (enterPaths reg [] es) r ws os
-fills-as reg r ws os e = subst (λ (ds : List ReactiveScopeDependency). Fills (enterPaths reg [] ds) r ws os) e
+    → Fills reg (enterPaths reg [] ds) r ws os → Fills reg (enterPaths reg [] es) r ws os
+fills-as reg r ws os e = subst (λ (ds : List ReactiveScopeDependency). Fills reg (enterPaths reg [] ds) r ws os) e
 
 returns : tie.Need-returns
 returns c =

@@ -4,15 +4,15 @@ use Prim.Native.Nat.{_-_}
 use native.Mathlib.Omega.{arith}
 use borrow.Author.Needs.{needs}
 use Rattle.job.specs.Kept.{blocksOf}
-use Rattle.assumed.proofs.Blocks.{Starting, starting, block-read, starting-end, starting-full, starting-more}
+use Rattle.assumed.proofs.Blocks.{Starting, starting, block-read, starting-end, starting-few, starting-full, starting-more}
 use Rattle.assumed.proofs.enter_blocks.Statement.{statement}
 use Rattle.assumed.proofs.enter_blocks.Tie as tie
 
 abbrev Inv-loop : tie.InvT-loop
-Inv-loop s places blocks ws₀ optional₀ sets₀ b₀ ws optional sets b = Starting (blocksOf s) blocks ws optional sets b
+Inv-loop s places blocks ws₀ optional₀ sets₀ made₀ b₀ ws optional sets made b = Starting (blocksOf s) blocks ws optional sets made b
 
 abbrev μ-loop : tie.MeasureT-loop
-μ-loop s places blocks ws₀ optional₀ sets₀ b₀ ws optional sets b = blocks - b
+μ-loop s places blocks ws₀ optional₀ sets₀ made₀ b₀ ws optional sets made b = blocks - b
 
 loop-holds : tie.Need-loop-holds Inv-loop μ-loop
 loop-holds c = let p = c .before .pre in starting _ _ _ _ _ (p .2 .0) (p .2 .1) (p .3)
@@ -40,11 +40,14 @@ set-row-requires c κs =
 
 loop-again : tie.Need-loop-again Inv-loop μ-loop
 loop-again c =
-    let i = c .before .before in
+    let i = c .before .before .before in
     let call = i .before in
     let l = call .before .before .before .before in
     starting-more (start l .pre .0) (l .before .loop .inv) (l .loop-test .taken) (call .enter-block .result) _ _ (call .enter-block .ensures) (i .if1 .left) _
-    (c .set-row .ensures)
+    (c .before .set-row .ensures)
+
+add-made : tie.Need-add-made Inv-loop μ-loop
+add-made c = let few = starting-few (loop-again c) in search needs
 
 returns-2 : tie.Need-returns-2 Inv-loop μ-loop
 returns-2 c = starting-end (c .before .before .before .pre .0) (c .before .loop .inv) (c .loop-test .left)
@@ -61,6 +64,7 @@ enter-blocks-spec =
     enter-block-requires
     returns
     set-row-requires
+    add-made
     (λ c. search needs)
     (λ c. search needs)
     loop-again

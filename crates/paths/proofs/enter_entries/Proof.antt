@@ -12,14 +12,14 @@ use Rattle.paths.proofs.enter_entries.Statement.{statement}
 use Rattle.paths.proofs.enter_entries.Tie as tie
 
 abbrev Inv-loop : tie.InvT-loop
-Inv-loop s start count ws₀ optional₀ at₀ left₀ node₀ ws optional at left node =
-    Entering (readMany count (readEntry 4) s start) (walkOwn (registryOf ws₀) node₀) s ws optional node at left
+Inv-loop s start count ws₀ optional₀ before at₀ left₀ node₀ made₀ ws optional at left node made =
+    Entering (readMany count (readEntry 4) s start) (walkOwn (registryOf ws₀) node₀ made₀) s ws optional node made at left
 
 abbrev μ-loop : tie.MeasureT-loop
-μ-loop s start count ws₀ optional₀ at₀ left₀ node₀ ws optional at left node = left
+μ-loop s start count ws₀ optional₀ before at₀ left₀ node₀ made₀ ws optional at left node made = left
 
 loop-holds : tie.Need-loop-holds Inv-loop μ-loop
-loop-holds c = let p = c .before .pre in record { held = p .0; inside = p .1; there = p .2; on = λ r us ps h. h }
+loop-holds c = let p = c .before .pre in record { held = p .0; inside = p .1; among = p .2; there = p .3; on = λ r us ps h. h }
 
 returns : tie.Need-returns Inv-loop μ-loop
 returns c =
@@ -48,9 +48,12 @@ loop-again c =
     let g = r .get-or-create-property-entry in
     let l = call .before .before .loop in
     let e = f .field .given .0 .0 in
-    let made = child-made-at (registryOf (l .ws)) (l .node) e (g .result) (g .last .0) (g .last .1 .0) (g .ensures) _ (c .before .child .given .1) in
-    entering-more (l .inv) (call .before .loop-test .taken) (seen gotEntry (call .entry-at .ensures) (f .field .given .1)) _ _ _
-    (made .held) (made .inside) (made .is)
+    let made = child-made-at (registryOf (l .ws)) (l .node) e (g .result) (g .last .0) (g .last .1 .0) (g .ensures) _ _ (c .before .child .given .1) in
+    entering-more (l .inv) (call .before .loop-test .taken) (seen gotEntry (call .entry-at .ensures) (f .field .given .1)) _ _ _ _ made
+
+-- what was made is among the nodes that the words have room for
+add-made : tie.Need-add-made Inv-loop μ-loop
+add-made c = let next = loop-again c in let few = next .among in let room = next .held .sized .room in search needs
 
 returns-3 : tie.Need-returns-3 Inv-loop μ-loop
 returns-3 c = entering-end (c .before .loop .inv) (c .loop-test .left)
@@ -70,6 +73,7 @@ enter-entries-spec =
     (λ c. search needs)
     (λ c. search needs)
     returns-2
+    add-made
     (λ c. search needs)
     (λ c. search needs)
     loop-again

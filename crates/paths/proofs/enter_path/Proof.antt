@@ -1,6 +1,7 @@
 -- A path is its mark, its head and its entries: the head's root is found or made, and the entries
 -- lead on from there.
 use denote.Ref.{now}
+use native.Mathlib.Omega.{arith}
 use borrow.Author.Needs.{needs}
 use Rattle.registry.specs.Words.{registryOf}
 use Rattle.fields.specs.Answer.{gotPlace}
@@ -54,9 +55,10 @@ enter-entries-requires c κs =
     let g = i .get-or-create-identifier in
     let reg = registryOf (now (a .args .ws)) in
     let made =
-    root-made-at reg (head .identifier) (head .reactive) (head .span) (g .result) (g .last .0) (g .last .1 .0) (g .ensures) _ (r .root .given .1) in (
+    root-made-at reg (head .identifier) (head .reactive) (head .span) (g .result) (g .last .0) (g .last .1 .0) (g .ensures) _ _ (r .root .given .1) in (
       made .held,
       made .inside,
+      let longer = made .longer in omega arith,
       entries-there (now (a .args .s)) (a .args .at) (a .pre .1) (seen gotPlace (m .mark-at .ensures) (k .marked .given .1))
           (seen gotPathHead (h .path-head-at .ensures) (f .field .given .1)),
     )
@@ -73,9 +75,10 @@ returns-4 c =
     let head = f .field .given .0 .0 in
     let g = i .get-or-create-identifier in
     let reg = registryOf (now (a .args .ws)) in
-    let made = root-made-at reg (head .identifier) (head .reactive) (head .span) (g .result) (g .last .0) (g .last .1 .0) (g .ensures) _ (r .root .given .1) in
+    let made =
+    root-made-at reg (head .identifier) (head .reactive) (head .span) (g .result) (g .last .0) (g .last .1 .0) (g .ensures) _ _ (r .root .given .1) in
     path-rooted (now (a .args .s)) (a .args .at) (a .pre .1) (seen gotPlace (m .mark-at .ensures) (k .marked .given .1))
-    (seen gotPathHead (h .path-head-at .ensures) (f .field .given .1)) reg (g .last .0) _ (made .is) _ _ _ (c .enter-entries .ensures)
+    (seen gotPathHead (h .path-head-at .ensures) (f .field .given .1)) reg (g .last .0) _ _ (made .is) _ _ _ (c .enter-entries .ensures)
 
 pub enter-path-spec : {M : Type 1} → statement M
 enter-path-spec =

@@ -14,7 +14,8 @@ use Rattle.entries.specs.declared.NodeId.{NodeId}
 use Rattle.entries.specs.declared.DependencyPathEntry.{DependencyPathEntry}
 use Rattle.rows.specs.Members.{membersOf}
 use Rattle.model.specs.Reduction.{reducedMark}
-use Rattle.reduction.proofs.Steps.{Loaded, walk-root, parent-before, walk-full, reached-inside, child-still, walk-child, arrived-at, arrived-full}
+use Rattle.reduction.proofs.Steps.{Loaded, walk-root, parent-before, walk-full, reached-inside, walked-made, child-still, walk-child}
+use Rattle.reduction.proofs.Steps.{arrived-at, arrived-full}
 use Rattle.reduction.proofs.walk_again.Reads as walk-again
 use Rattle.reduction.proofs.walk_again.Kinds as walk-again-kinds
 use Rattle.reduction.proofs.+walk_again.Lts-walk_again as lts
@@ -70,10 +71,11 @@ step-requires t c κs =
     let s = l .before .before in
     let r = w .walk-again in
     let mark = reducedMark (membersOf (s .args .set .words)) in
-    let there = arrived-at _ (r .result) _ (r .last .0) (r .last .1 .0) (q .q .given .1) (r .ensures) in (
+    let there = arrived-at _ (r .result) _ _ (r .last .0) (r .last .1 .0) (q .q .given .1) (r .ensures) in (
       there .0,
       reached-inside mark (loaded t l) (n .n .given .1) (r .last .0) (there .1),
       child-still mark (loaded t l) (n .n .given .1) (r .last .0) (there .1),
+      walked-made mark (loaded t l) (n .n .given .1) (r .last .0) (there .1),
     )
 
 returns-2 : (t : ℕ) → lts.Need-returns-2 (claims t) (at t) walk-again.Post
@@ -90,7 +92,7 @@ returns-3 t c =
     let l = n .before .before in
     let s = l .before .before in
     let r = w .walk-again in
-    let there = arrived-at _ (r .result) _ (r .last .0) (r .last .1 .0) (q .q .given .1) (r .ensures) in
+    let there = arrived-at _ (r .result) _ _ (r .last .0) (r .last .1 .0) (q .q .given .1) (r .ensures) in
     walk-child (reducedMark (membersOf (s .args .set .words))) (loaded t l) (n .n .given .1) (r .last .0) (there .1)
     (c .step .result) (c .step .last .0) (c .step .last .1 .0) (c .step .ensures)
 

@@ -22,8 +22,8 @@ insert-requires c κs =
     let w = q .before .before in
     let s = w .before .before .before .before in
     let r = w .walk-again in
-    let there = arrived-at _ (r .result) _ (r .last .0) (r .last .1 .0) (q .q .given .1) (r .ensures) in
-    node-inside (now (s .args .ws)) (s .args .r) (s .args .k) (r .last .0) _ (there .1) (s .pre .0 .sound) (there .0 .sized .room)
+    let there = arrived-at _ (r .result) _ _ (r .last .0) (r .last .1 .0) (q .q .given .1) (r .ensures) in
+    node-inside (now (s .args .ws)) (s .args .r) (s .args .k) (r .last .0) _ _ (there .1) (s .pre .0 .sound) (there .0 .sized .room)
 
 returns-2 : tie.Need-returns-2
 returns-2 c =
@@ -31,8 +31,8 @@ returns-2 c =
     let w = q .before .before in
     let s = w .before .before .before .before in
     let r = w .walk-again in
-    let there = arrived-at _ (r .result) _ (r .last .0) (r .last .1 .0) (q .q .given .1) (r .ensures) in
-    (there .0, node-same (now (s .args .ws)) (s .args .r) (s .args .k) (r .last .0) _ (there .1) (c .if1 .taken))
+    let there = arrived-at _ (r .result) _ _ (r .last .0) (r .last .1 .0) (q .q .given .1) (r .ensures) in
+    (there .0, node-same (now (s .args .ws)) (s .args .r) (s .args .k) (r .last .0) _ _ (there .1) (c .if1 .taken))
 
 returns-3 : tie.Need-returns-3
 returns-3 c =
@@ -40,9 +40,9 @@ returns-3 c =
     let w = q .before .before in
     let s = w .before .before .before .before in
     let r = w .walk-again in
-    let there = arrived-at _ (r .result) _ (r .last .0) (r .last .1 .0) (q .q .given .1) (r .ensures) in (
+    let there = arrived-at _ (r .result) _ _ (r .last .0) (r .last .1 .0) (q .q .given .1) (r .ensures) in (
       there .0,
-      node-moved (now (s .args .ws)) (s .args .r) (s .args .k) (r .last .0) _ (there .1) (c .before .before .if1 .left) _
+      node-moved (now (s .args .ws)) (s .args .r) (s .args .k) (r .last .0) _ _ (there .1) (c .before .before .if1 .left) _
           (c .insert .ensures ∙ ap (insert _) (c .before .remove .ensures)),
     )
 

@@ -45,7 +45,7 @@ returns-2 c =
         sized = c .before .before .push .ensures .0;
         linked = c .before .before .push .ensures .1;
         sound =
-            arrived-sound w _ (a .args .n) _ (a .pre .0 .sound) (a .pre .1) arrived;
+            arrived-sound w _ (a .args .n) _ _ (a .pre .0 .sound) (a .pre .1) arrived;
         noted =
             noted-new w _ (now (a .args .optional)) _ (a .args .n) _ (a .pre .0) counted (c .before .before .push .ensures .2) (c .note .ensures);
       },

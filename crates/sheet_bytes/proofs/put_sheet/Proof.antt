@@ -1,5 +1,5 @@
--- The head, the nodes and the blocks, one after the other. Each has its room: 8 + 512 * 23 + 128 *
--- 70 = 20,744 bytes are the most.
+-- The head, the nodes and the blocks, one after the other. Each has its room: 10 + 512 * 23 + 128 *
+-- 70 = 20,746 bytes are the most.
 use Prim.Native.Nat.{_+_, _*_, _≤_}
 use native.Mathlib.Omega.{arith}
 use lib.ListN.{length}
@@ -31,20 +31,20 @@ claims = (
   put-blocks-reads.Learnt,
 )
 
-room-1 : (l : lts.After-put-head claims reads.Pre reads.Post) → l .put-head .result + 24568 ≤ length (l .put-head .last .0)
-room-1 l = room-after 8 24568 (l .put-head .ensures) (head-length _ _ _ (l .before .before .before .before .args .settled)) (search needs)
+room-1 : (l : lts.After-put-head claims reads.Pre reads.Post) → l .put-head .result + 24566 ≤ length (l .put-head .last .0)
+room-1 l = room-after 10 24566 (l .put-head .ensures) (head-length _ _ _ (l .before .before .before .before .args .settled) _) (search needs)
 
-room-2 : (l : lts.After-put-nodes claims reads.Pre reads.Post) → l .put-nodes .result + 12792 ≤ length (l .put-nodes .last .1 .0)
+room-2 : (l : lts.After-put-nodes claims reads.Pre reads.Post) → l .put-nodes .result + 12790 ≤ length (l .put-nodes .last .1 .0)
 room-2 l =
     let head = l .before .before .before .before in
     let s = head .before .before .before .before in
     let reg = registryOf (now (s .args .ws)) in
     let few = s .pre .0 .sized .room in
     let size = registry-length (now (s .args .ws)) in
-    room-after (23 * length reg) 12792 (l .put-nodes .ensures) (nodes-length reg) (omega (arith, room-1 head))
+    room-after (23 * length reg) 12790 (l .put-nodes .ensures) (nodes-length reg) (omega (arith, room-1 head))
 
 returns : tie.Need-returns
-returns c j p x =
+returns c j start p x =
     let blocks = c .before .before in
     let nodes = blocks .before .before .before .before in
     let head = nodes .before .before .before .before in
