@@ -58,7 +58,11 @@ enum scope_deps_refusal {
  */
 int64_t scope_deps_answer(const uint8_t *job, size_t job_len, uint8_t *out, size_t out_len);
 
-/* Writes the sheet of `job`, on the same terms. It is refused where the answer is. */
+/*
+ * Writes the sheet of `job`, on the same terms. It is refused where the answer is. The last field
+ * of its head, the u16 at byte 8, says how many nodes there were before the first round; the nodes
+ * from that number on were added by reduction.
+ */
 int64_t scope_deps_sheet(const uint8_t *job, size_t job_len, uint8_t *out, size_t out_len);
 
 /*

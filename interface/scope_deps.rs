@@ -70,7 +70,8 @@ pub fn answer(job: &[u8], out: &mut [u8]) -> Result<usize, u8> {
 }
 
 /// Writes the sheet of `job` to the start of `out`, on the same terms. It is refused
-/// where the answer is.
+/// where the answer is. The last field of its head, the u16 at byte 8, says how many nodes
+/// there were before the first round; the nodes from that number on were added by reduction.
 pub fn sheet(job: &[u8], out: &mut [u8]) -> Result<usize, u8> {
     // SAFETY: as in `answer`.
     outcome(unsafe { scope_deps_sheet(job.as_ptr(), job.len(), out.as_mut_ptr(), out.len()) })

@@ -1,5 +1,5 @@
-/* A caller in C: answers, sheets, a thin job and refusals, held to the bytes of document 01, and of
-   a loop to those of both propagations. */
+/* A caller in C: answers, sheets, a thin job and refusals, held to the bytes of document 01, of a
+   loop to those of both propagations, and of a job to which reduction adds a node. */
 #include "../scope_deps.h"
 
 #include <stdio.h>
@@ -51,8 +51,19 @@ static const uint8_t loop_strict_answer[] = {
     'D', 'E', 1, 0, 0, 0, 1, 5, 0, 0, 0, 0,
 };
 
-/* A head of 8 bytes, a node of 23, and a set of 70 bytes in which node 0 is. */
-enum { SHEET_BYTES = 8 + 23 + 70, SHEET_SET = 8 + 23 + 6 };
+/* A head of 10 bytes, a node of 23, and a set of 70 bytes in which node 0 is. */
+enum { SHEET_BYTES = 10 + 23 + 70, SHEET_SET = 10 + 23 + 6 };
+
+/* One block, 7, which assumes the paths 1 and 1?.10; no candidate. */
+static const uint8_t optional[] = {
+    'H', 'D', 1, 0, 0, 0, 7, 0, 0, 0,
+    'B', 'L', 7, 0, 0, 0, 0, 2,
+    'P', 'A', 1, 0, 0, 0, 0, 0, 0, 0, 0, 0,
+    'P', 'A', 1, 0, 0, 0, 0, 0, 0, 0, 0, 1, 1, 0, 10, 0, 0, 0, 0, 0, 0, 0, 0, 0, 0, 0,
+};
+
+/* The head of its sheet: 3 nodes, 1 block, 2 rounds, settled, 2 nodes before the first round. */
+static const uint8_t optional_head[] = {'S', 'H', 3, 0, 1, 0, 2, 1, 2, 0};
 
 /* With a second set, of block 1. */
 enum { LOOP_SHEET_BYTES = SHEET_BYTES + 70, LOOP_SHEET_SET = SHEET_SET + 70 };
@@ -76,6 +87,18 @@ static int untouched_from(size_t start) {
     }
   }
   return 1;
+}
+
+/* Reduction adds the node of 1.10, which takes the place of 1?.10 in the block's set. */
+static void added_nodes(void) {
+  enum { BYTES = 10 + 3 * 23 + 70, SET = 10 + 3 * 23 + 6 };
+  memset(out, 0xA5, sizeof out);
+  expect(scope_deps_sheet(optional, sizeof optional, out, sizeof out) == BYTES, "the sheet with an added node has its length");
+  expect(memcmp(out, optional_head, sizeof optional_head) == 0, "its head counts the nodes, in the end and before the first round");
+  expect(out[SET] == 5, "the block's set has 1 and 1.10");
+  expect(untouched_from(BYTES), "bytes beyond the sheet with an added node are as they were");
+  expect(scope_deps_strict_sheet(optional, sizeof optional, out, sizeof out) == BYTES, "its strict sheet has the same length");
+  expect(memcmp(out, optional_head, sizeof optional_head) == 0, "and the same head");
 }
 
 static void thin_jobs(void) {
@@ -129,7 +152,9 @@ int main(void) {
 
   expect(scope_deps_sheet(job, sizeof job, out, sizeof out) == SHEET_BYTES, "the sheet has its length");
   expect(memcmp(out, "SH", 2) == 0 && out[SHEET_SET] == 1, "the block's set has the path");
+  expect(out[8] == 1 && out[9] == 0, "its node was there before the first round");
   expect(untouched_from(SHEET_BYTES), "bytes beyond the sheet are as they were");
+  added_nodes();
   thin_jobs();
   strict_answers();
   return failures == 0 ? 0 : 1;

@@ -74,8 +74,8 @@ void expect_loop() {
   expect(strict_answer(job).bytes == strictly_due, "the strict answer of P3 is 5");
   const std::vector<std::uint8_t> sheet = strict_sheet(job).bytes;
   for (std::size_t place = 0; place < 5; place++) {
-    const std::size_t set = 8 + 23 + 70 * place + 6;
-    expect(sheet.size() == 8 + 23 + 5 * 70 && sheet[set] == (place == 2 ? 1 : 0), "strictly, block 2 alone holds 5");
+    const std::size_t set = 10 + 23 + 70 * place + 6;
+    expect(sheet.size() == 10 + 23 + 5 * 70 && sheet[set] == (place == 2 ? 1 : 0), "strictly, block 2 alone holds 5");
   }
 }
 

@@ -4,7 +4,7 @@
 //! page depends. It takes a [`Job`]: blocks with their predecessors and with the paths assumed to
 //! be there when a block runs, a scope block, and candidates. It gives an [`Answer`], the returned
 //! paths. The [`Sheet`] shows what it arrived at on the way: each block's set of paths known to be
-//! neither null nor undefined.
+//! neither null nor undefined, and the nodes of all paths, with those that reduction added.
 //!
 //! ```
 //! use scope_deps::{answer, Block, BlockId, Entry, IdentifierId, Job, Path, Property};

@@ -13,6 +13,7 @@ use crate::path::{Entry, Path};
 pub struct Sheet {
     rounds: u8,
     settled: bool,
+    nodes_before_rounds: usize,
     nodes: Vec<Node>,
     sets: Vec<(BlockId, NodeSet)>,
 }
@@ -37,7 +38,7 @@ impl Sheet {
     ///
     /// The first field that is not as `docs/FORMAT.md` has it.
     pub fn from_bytes(bytes: &[u8]) -> Result<Self, Malformed> {
-        let mut sheet = Self { rounds: 0, settled: false, nodes: Vec::new(), sets: Vec::new() };
+        let mut sheet = Self::empty(Vec::new(), Vec::new());
         sheet.read(bytes)?;
         Ok(sheet)
     }
@@ -45,8 +46,12 @@ impl Sheet {
     /// A sheet with room for any.
     #[cfg(feature = "library")]
     pub(crate) fn roomy() -> Self {
-        let (nodes, sets) = (Vec::with_capacity(limits::NODES), Vec::with_capacity(limits::BLOCKS));
-        Self { rounds: 0, settled: false, nodes, sets }
+        Self::empty(Vec::with_capacity(limits::NODES), Vec::with_capacity(limits::BLOCKS))
+    }
+
+    /// A sheet to be read into this room.
+    fn empty(nodes: Vec<Node>, sets: Vec<(BlockId, NodeSet)>) -> Self {
+        Self { rounds: 0, settled: false, nodes_before_rounds: 0, nodes, sets }
     }
 
     /// Makes of this the sheet in these bytes.
@@ -57,6 +62,7 @@ impl Sheet {
         let blocks = fields.long_count(1..=limits::BLOCKS, "how many blocks (1 to 128)")?;
         self.rounds = fields.u8("how many rounds")?;
         self.settled = fields.flag("settled (0 or 1)")?;
+        self.nodes_before_rounds = fields.long_count(0..=nodes, BEFORE_ROUNDS)?;
         self.nodes.clear();
         read_nodes(&mut fields, nodes, &mut self.nodes)?;
         self.sets.clear();
@@ -82,6 +88,36 @@ impl Sheet {
     #[must_use]
     pub fn nodes(&self) -> impl ExactSizeIterator<Item = (NodeId, &Node)> {
         self.nodes.iter().enumerate().map(|(number, node)| (NodeId(number as u16), node))
+    }
+
+    /// How many nodes there were before the first round: those of the assumed paths. The nodes from
+    /// this number on were added by reduction, where it made a `?.` plain.
+    ///
+    /// ```
+    /// use scope_deps::{sheet, Job};
+    ///
+    /// // 1 and 1?.10 are entered before the first round. Reduction makes 1.10 of the second.
+    /// let sheet = sheet(&"scope 7 block 7 assumes 1, 1?.10".parse::<Job>()?)?;
+    /// assert_eq!((sheet.nodes().len(), sheet.nodes_before_rounds()), (3, 2));
+    /// let added: Vec<String> = sheet.added_nodes().map(|(node, _)| sheet.path(node).to_string()).collect();
+    /// assert_eq!(added, ["1.10"]);
+    /// # Ok::<(), Box<dyn std::error::Error>>(())
+    /// ```
+    #[must_use]
+    pub fn nodes_before_rounds(&self) -> usize {
+        self.nodes_before_rounds
+    }
+
+    /// The nodes that reduction added, by number.
+    #[must_use]
+    pub fn added_nodes(&self) -> impl ExactSizeIterator<Item = (NodeId, &Node)> {
+        self.nodes().skip(self.nodes_before_rounds)
+    }
+
+    /// Whether this is a node of the sheet that reduction added.
+    #[must_use]
+    pub fn is_added(&self, node: NodeId) -> bool {
+        (self.nodes_before_rounds..self.nodes.len()).contains(&usize::from(node.0))
     }
 
     /// The blocks in the job's order, each with its set.
@@ -116,6 +152,9 @@ impl Sheet {
         self.set(block).into_iter().flat_map(NodeSet::iter).map(|node| self.path(node))
     }
 }
+
+/// The last field of the head.
+const BEFORE_ROUNDS: &str = "how many nodes before the first round (0 to the number of nodes)";
 
 /// The parent of a root.
 const NO_PARENT: u16 = 65_535;

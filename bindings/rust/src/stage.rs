@@ -353,7 +353,8 @@ pub fn strict_answer(job: &Job) -> Result<Answer, ManyNodes> {
 /// let sheet = strict_sheet(&job)?;
 /// assert_eq!(
 ///     sheet.to_string(),
-///     "rounds 1, settled\nnode 0 1\nblock 0 holds 1\nblock 1 holds nothing\n"
+///     "rounds 1, settled\nnodes 1: 1 before the first round, 0 added by reduction\nnode 0 1\n\
+///      block 0 holds 1\nblock 1 holds nothing\n"
 /// );
 /// # Ok::<(), Box<dyn std::error::Error>>(())
 /// ```

@@ -18,7 +18,9 @@ fn the_specifications_job_and_its_answer() {
     let answer = Answer::from_bytes(&answer).unwrap();
     assert_eq!(answer.to_string(), "rounds 1, settled\nreturned reactive 1@6.10@6\n");
     let sheet = Sheet::from_bytes(&raw::sheet(&hex(EXAMPLE)).unwrap()).unwrap();
-    assert_eq!(sheet.to_string(), "rounds 1, settled\nnode 0 reactive 1\nblock 7 holds 1\n");
+    let shown = "rounds 1, settled\nnodes 1: 1 before the first round, 0 added by reduction\n\
+                 node 0 reactive 1\nblock 7 holds 1\n";
+    assert_eq!(sheet.to_string(), shown);
 }
 
 #[test]
@@ -104,10 +106,11 @@ fn a_damaged_answer_or_sheet_is_not_read() {
     let message = |bytes: &[u8]| Answer::from_bytes(bytes).unwrap_err().to_string();
     assert_eq!(message(b"XX"), "another mark stands at byte 0: the mark AN is due");
     assert_eq!(message(&[&answer[..], &[0]].concat()), "byte 32 follows the last record");
-    let own_parent = [&sheet[..10], &[0, 0], &sheet[12..]].concat();
-    assert!(Sheet::from_bytes(&own_parent).is_err());
-    let unknown_node = [&sheet[..37], &[2], &sheet[38..]].concat();
-    assert!(Sheet::from_bytes(&unknown_node).is_err());
+    let at = |bytes: &[u8]| Sheet::from_bytes(bytes).unwrap_err().byte();
+    let own_parent = [&sheet[..12], &[0, 0], &sheet[14..]].concat();
+    assert_eq!(at(&own_parent), 10);
+    let unknown_node = [&sheet[..39], &[2], &sheet[40..]].concat();
+    assert_eq!(at(&unknown_node), 39);
 }
 
 #[test]

@@ -10,7 +10,7 @@ usage: scope-deps COMMAND [OPTIONS] [FILE]
   encode     a job as text -> its bytes
   decode     a job's bytes -> text
   answer     a job -> the paths that the stage returns
-  sheet      a job -> the paths that each block holds in the end
+  sheet      a job -> the paths that each block holds in the end, and all nodes
   thin       a job -> the same job without repeated paths
   explain    a job -> why each candidate is returned as it is
   draw       a job -> a picture of it, as SVG
@@ -145,11 +145,17 @@ usage: scope-deps sheet [-o FILE] [--bytes] [--strict] [--from FORM] [--names FI
 Writes what propagation arrived at: the nodes of all paths, by number, and the paths that each block
 holds, that is those known in it to be neither null nor undefined.
 
+A path has a node, and so has each path that it starts with. Those of the assumed paths are there before
+the first round. The others are added by reduction: where a block has the base of a `?.`, the path with a
+plain entry takes the place of the other, and has its nodes made where they are missing. The second line
+counts both, and each node that was added says so. 512 nodes are the most that a job can have.
+
   $ echo 'scope 0 block 0 assumes 1, 1?.10' | scope-deps sheet
   rounds 2, settled
+  nodes 3: 2 before the first round, 1 added by reduction
   node 0 1
   node 1 1?.10
-  node 2 1.10
+  node 2 1.10, added by reduction
   block 0 holds 1, 1.10
 
 With `--strict` it is the sheet of the strict propagation; `scope-deps help answer` says how that differs.

@@ -53,8 +53,12 @@ impl fmt::Display for WithNames<'_, Sheet> {
     fn fmt(&self, f: &mut fmt::Formatter<'_>) -> fmt::Result {
         let (sheet, names) = (self.shown, self.names);
         writeln!(f, "{}", rounds(sheet.rounds(), sheet.is_settled()))?;
+        let [all, before, added] =
+            [sheet.nodes().len(), sheet.nodes_before_rounds(), sheet.added_nodes().len()];
+        writeln!(f, "nodes {all}: {before} before the first round, {added} added by reduction")?;
         for (node, _) in sheet.nodes() {
-            writeln!(f, "node {node} {}", sheet.path(node).with_names(names))?;
+            let mark = if sheet.is_added(node) { ", added by reduction" } else { "" };
+            writeln!(f, "node {node} {}{mark}", sheet.path(node).with_names(names))?;
         }
         for (id, _) in sheet.sets() {
             let held: Vec<String> =

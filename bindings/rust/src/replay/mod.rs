@@ -3,9 +3,9 @@
 //! The library says what each block holds in the end, and not how that came about. This module
 //! takes document 01's steps once more, in a small plain program, and notes each visit: which
 //! neighbours were joined, which were passed over because they or others were being visited, which
-//! paths came in and which were replaced. Nothing of it goes into an answer or a sheet.
-//! [`explain`](mod@crate::explain) compares the sheet that comes out with the library's, and
-//! explains nothing where the two differ.
+//! paths came in, which were replaced, and which nodes were added for that. Nothing of it goes into
+//! an answer or a sheet. [`explain`](mod@crate::explain) compares the sheet that comes out with the
+//! library's, and explains nothing where the two differ.
 //!
 //! ```
 //! use scope_deps::replay::{Replay, Side};
@@ -52,6 +52,7 @@ use walk::{Neighbours, Walks};
 pub struct Replay {
     propagation: Propagation,
     registry: Registry,
+    nodes_before_rounds: usize,
     assumed: Vec<Vec<NodeId>>,
     sets: Vec<Nodes>,
     visits: Vec<Visit>,
@@ -81,12 +82,13 @@ impl Replay {
     pub(crate) fn by(propagation: Propagation, job: &Job) -> Result<Self, ManyNodes> {
         let mut registry = Registry::default();
         let assumed = assumed(job, &mut registry)?;
+        let nodes_before_rounds = registry.nodes().len();
         let sets = assumed.iter().map(|nodes| set_of(nodes)).collect();
         let neighbours = Neighbours::new(job);
         let mut walks = Walks::new(&neighbours, propagation, registry, sets);
         let (rounds, settled) = walks.rounds()?;
         let Walks { registry, sets, visits, .. } = walks;
-        Ok(Self { propagation, registry, assumed, sets, visits, rounds, settled })
+        Ok(Self { propagation, registry, nodes_before_rounds, assumed, sets, visits, rounds, settled })
     }
 
     /// By which propagation this is.
@@ -133,7 +135,14 @@ impl Replay {
     /// All nodes, ascending.
     #[must_use]
     pub fn nodes(&self) -> impl ExactSizeIterator<Item = NodeId> {
-        (0..self.registry.nodes().len()).map(|number| NodeId(number as u16))
+        self.registry.numbers()
+    }
+
+    /// How many nodes there were before the first round. The nodes from this number on were added
+    /// by reduction; each is in [`Replaced::added`] of the replacement for which it was.
+    #[must_use]
+    pub fn nodes_before_rounds(&self) -> usize {
+        self.nodes_before_rounds
     }
 
     /// A node's path.
@@ -146,7 +155,8 @@ impl Replay {
         self.registry.path(node)
     }
 
-    /// Whether this is what the sheet says: the same nodes, sets and rounds, for the same blocks.
+    /// Whether this is what the sheet says: the same nodes, as many of them before the first round,
+    /// and the same sets and rounds, for the same blocks.
     #[must_use]
     pub fn agrees_with(&self, job: &Job, sheet: &Sheet) -> bool {
         let ids = job.blocks().iter().map(|block| block.id());
@@ -154,6 +164,7 @@ impl Replay {
         let same_set = |(block, set): (usize, &NodeSet)| set.iter().eq(self.held(block));
         self.rounds == sheet.rounds()
             && self.settled == sheet.is_settled()
+            && self.nodes_before_rounds == sheet.nodes_before_rounds()
             && self.registry.nodes().iter().eq(sheet.nodes().map(|(_, node)| node))
             && ids.eq(sheet.sets().map(|(id, _)| id))
             && sets.enumerate().all(same_set)
@@ -167,7 +178,8 @@ impl fmt::Debug for Replay {
             self.nodes().map(|node| (node, format!("{:#}", self.path(node)))).collect();
         let mut shown = f.debug_struct("Replay");
         shown.field("propagation", &self.propagation);
-        shown.field("nodes", &nodes).field("assumed", &self.assumed).field("sets", &self.sets);
+        shown.field("nodes", &nodes).field("nodes_before_rounds", &self.nodes_before_rounds);
+        shown.field("assumed", &self.assumed).field("sets", &self.sets);
         shown.field("visits", &self.visits).field("rounds", &self.rounds).field("settled", &self.settled);
         shown.finish()
     }

@@ -39,6 +39,7 @@ fn pass(set: &mut Nodes, registry: &mut Registry) -> Result<Vec<Replaced>, ManyN
 /// the set.
 fn walk_again(from: NodeId, set: &Nodes, registry: &mut Registry) -> Result<Replaced, ManyNodes> {
     let (mut to, entries) = registry.root_and_entries(from);
+    let there = registry.nodes().len();
     let mut bases = Vec::new();
     for entry in entries {
         let base = to;
@@ -49,5 +50,6 @@ fn walk_again(from: NodeId, set: &Nodes, registry: &mut Registry) -> Result<Repl
             bases.push(base);
         }
     }
-    Ok(Replaced { from, to, bases })
+    let added = registry.numbers().skip(there).collect();
+    Ok(Replaced { from, to, bases, added })
 }

@@ -21,6 +21,11 @@ impl Registry {
         &self.nodes
     }
 
+    /// The numbers of the nodes, ascending.
+    pub(super) fn numbers(&self) -> impl ExactSizeIterator<Item = NodeId> {
+        (0..self.nodes.len()).map(|number| NodeId(number as u16))
+    }
+
     pub(super) fn has_optional(&self, node: NodeId) -> bool {
         self.optional[usize::from(node.0)]
     }

@@ -55,4 +55,7 @@ pub struct Replaced {
     pub to: NodeId,
     /// The nodes of the set from which those entries are read.
     pub bases: Vec<NodeId>,
+    /// The nodes that were added to the registry for it, ascending: those of its path that were not
+    /// there.
+    pub added: Vec<NodeId>,
 }

@@ -71,14 +71,16 @@ fn a_job_goes_from_text_to_bytes_and_back() {
 #[test]
 fn answer_sheet_and_the_others_take_text_and_bytes() {
     assert_eq!(text(&["answer"], TEXT), "rounds 1, settled\nreturned reactive 1@6.10@6\n");
-    assert_eq!(text(&["sheet"], TEXT), "rounds 1, settled\nnode 0 reactive 1\nblock 7 holds 1\n");
+    let sheet = "rounds 1, settled\nnodes 1: 1 before the first round, 0 added by reduction\n\
+                 node 0 reactive 1\nblock 7 holds 1\n";
+    assert_eq!(text(&["sheet"], TEXT), sheet);
     for command in ["answer", "sheet", "thin", "explain", "draw"] {
         assert_eq!(text(&[command], TEXT), text(&[command, "-"], hex(BYTES)), "{command}");
         assert_eq!(text(&[command], TEXT), text(&[command, "--from", "hex"], BYTES), "{command}");
     }
     let answer = hex("414E 0100 01 01 / 4445 01000000 01 06000000 01 00 00 0A00000000000000 06000000");
     assert_eq!(written(&["answer", "--bytes"], TEXT), answer);
-    assert_eq!(written(&["sheet", "--bytes"], TEXT).len(), 101);
+    assert_eq!(written(&["sheet", "--bytes"], TEXT).len(), 103);
 }
 
 #[test]
@@ -112,7 +114,7 @@ fn names_of_a_file_are_used_for_bytes() {
         assert_eq!(text(&words, input), answer);
     }
     let sheet = text(&["sheet", &format!("--names={names}")], hex(BYTES));
-    assert_eq!(sheet, "rounds 1, settled\nnode 0 reactive athlete\nblock 7 holds athlete\n");
+    assert!(sheet.ends_with("\nnode 0 reactive athlete\nblock 7 holds athlete\n"), "{sheet}");
     for command in ["explain", "draw"] {
         let shown = text(&[command, "--names", names], hex(BYTES));
         assert_eq!(shown, text(&[command], named), "{command}");

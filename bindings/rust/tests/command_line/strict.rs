@@ -12,7 +12,8 @@ const DIFFERENT: &str = "scope 1 block 0 assumes 1 block 1 after 1, 0 candidate 
 fn answers_and_sheets_are_those_of_the_strict_propagation() {
     assert_eq!(text(&["answer"], DIFFERENT), "rounds 2, settled\nreturned 1.10\n");
     assert_eq!(text(&["answer", "--strict"], DIFFERENT), "rounds 1, settled\nreturned 1\n");
-    let holds = "rounds 1, settled\nnode 0 1\nblock 0 holds 1\nblock 1 holds nothing\n";
+    let holds = "rounds 1, settled\nnodes 1: 1 before the first round, 0 added by reduction\n\
+                 node 0 1\nblock 0 holds 1\nblock 1 holds nothing\n";
     assert_eq!(text(&["sheet", "--strict"], DIFFERENT), holds);
     let job: Job = DIFFERENT.parse().unwrap();
     let (answer, sheet) = (raw::strict_answer(job.as_bytes()), raw::strict_sheet(job.as_bytes()));
