@@ -25,14 +25,21 @@ fn explained_text(job: &str) -> Explanation {
     explained(&job.parse().unwrap()).unwrap()
 }
 
-/// The explanation in short.
-fn short(job: &str) -> String {
-    explained_text(job).to_string()
+/// What is said before the last part, which is on the nodes (`tests/added_nodes`).
+fn before_nodes(said: &str) -> String {
+    let (said, nodes) = said.rsplit_once("\nnodes: ").unwrap_or_else(|| panic!("no nodes: {said}"));
+    assert!(nodes.contains(" before the first round, ") && !nodes.contains("\n\n"), "{nodes}");
+    said.to_string()
 }
 
-/// The explanation in full.
+/// The explanation in short, but for the nodes.
+fn short(job: &str) -> String {
+    before_nodes(&explained_text(job).to_string())
+}
+
+/// The explanation in full, but for the nodes.
 fn full(job: &str) -> String {
-    explained_text(job).in_full().to_string()
+    before_nodes(&explained_text(job).in_full().to_string())
 }
 
 /// What is said of why the last entry of the last candidate is cut.
@@ -42,7 +49,7 @@ fn cut(job: &str) -> Vec<String> {
 
 /// The same by the strict propagation.
 fn strictly_cut(job: &str) -> Vec<String> {
-    cut_in(&strictly_explained(&job.parse().unwrap()).unwrap().to_string())
+    cut_in(&before_nodes(&strictly_explained(&job.parse().unwrap()).unwrap().to_string()))
 }
 
 fn cut_in(said: &str) -> Vec<String> {
@@ -89,7 +96,8 @@ candidate athlete.lastSession.beats
 fn the_readme_shows_what_is_said() {
     let readme = std::fs::read_to_string(repository("README.md")).unwrap();
     let job = std::fs::read_to_string(repository("examples/no-last-session.job")).unwrap();
-    let shown: String = short(&job).lines().map(|line| format!("    {line}\n")).collect();
+    let indented = |line: &str| if line.is_empty() { "\n".to_string() } else { format!("    {line}\n") };
+    let shown: String = explained_text(&job).to_string().lines().map(indented).collect();
     let command = "    $ bin/scope-deps explain examples/no-last-session.job\n";
     assert!(readme.contains(&format!("{command}{shown}")), "{shown}");
 }
@@ -97,8 +105,8 @@ fn the_readme_shows_what_is_said() {
 #[test]
 fn the_tool_shows_it_in_short_and_with_all_in_full() {
     let file = repository("examples/no-last-session.job");
-    let job = std::fs::read_to_string(&file).unwrap();
-    for (options, expected) in [(&[][..], short(&job)), (&["--all"], full(&job))] {
+    let said = explained_text(&std::fs::read_to_string(&file).unwrap());
+    for (options, expected) in [(&[][..], said.to_string()), (&["--all"], said.in_full().to_string())] {
         let tool = env!("CARGO_BIN_EXE_scope-deps");
         let output = Command::new(tool).arg("explain").args(options).arg(&file).output().unwrap();
         assert!(output.status.success() && output.stderr.is_empty(), "{output:?}");
@@ -235,7 +243,7 @@ fn the_loop_by_the_strict_propagation() {
     let job: Job = std::fs::read_to_string(repository("examples/loop.job")).unwrap().parse().unwrap();
     let explanation = strictly_explained(&job).unwrap();
     assert_eq!(
-        explanation.in_full().to_string(),
+        before_nodes(&explanation.in_full().to_string()),
         "\
 strict propagation: a block takes paths over from the blocks before it, or after it, only where all of these are finished
 
@@ -451,7 +459,7 @@ fn a_job_that_does_not_settle_says_so_at_each_cut() {
 fn a_job_without_candidates_is_explained_too() {
     assert_eq!(short("scope 7 block 7"), "the job has no candidate, so no path is returned\n");
     assert_eq!(full("scope 7 block 7"), "the job has no candidate, so no path is returned\n");
-    let strict = strictly_explained(&"scope 7 block 7".parse().unwrap()).unwrap().to_string();
+    let strict = before_nodes(&strictly_explained(&"scope 7 block 7".parse().unwrap()).unwrap().to_string());
     assert!(
         strict.starts_with("strict propagation: ") && strict.ends_with(&short("scope 7 block 7")),
         "{strict}"
@@ -459,7 +467,7 @@ fn a_job_without_candidates_is_explained_too() {
 }
 
 #[test]
-fn no_sentence_has_inner_words_and_a_cut_has_few_lines() {
+fn no_sentence_on_candidates_has_inner_words_and_a_cut_has_few_lines() {
     let inner = [
         "set",
         "sets",
@@ -476,6 +484,7 @@ fn no_sentence_has_inner_words_and_a_cut_has_few_lines() {
     let all = jobs(32, 1_500).flat_map(|job| [explained(&job), strictly_explained(&job)]);
     for explanation in all.flatten() {
         let (short, full) = (explanation.to_string(), explanation.in_full().to_string());
+        let (short, full) = (before_nodes(&short), before_nodes(&full));
         for text in [&short, &full] {
             let words: BTreeSet<&str> = text.split(|c: char| !c.is_alphabetic()).collect();
             assert!(inner.iter().all(|word| !words.contains(word)), "{text}");
@@ -487,13 +496,13 @@ fn no_sentence_has_inner_words_and_a_cut_has_few_lines() {
 }
 
 #[test]
-fn the_blocks_that_matter_are_those_that_the_text_names() {
+fn the_blocks_that_matter_are_those_that_the_text_names_before_the_nodes() {
     let mut some_left_out = [0, 0];
     for job in jobs(33, 1_500) {
         for (count, explanation) in some_left_out.iter_mut().zip([explained(&job), strictly_explained(&job)])
         {
             let Some(explanation) = explanation else { continue };
-            let named = blocks_named(&explanation.in_full().to_string());
+            let named = blocks_named(&before_nodes(&explanation.in_full().to_string()));
             assert_eq!(blocks_that_matter(&explanation), named, "{job}");
             *count += usize::from(!named.is_empty() && named.len() < job.blocks().len());
         }

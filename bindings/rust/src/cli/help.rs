@@ -41,6 +41,8 @@ of property 10 of it?
       .11   is cut: 1.10 is not known to be there in block 7
             no block assumes 1.10
 
+  nodes: 1 before the first round, none added by reduction
+
 The exit status is 0 on success, 1 where the job is refused or cannot be read or written, and 2 where
 the command line makes no sense. Messages go to standard error.
 ";
@@ -201,6 +203,8 @@ over where one would be left out, and that is a reason for a cut, too.
       .11  is cut: 1.10 is not known to be there in block 2
            block 1 assumes 1.10, but control can also come to block 2 from block 0, which does not have it
 
+  nodes: 2 before the first round, none added by reduction
+
   $ echo 'scope 1 block 0 assumes 1 block 1 after 1, 0 candidate 1.10' | scope-deps explain --strict
   strict propagation: a block takes paths over from the blocks before it, or after it, only where all of these are finished
 
@@ -209,8 +213,21 @@ over where one would be left out, and that is a reason for a cut, too.
       .10  is cut: 1 is not known to be there in block 1
            block 0 assumes 1, but block 1 takes nothing over from the blocks before it, since it is itself one of them and not finished
 
-  --all       every block that has such a base, every block at which it stopped, and in sections with
-              numbers every step by which a path came to a block
+  nodes: 1 before the first round, none added by reduction
+
+The end says how many nodes there were before the first round, and how many reduction added, with the
+paths of some; `scope-deps help sheet` says what these are. With `--all` it says of each in which round
+and in which block. A round is a walk forward, in which each block takes paths over from the blocks
+before it, and one backward.
+
+  $ echo 'scope 1 block 0 assumes 1 block 1 after 0 assumes 1?.10' | scope-deps explain --all
+  the job has no candidate, so no path is returned
+
+  nodes: 2 before the first round, 1 added by reduction
+      1.10 in round 1, forward walk: block 1 made 1?.10 into 1.10, since it had 1
+
+  --all       every block that has such a base, every block at which it stopped, in sections with numbers
+              every step by which a path came to a block, and where each node was added
   --strict    the answer by the strict propagation; `scope-deps help answer` says how that differs
 
 All this is from a second run of the propagation, with a trace. Where that does not end with what the

@@ -102,8 +102,8 @@ fn explained(run: &Run, job: &Job, sheet: &Sheet, answer: &Answer) -> Result<Str
 
 /// What is said where a returned path rests on one that came past a block.
 #[cfg(feature = "explain")]
-const LEFT_OUT: &str = "blocks on a loop were left out on the way of such a path, so that a run of control may avoid \
-                        those that assume it; with `--strict`, nothing is taken over where a block would be left out";
+const LEFT_OUT: &str = "blocks on a loop were left out on the way of a path that a returned one rests on, so that a run of control \
+                        may avoid those that assume it; with `--strict`, nothing is taken over where a block would be left out";
 
 #[cfg(not(feature = "explain"))]
 fn explained(_: &Run, _: &Job, _: &Sheet, _: &Answer) -> Result<String, Failure> {

@@ -4,8 +4,8 @@ use super::{Base, Elsewhere, End, Explanation, How, Reason, Step, Stop, Unknown,
 use crate::ids::BlockId;
 use std::collections::BTreeSet;
 
-/// The blocks that matter to the candidates: every block that a sentence of the explanation in full
-/// names.
+/// The blocks that matter to the candidates: every block that the explanation in full names before
+/// it comes to the nodes.
 #[must_use]
 pub fn blocks_that_matter(explanation: &Explanation) -> BTreeSet<BlockId> {
     let mut blocks: BTreeSet<BlockId> = explanation.steps.iter().flat_map(of_step).collect();

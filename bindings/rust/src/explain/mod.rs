@@ -23,13 +23,18 @@
 //!     .11  is cut: 1.10 is not known to be there in block 2
 //!          block 1 assumes 1.10, but control can also come to block 2 from block 0, \
 //!          which does not have it
+//!
+//! nodes: 2 before the first round, none added by reduction
 //! ");
 //! # Ok::<(), Box<dyn std::error::Error>>(())
 //! ```
 //!
-//! [`Explanation::in_full`] shows all that is known, with every step by which a path came to a
-//! block. For sheet and answer by the strict propagation there is [`explain_strict`].
+//! At its end stands how many nodes there were before the first round, and which ones reduction
+//! added. [`Explanation::in_full`] shows all that is known, with every step by which a path came to
+//! a block, and with the round and the block in which each node was added. For sheet and answer by
+//! the strict propagation there is [`explain_strict`].
 
+mod added;
 mod arrivals;
 mod bases;
 mod blocks;
@@ -40,6 +45,7 @@ mod stops;
 mod text;
 mod unknown;
 
+pub use added::Added;
 pub use bases::{Base, Known, LeftOut};
 pub use matter::blocks_that_matter;
 pub use steps::{How, Step};
@@ -71,6 +77,10 @@ pub struct Explanation {
     /// How blocks came to have the paths that the reasons speak of. Reasons and steps have places
     /// in this list.
     pub steps: Vec<Step>,
+    /// How many nodes there were before the first round.
+    pub nodes_before_rounds: usize,
+    /// The nodes that reduction added, and where, in the order in which it did.
+    pub added: Vec<Added>,
     /// The job's names, by which paths are shown.
     pub names: Names,
 }
@@ -90,6 +100,11 @@ impl Explanation {
             Base::Known(known) => on_the_way(&self.steps, known.step).iter().any(past_another),
             Base::Unknown(_) => false,
         })
+    }
+
+    /// The paths of the nodes that reduction added, by number.
+    pub fn added_paths(&self) -> impl Iterator<Item = &Path> {
+        self.added.iter().flat_map(|added| added.nodes.iter().map(|(_, path)| path))
     }
 }
 
@@ -170,6 +185,8 @@ pub fn explain(job: &Job, sheet: &Sheet, answer: &Answer) -> Result<Explanation,
 ///     .10  is cut: 1 is not known to be there in block 1
 ///          block 0 assumes 1, but block 1 takes nothing over from the blocks before it, \
 ///          since it is itself one of them and not finished
+///
+/// nodes: 1 before the first round, none added by reduction
 /// ");
 /// # Ok::<(), Box<dyn std::error::Error>>(())
 /// ```
@@ -198,6 +215,8 @@ pub(crate) fn explain_by(
         settled: replay.is_settled(),
         reasons,
         steps: bases.into_steps(),
+        nodes_before_rounds: replay.nodes_before_rounds(),
+        added: added::added(job, &replay),
         names: job.names().clone(),
     })
 }

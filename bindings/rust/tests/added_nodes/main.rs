@@ -1,7 +1,9 @@
-//! Nodes before the first round, and nodes that reduction added: in sheets and in replays.
+//! Nodes before the first round, and nodes that reduction added: in sheets, in replays and in
+//! explanations.
 
 #[path = "../common/mod.rs"]
 mod common;
+mod explain;
 mod replay;
 mod sheet;
 

@@ -5,6 +5,7 @@ mod common;
 mod dumps;
 mod help;
 mod messages;
+mod nodes;
 mod options;
 mod strict;
 mod thin;

@@ -60,8 +60,8 @@ fn refusal_9_is_that_of_the_propagation_that_was_asked_for() {
 }
 
 /// What an explanation ends with where a returned path came past a block that was left out.
-const LEFT_OUT: &str = "\n\nblocks on a loop were left out on the way of such a path, so that a run of control may avoid \
-                        those that assume it; with `--strict`, nothing is taken over where a block would be left out\n";
+const LEFT_OUT: &str = "\n\nblocks on a loop were left out on the way of a path that a returned one rests on, so that a run of control \
+                        may avoid those that assume it; with `--strict`, nothing is taken over where a block would be left out\n";
 
 #[test]
 fn an_explanation_with_a_block_left_out_ends_with_a_word_on_strict() {

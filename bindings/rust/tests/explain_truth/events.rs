@@ -13,6 +13,13 @@ pub fn check_events(world: &World, explanation: &Explanation) {
         assert_eq!((world.id_list(&[visit.block]), visit.side), (vec![stop.at], stop.side));
         assert_eq!(visit, world.last_visit(stop.at, stop.side));
     }
+    for added in &explanation.added {
+        let visit = &world.replay.visits()[added.visit];
+        let block = world.id_list(&[visit.block])[0];
+        assert_eq!((visit.round, visit.side, block), (added.round, added.side, added.block));
+        let nodes: Vec<NodeId> = added.nodes.iter().map(|(node, _)| *node).collect();
+        assert_eq!(visit.replaced[added.place].added, nodes);
+    }
 }
 
 fn check_step(world: &World, steps: &[Step], step: &Step) {

@@ -10,6 +10,7 @@ mod common;
 
 mod bases;
 mod events;
+mod nodes;
 mod parse;
 mod sources;
 mod steps;
@@ -27,6 +28,7 @@ use world::World;
 
 /// The kinds of sentences, and how many of each are checked at least.
 const EXPECTED: &[(&str, usize)] = &[
+    ("added", 5_000),
     ("all that lack it", 10_000),
     ("assumed", 10_000),
     ("assumed, and left open", 1_000),
@@ -38,6 +40,7 @@ const EXPECTED: &[(&str, usize)] = &[
     ("left open", 1_000),
     ("made", 1_000),
     ("no block", 1_000),
+    ("nodes", 1_000),
     ("not connected", 1_000),
     ("not settled", 100),
     ("one left out that lacks it", 50),
@@ -52,6 +55,7 @@ const EXPECTED: &[(&str, usize)] = &[
 
 /// The same by the strict propagation. It leaves no block out, and these jobs settle by it.
 const EXPECTED_STRICT: &[(&str, usize)] = &[
+    ("added", 5_000),
     ("all that lack it", 10_000),
     ("assumed", 10_000),
     ("assumed, and left open", 1_000),
@@ -63,6 +67,7 @@ const EXPECTED_STRICT: &[(&str, usize)] = &[
     ("left open", 1_000),
     ("made", 1_000),
     ("no block", 1_000),
+    ("nodes", 1_000),
     ("not connected", 1_000),
     ("one that lacks it", 1_000),
     ("shown, but open by a path met before", 100),
@@ -82,8 +87,8 @@ fn check(job: &Job, propagation: Propagation, kinds: &mut Kinds) -> Option<Expla
     };
     let explanation = explain(job, &world.sheet, &world.answer).unwrap_or_else(|why| panic!("{why}:\n{job}"));
     assert_eq!(explanation.propagation, propagation);
-    for text in [explanation.to_string(), explanation.in_full().to_string()] {
-        let checked = std::panic::AssertUnwindSafe(|| check_text(&world, &text, &mut *kinds));
+    for (text, in_full) in [(explanation.to_string(), false), (explanation.in_full().to_string(), true)] {
+        let checked = std::panic::AssertUnwindSafe(|| check_text(&world, &text, in_full, &mut *kinds));
         if std::panic::catch_unwind(checked).is_err() {
             panic!("the explanation of\n{job}\nis\n{text}");
         }

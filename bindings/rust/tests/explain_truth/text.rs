@@ -1,6 +1,7 @@
 //! A whole explanation as text, sentence by sentence.
 
 use crate::bases::{check_known, check_left_out, check_unknown};
+use crate::nodes::check_nodes;
 use crate::parse::{holes, path};
 use crate::steps::{check_section, told_by, Told};
 use crate::world::{show, World};
@@ -36,9 +37,13 @@ fn after_head<'t>(world: &World, text: &'t str) -> &'t str {
 }
 
 /// Checks every sentence of an explanation.
-pub fn check_text(world: &World, text: &str, kinds: &mut Kinds) {
+pub fn check_text(world: &World, text: &str, in_full: bool, kinds: &mut Kinds) {
     let text = after_head(world, text);
     let mut parts: Vec<Vec<&str>> = text.split("\n\n").map(|part| part.lines().collect()).collect();
+    let nodes = parts.pop().unwrap_or_default();
+    for kind in check_nodes(world, &nodes, in_full) {
+        *kinds.entry(kind).or_default() += 1;
+    }
     let sections: Vec<Section> = parts
         .iter()
         .skip(world.job.candidates().len().max(1))

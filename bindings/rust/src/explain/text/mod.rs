@@ -1,6 +1,7 @@
 //! An explanation as text: in short, or in full.
 
 mod known;
+mod nodes;
 mod sections;
 mod show;
 mod unknown;
@@ -18,8 +19,8 @@ use unknown::unknown;
 const STRICT: &str = "strict propagation: a block takes paths over from the blocks before it, or after it, \
                       only where all of these are finished";
 
-/// An explanation in full: all blocks at which a path stopped, and every step by which a path came
-/// to a block.
+/// An explanation in full: all blocks at which a path stopped, every step by which a path came to a
+/// block, and where each node was added.
 #[derive(Clone, Copy, Debug)]
 pub struct InFull<'a>(&'a Explanation);
 
@@ -41,6 +42,8 @@ impl Explanation {
     /// [1] how 1 came there
     ///     block 0 assumes 1
     ///     block 1 took 1 over from block 0, the only block that control comes from
+    ///
+    /// nodes: 1 before the first round, none added by reduction
     /// ");
     /// # Ok::<(), Box<dyn std::error::Error>>(())
     /// ```
@@ -52,7 +55,9 @@ impl Explanation {
 
 impl fmt::Display for Explanation {
     fn fmt(&self, f: &mut fmt::Formatter<'_>) -> fmt::Result {
-        Text { explanation: self, sections: None }.candidates(f)
+        let text = Text { explanation: self, sections: None };
+        text.candidates(f)?;
+        writeln!(f, "\n{}", nodes::in_short(&text))
     }
 }
 
@@ -60,7 +65,9 @@ impl fmt::Display for InFull<'_> {
     fn fmt(&self, f: &mut fmt::Formatter<'_>) -> fmt::Result {
         let text = Text { explanation: self.0, sections: Some(Sections::new(self.0)) };
         text.candidates(f)?;
-        text.sections.iter().try_for_each(|sections| sections.write(f))
+        text.sections.iter().try_for_each(|sections| sections.write(f))?;
+        writeln!(f)?;
+        nodes::in_full(&text).iter().try_for_each(|line| writeln!(f, "{line}"))
     }
 }
 

@@ -4,6 +4,9 @@ use crate::ids::BlockId;
 use crate::names::Names;
 use crate::path::{Entry, Path};
 
+/// The most items of a list in short.
+pub(super) const MOST: usize = 3;
+
 /// A path, without spans.
 pub(super) fn show_path(path: &Path, names: &Names) -> String {
     format!("{:#}", path.with_names(names))
@@ -21,20 +24,24 @@ pub(super) fn show_block(block: BlockId) -> String {
 
 /// One block or more: `block 1`, `blocks 1 and 2`, `blocks 1, 2 and 3`.
 pub(super) fn show_blocks(blocks: &[BlockId]) -> String {
-    let noun = if blocks.len() == 1 { "block" } else { "blocks" };
+    let noun = for_count(blocks.len(), "block", "blocks");
     let ids: Vec<String> = blocks.iter().map(BlockId::to_string).collect();
     format!("{noun} {}", listed(&ids))
 }
 
 /// Some blocks, and how many others: `blocks 1, 2, 3 and 4 more`.
 pub(super) fn show_some_blocks(blocks: &[BlockId]) -> String {
-    const MOST: usize = 3;
-    if blocks.len() <= MOST + 1 {
-        return show_blocks(blocks);
+    let ids: Vec<String> = blocks.iter().map(BlockId::to_string).collect();
+    format!("{} {}", for_count(blocks.len(), "block", "blocks"), some_listed(&ids, MOST))
+}
+
+/// So many, and how many others: `a, b, c and 4 more`. All, where only one would be left out.
+pub(crate) fn some_listed(items: &[String], most: usize) -> String {
+    if items.len() <= most + 1 {
+        return listed(items);
     }
-    let mut items: Vec<String> = blocks[..MOST].iter().map(BlockId::to_string).collect();
-    items.push(format!("{} more", blocks.len() - MOST));
-    format!("blocks {}", listed(&items))
+    let more = format!("{} more", items.len() - most);
+    listed(&[&items[..most], &[more]].concat())
 }
 
 /// `a`, `a and b`, `a, b and c`.
@@ -46,7 +53,7 @@ pub(super) fn listed(items: &[String]) -> String {
     }
 }
 
-/// The verb for one or for more.
+/// The word for one or for more.
 pub(super) fn for_count(count: usize, one: &'static str, more: &'static str) -> &'static str {
     if count == 1 {
         one

@@ -1,0 +1,141 @@
+//! Explanations: how many nodes there are, which ones reduction added, and where.
+
+use crate::{job, BACKWARD, ON_THE_WAY, SMALLEST, THERE_ALREADY, TOLD_APART, TWO_ROUNDS};
+use scope_deps::explain::{explain, explain_strict, Explanation, Mismatch};
+use scope_deps::replay::Side;
+use scope_deps::{answer, raw, sheet, strict_answer, strict_sheet, BlockId, Job, Sheet};
+
+fn explained(job: &Job) -> Explanation {
+    explain(job, &sheet(job).unwrap(), &answer(job).unwrap()).unwrap()
+}
+
+fn strictly_explained(job: &Job) -> Explanation {
+    explain_strict(job, &strict_sheet(job).unwrap(), &strict_answer(job).unwrap()).unwrap()
+}
+
+/// What stands at the end of an explanation, after a blank line.
+fn end(said: String) -> String {
+    said.rsplit_once("\n\n").unwrap().1.to_string()
+}
+
+fn short(text: &str) -> String {
+    end(explained(&job(text)).to_string())
+}
+
+fn full(text: &str) -> String {
+    end(explained(&job(text)).in_full().to_string())
+}
+
+#[test]
+fn where_none_was_added_one_line_says_so() {
+    let none = "nodes: 3 before the first round, none added by reduction\n";
+    assert_eq!((short(THERE_ALREADY), full(THERE_ALREADY)), (none.to_string(), none.to_string()));
+    let no_node = "nodes: 0 before the first round, none added by reduction\n";
+    assert_eq!(short("scope 7 block 7 candidate 1.10"), no_node);
+    assert_eq!(short("scope 7 block 7"), no_node, "without a candidate");
+}
+
+#[test]
+fn those_that_were_added_are_named_in_short() {
+    assert_eq!(short(SMALLEST), "nodes: 2 before the first round, 1 added by reduction: 1.10\n");
+    assert_eq!(
+        short(ON_THE_WAY),
+        "nodes: 3 before the first round, 2 added by reduction: 1.10 and 1.10?.11\n"
+    );
+    let named = "name 1 athlete name .10 lastSession scope 7 block 7 assumes athlete, athlete?.lastSession";
+    assert_eq!(short(named), "nodes: 2 before the first round, 1 added by reduction: athlete.lastSession\n");
+}
+
+/// So many variables, each with an optional property.
+fn many(count: usize) -> String {
+    let assumed: String = (1..=count).map(|id| format!(" assumes {id}, {id}?.10")).collect();
+    format!("scope 7 block 7{assumed}")
+}
+
+#[test]
+fn of_many_some_are_named_and_in_full_all() {
+    assert_eq!(
+        short(&many(4)),
+        "nodes: 8 before the first round, 4 added by reduction: 1.10, 2.10, 3.10 and 4.10\n"
+    );
+    assert_eq!(
+        short(&many(120)),
+        "nodes: 240 before the first round, 120 added by reduction: 1.10, 2.10, 3.10 and 117 more\n"
+    );
+    let full = full(&many(120));
+    let lines: Vec<&str> = full.lines().collect();
+    assert_eq!((lines.len(), lines[0]), (121, "nodes: 240 before the first round, 120 added by reduction"));
+    let last = "    120.10 in round 1, forward walk: block 7 made 120?.10 into 120.10, since it had 120";
+    assert_eq!(lines[120], last);
+}
+
+#[test]
+fn in_full_each_has_its_round_its_walk_and_its_block() {
+    assert_eq!(
+        full(TWO_ROUNDS),
+        "\
+nodes: 4 before the first round, 2 added by reduction
+    1.10?.11 in round 1, forward walk: block 3 made 1?.10?.11 into 1.10?.11, since it had 1
+    1.10.11 in round 2, forward walk: block 3 made 1.10?.11 into 1.10.11, since it had 1.10
+"
+    );
+    assert_eq!(
+        full(BACKWARD),
+        "\
+nodes: 2 before the first round, 1 added by reduction
+    1.10 in round 1, backward walk: block 0 made 1?.10 into 1.10, since it had 1
+"
+    );
+    assert_eq!(
+        full(ON_THE_WAY),
+        "\
+nodes: 3 before the first round, 2 added by reduction
+    1.10 and 1.10?.11 in round 1, forward walk: block 7 made 1?.10?.11 into 1.10?.11, since it had 1
+"
+    );
+    let both = full("scope 7 block 7 assumes 1, 1.10, 1?.10?.11");
+    assert!(both.ends_with(" made 1?.10?.11 into 1.10.11, since it had 1 and 1.10\n"), "{both}");
+}
+
+#[test]
+fn the_strict_propagation_has_its_own() {
+    let job = job(TOLD_APART);
+    let (existing, strict) = (explained(&job), strictly_explained(&job));
+    assert_eq!(
+        end(existing.to_string()),
+        "nodes: 3 before the first round, 2 added by reduction: 1.10 and 1.10.10\n"
+    );
+    assert_eq!(
+        end(strict.to_string()),
+        "nodes: 3 before the first round, 3 added by reduction: 1?.10.10, 1.10 and 1.10.10\n"
+    );
+    assert_eq!(
+        end(strict.in_full().to_string()),
+        "\
+nodes: 3 before the first round, 3 added by reduction
+    1?.10.10 in round 1, forward walk: block 1 made 1?.10?.10 into 1?.10.10, since it had 1?.10
+    1.10 in round 1, backward walk: block 0 made 1?.10 into 1.10, since it had 1
+    1.10.10 in round 1, backward walk: block 0 made 1?.10.10 into 1.10.10, since it had 1
+"
+    );
+}
+
+#[test]
+fn an_explanation_has_the_places_for_programs_too() {
+    let explanation = explained(&job(TWO_ROUNDS));
+    assert_eq!(explanation.nodes_before_rounds, 4);
+    let places: Vec<_> =
+        explanation.added.iter().map(|added| (added.round, added.side, added.block)).collect();
+    assert_eq!(places, [1, 2].map(|round| (round, Side::Predecessors, BlockId(3))));
+    let paths: Vec<String> = explanation.added_paths().map(|path| path.to_string()).collect();
+    assert_eq!(paths, ["1.10?.11", "1.10.11"]);
+}
+
+#[test]
+fn nothing_is_explained_where_the_library_s_count_is_another() {
+    let job = job(SMALLEST);
+    let mut bytes = raw::sheet(job.as_bytes()).unwrap();
+    bytes[8] = 3;
+    let sheet = Sheet::from_bytes(&bytes).unwrap();
+    assert_eq!(explain(&job, &sheet, &answer(&job).unwrap()), Err(Mismatch));
+}
