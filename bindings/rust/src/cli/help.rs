@@ -240,7 +240,9 @@ usage: scope-deps draw [-o FILE.svg] [--focus] [--strict] [--from FORM] [--names
 Draws a job, with its sheet and its answer, as one SVG file that a browser shows: the blocks in layers
 from the first down, arrows for control, those that close a loop dashed; in each block the paths that
 it assumes and those that it holds in the end; beside the scope block each candidate with what is
-returned of it and where it is cut. A block that holds what its only predecessor holds says so.
+returned of it and where it is cut. A block that holds what its only predecessor holds says so. Under
+the title stands how many nodes there were before the first round, and which ones reduction added; in
+the blocks a `+` stands before their paths.
 
 Under the pointer, a block's arrows are lit and the others dimmed; after a click they stay so. Paths for
 which a box has no more lines are there under the pointer. On a dark screen the picture is dark.

@@ -1,13 +1,11 @@
 //! The box of a block: its id, the paths that it assumes, and those that it holds in the end.
 
 use super::place::Extent;
-use super::shown;
+use super::shown::{self, Item, Piece};
 use super::svg::{width, Svg, SMALL};
 use crate::ids::BlockId;
 use crate::job::{Block, Job};
-use crate::names::Names;
-use crate::path::Path;
-use crate::sheet::Sheet;
+use crate::sheet::{NodeSet, Sheet};
 
 pub(super) const PADDING: f64 = 9.0;
 pub(super) const LINE: f64 = 17.0;
@@ -30,9 +28,8 @@ pub(super) struct BlockBox {
 /// A line of a box.
 struct Row {
     label: &'static str,
-    class: &'static str,
-    text: String,
-    /// What the text stands for, where it does not say all.
+    pieces: Vec<Piece>,
+    /// What the pieces stand for, where they do not say all.
     full: String,
 }
 
@@ -49,18 +46,14 @@ impl BlockBox {
         let is_scope = block.id() == job.scope();
         let head = format!("{} {}", if is_scope { "scope block" } else { "block" }, block.id());
         let most = if drawn <= FEW_BLOCKS { 8 } else { 4 };
-        let held: Vec<Path> = sheet.paths(block.id()).collect();
-        let mut rows = match same_as(block, sheet).filter(|&id| is_drawn(id)) {
-            Some(id) => {
-                vec![Row::note("holds", format!("the same as block {id}"), shown::all(&held, job.names()))]
-            }
-            None => rows("holds", "", &held, job.names(), most),
+        let (assumed, held) = (assumed(job, block), held(job, block, sheet));
+        let of_held = match same_as(block, sheet).filter(|&id| is_drawn(id)) {
+            Some(id) => vec![Row::note("holds", format!("the same as block {id}"), shown::all(&held))],
+            None => rows("holds", &held, most),
         };
-        if !block.assumed().is_empty() {
-            rows.splice(0..0, self::rows("assumes", "assumed", block.assumed(), job.names(), most));
-        }
-        let widest =
-            rows.iter().map(|row| PATHS + width(&row.text, SMALL)).fold(width(&head, SMALL), f64::max);
+        let of_assumed = if assumed.is_empty() { Vec::new() } else { rows("assumes", &assumed, most) };
+        let rows: Vec<Row> = of_assumed.into_iter().chain(of_held).collect();
+        let widest = rows.iter().map(Row::width).fold(width(&head, SMALL), f64::max);
         let height = 2.0 * PADDING + LINE * (1 + rows.len()) as f64 - 4.0;
         let is_own_predecessor = block.predecessors().contains(&block.id());
         Self { head, is_scope, is_own_predecessor, rows, width: widest + 2.0 * PADDING, height }
@@ -82,7 +75,7 @@ impl BlockBox {
         for row in &self.rows {
             base += LINE;
             svg.text(x + PADDING, base, "label", row.label);
-            svg.texts(x + PADDING + PATHS, base, &[(row.class, &row.text)], &row.full);
+            svg.texts(x + PADDING + PATHS, base, &shown::as_parts(&row.pieces), &row.full);
         }
     }
 }
@@ -94,27 +87,56 @@ fn same_as(block: &Block, sheet: &Sheet) -> Option<BlockId> {
     (before != block.id() && !own.is_empty() && own == set_before).then_some(before)
 }
 
+/// The paths that a block assumes.
+fn assumed(job: &Job, block: &Block) -> Vec<Item> {
+    block.assumed().iter().map(|path| Item::new(path, job.names(), "assumed")).collect()
+}
+
+/// The paths that a block holds in the end, with a mark on those whose node reduction added.
+fn held(job: &Job, block: &Block, sheet: &Sheet) -> Vec<Item> {
+    let nodes = sheet.set(block.id()).into_iter().flat_map(NodeSet::iter);
+    let item = |node| match (sheet.path(node), sheet.is_added(node)) {
+        (path, true) => Item::added(&path, job.names()),
+        (path, false) => Item::new(&path, job.names(), ""),
+    };
+    nodes.map(item).collect()
+}
+
 impl Row {
     /// A line that lists no paths.
     fn note(label: &'static str, text: String, full: String) -> Self {
-        Self { label, class: "label", text, full }
+        Self { label, pieces: vec![("label", text)], full }
+    }
+
+    /// How many more paths there are, and how many of them reduction added.
+    fn more(paths: &[Item]) -> Self {
+        let more = format!("and {} more", paths.len());
+        let pieces = match paths.iter().filter(|path| path.is_added).count() {
+            0 => vec![("label", more)],
+            // Not every program shows a usual blank between two pieces.
+            added => vec![("label", more + ",\u{a0}"), ("added", format!("{added} added"))],
+        };
+        Self { label: "", pieces, full: shown::all(paths) }
+    }
+
+    fn width(&self) -> f64 {
+        PATHS + self.pieces.iter().map(|(_, piece)| width(piece, SMALL)).sum::<f64>()
     }
 }
 
 /// The paths with commas between them, in lines; what comes after the last line is counted at its
 /// end.
-fn rows(label: &'static str, class: &'static str, paths: &[Path], names: &Names, most: usize) -> Vec<Row> {
-    let lines = shown::lines(paths, names, most);
+fn rows(label: &'static str, paths: &[Item], most: usize) -> Vec<Row> {
+    let lines = shown::lines(paths, most);
     let labels = std::iter::once(label).chain(std::iter::repeat(""));
     let in_lines = lines.lines.into_iter().zip(labels);
     let mut rows: Vec<Row> =
-        in_lines.map(|(text, label)| Row { label, class, text, full: String::new() }).collect();
+        in_lines.map(|(pieces, label)| Row { label, pieces, full: String::new() }).collect();
     if paths.is_empty() {
         rows.push(Row::note(label, "nothing".to_string(), String::new()));
     }
     if lines.shown < paths.len() {
-        let text = format!("and {} more", paths.len() - lines.shown);
-        rows.push(Row::note("", text, shown::all(&paths[lines.shown..], names)));
+        rows.push(Row::more(&paths[lines.shown..]));
     }
     rows
 }

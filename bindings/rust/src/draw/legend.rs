@@ -4,24 +4,39 @@ use super::svg::{Head, Look, Stroke, Svg};
 
 /// The room that the legend takes.
 pub(super) const WIDTH: f64 = 420.0;
-pub(super) const HEIGHT: f64 = 90.0;
+const LINE: f64 = 18.0;
 
-const LINES: [&[(&str, &str)]; 4] = [
+/// A text of parts, each with its class.
+type Line = &'static [(&'static str, &'static str)];
+
+const LINES: [Line; 4] = [
     &[("assumed", "assumes"), ("label", ": paths taken as given in the block")],
     &[("", "holds"), ("label", ": paths that count as known there in the end")],
     &[("", "1"), ("knife", "|"), ("cut", ".10"), ("label", ": cut, since 1 is not known there")],
     &[("", "1"), ("knife", "|"), ("covered", ".10"), ("label", ": not needed, since another ends at 1")],
 ];
 
+/// Only where the picture has such a path.
+const ADDED: Line = &[("added", "+1.10"), ("label", ": added by reduction, where a ?. became plain")];
+
+/// The lines below the first, which has the arrows.
+fn lines(has_added: bool) -> impl Iterator<Item = Line> {
+    LINES.into_iter().chain(has_added.then_some(ADDED))
+}
+
+pub(super) fn height(has_added: bool) -> f64 {
+    LINE * (1 + lines(has_added).count()) as f64
+}
+
 /// Draws it, in a group of its own, so that its arrows are not among those that follow a block.
-pub(super) fn draw(y: f64, svg: &mut Svg) {
+pub(super) fn draw(y: f64, has_added: bool, svg: &mut Svg) {
     svg.open("");
     arrow(0.0, y, Look::Control, svg);
     svg.text(44.0, y, "label", "control");
     arrow(130.0, y, Look::Loop, svg);
     svg.text(174.0, y, "label", "control that closes a loop");
-    for (line, parts) in LINES.iter().enumerate() {
-        svg.texts(0.0, y + 18.0 * (line + 1) as f64, parts, "");
+    for (line, parts) in lines(has_added).enumerate() {
+        svg.texts(0.0, y + LINE * (line + 1) as f64, parts, "");
     }
     svg.close();
 }

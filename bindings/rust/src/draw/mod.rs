@@ -1,8 +1,10 @@
 //! A picture of a job with its sheet and its answer.
 //!
 //! The blocks stand in layers, from the first down. Arrows are control, dashed where they close a
-//! loop. Each block has the paths that it assumes and those that it holds in the end. Beside the
-//! scope block stands each candidate, with what is returned of it and where it is cut.
+//! loop. Each block has the paths that it assumes and those that it holds in the end, where those
+//! whose node reduction added have a mark. Beside the scope block stands each candidate, with what
+//! is returned of it and where it is cut. Under the title stands how many nodes there were before
+//! the first round, and which ones reduction added.
 //!
 //! A block under the pointer lights its arrows and dims the others, and on a dark screen the
 //! picture is dark: both by the style sheet in the file, without a script. [`draw_focused`] leaves
@@ -27,6 +29,7 @@ mod gaps;
 mod layers;
 mod legend;
 mod line;
+mod nodes;
 mod order;
 mod panel;
 mod place;
@@ -41,11 +44,12 @@ use crate::answer::Answer;
 use crate::explain::{explain_by, Explanation, Mismatch};
 use crate::job::Job;
 use crate::replay::Propagation;
-use crate::sheet::Sheet;
+use crate::sheet::{NodeSet, Sheet};
 use arrows::Drawn;
 use boxes::BlockBox;
 use gaps::Gap;
 use layers::Layers;
+use nodes::Nodes;
 use panel::Panel;
 use place::{At, Extent, Placed};
 use svg::Svg;
@@ -53,8 +57,8 @@ use view::View;
 
 /// The space around the picture.
 const MARGIN: f64 = 24.0;
-/// The space for the title above the blocks.
-const TITLE: f64 = 46.0;
+/// The space for the title, and the line under it, above the blocks.
+const TITLE: f64 = 66.0;
 /// The space between the blocks and the legend below them.
 const ABOVE_LEGEND: f64 = 40.0;
 
@@ -133,7 +137,7 @@ impl Picture<'_> {
         gaps.iter().zip(at).for_each(|(gap, at)| gap.draw(at, &mut svg));
         let (view, layers, placed, extents) = (&self.view, &layers, &placed, &extents[..]);
         Drawn { view, layers, placed, extents, names }.draw_arrows(&mut svg);
-        self.finished(svg, placed, explanation.propagation)
+        self.finished(svg, placed, explanation)
     }
 
     /// Draws a block, with the panel beside it where it is the scope block, in a group of its own.
@@ -171,15 +175,24 @@ impl Picture<'_> {
     }
 
     /// The whole file: what was drawn, under a title and over a legend.
-    fn finished(&self, mut svg: Svg, placed: &Placed, propagation: Propagation) -> String {
-        let title = self.title(propagation);
+    fn finished(&self, mut svg: Svg, placed: &Placed, explanation: &Explanation) -> String {
+        let (title, nodes) = (self.title(explanation.propagation), Nodes::new(explanation));
         svg.text(0.0, 22.0 - TITLE, "title", &title);
-        let width = placed.width.max(legend::WIDTH).max(svg::width(&title, svg::LARGE));
-        legend::draw(placed.height + ABOVE_LEGEND, &mut svg);
-        let height = placed.height + TITLE + ABOVE_LEGEND + legend::HEIGHT;
+        svg.texts(0.0, 42.0 - TITLE, &[("label", &nodes.text)], &nodes.full);
+        let heads = svg::width(&title, svg::LARGE).max(svg::width(&nodes.text, svg::SMALL));
+        let width = placed.width.max(legend::WIDTH).max(heads);
+        legend::draw(placed.height + ABOVE_LEGEND, self.has_added(), &mut svg);
+        let height = placed.height + TITLE + ABOVE_LEGEND + legend::height(self.has_added());
         let style = style::style(self.view.blocks.iter().copied());
         let size = [width + 2.0 * MARGIN, height + 2.0 * MARGIN];
         svg.file(&style, &title, size, [MARGIN, MARGIN + TITLE])
+    }
+
+    /// Whether a block that is drawn holds a path whose node reduction added.
+    fn has_added(&self) -> bool {
+        let blocks = self.view.blocks.iter().map(|&place| self.job.blocks()[place].id());
+        let mut held = blocks.filter_map(|id| self.sheet.set(id)).flat_map(NodeSet::iter);
+        held.any(|node| self.sheet.is_added(node))
     }
 
     fn title(&self, propagation: Propagation) -> String {

@@ -86,7 +86,6 @@ fn widest<'r>(lines: impl Iterator<Item = &'r Vec<Piece>>, head: &str) -> f64 {
 /// Writes lines under one another, the first below `base`.
 fn column(lines: &[Vec<Piece>], x: f64, base: f64, full: &str, svg: &mut Svg) {
     for (place, line) in lines.iter().enumerate() {
-        let pieces: Vec<(&str, &str)> = line.iter().map(|(class, piece)| (*class, &piece[..])).collect();
-        svg.texts(x, base + LINE * (place + 1) as f64, &pieces, full);
+        svg.texts(x, base + LINE * (place + 1) as f64, &shown::as_parts(line), full);
     }
 }

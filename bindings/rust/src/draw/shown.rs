@@ -18,50 +18,97 @@ pub(super) fn parts(path: &Path, names: &Names) -> Vec<String> {
     std::iter::once(variable).chain(entries).collect()
 }
 
+/// What stands before a path whose node reduction added. It is no colour, and is there in the text
+/// under the pointer, too.
+const ADDED: &str = "+";
+
+/// A path in a list, and its class.
+pub(super) struct Item {
+    parts: Vec<String>,
+    class: &'static str,
+    pub(super) is_added: bool,
+}
+
+impl Item {
+    /// A path of this class.
+    pub(super) fn new(path: &Path, names: &Names, class: &'static str) -> Self {
+        Self { parts: parts(path, names), class, is_added: false }
+    }
+
+    /// A path whose node reduction added, with its mark.
+    pub(super) fn added(path: &Path, names: &Names) -> Self {
+        let mut parts = parts(path, names);
+        parts[0].insert_str(0, ADDED);
+        Self { parts, class: "added", is_added: true }
+    }
+
+    /// The lines of the path by itself, with a comma behind it where others follow.
+    fn lines(&self, others_follow: bool) -> Vec<Vec<Piece>> {
+        let mut parts = self.parts.clone();
+        if let (true, Some(last)) = (others_follow, parts.last_mut()) {
+            last.push(',');
+        }
+        broken(parts.into_iter().map(|part| (self.class, part)))
+    }
+}
+
 /// All paths in one text.
-pub(super) fn all(paths: &[Path], names: &Names) -> String {
-    paths.iter().map(|path| parts(path, names).concat()).collect::<Vec<_>>().join(", ")
+pub(super) fn all(items: &[Item]) -> String {
+    items.iter().map(|item| item.parts.concat()).collect::<Vec<_>>().join(", ")
 }
 
 /// A piece of a text, and its class.
 pub(super) type Piece = (&'static str, String);
 
+/// The pieces as the parts of a text.
+pub(super) fn as_parts(pieces: &[Piece]) -> Vec<(&str, &str)> {
+    pieces.iter().map(|(class, piece)| (*class, &piece[..])).collect()
+}
+
+/// How many characters the pieces have.
+fn length(pieces: &[Piece]) -> usize {
+    pieces.iter().map(|(_, piece)| piece.chars().count()).sum()
+}
+
+/// Puts a piece behind others, in one with the last of them where that is of the same class.
+fn push(line: &mut Vec<Piece>, (class, piece): Piece) {
+    match line.last_mut() {
+        Some((last, text)) if *last == class => text.push_str(&piece),
+        _ => line.push((class, piece)),
+    }
+}
+
 /// The pieces in lines of at most [`LONGEST`] characters. No piece is broken.
 pub(super) fn broken(pieces: impl IntoIterator<Item = Piece>) -> Vec<Vec<Piece>> {
     let mut lines: Vec<Vec<Piece>> = vec![Vec::new()];
-    let mut length = 0;
-    for (class, piece) in pieces {
-        let more = piece.chars().count();
-        if length > 0 && length + more > LONGEST {
+    for piece in pieces {
+        let so_far = lines.last().map_or(0, |line| length(line));
+        if so_far > 0 && so_far + piece.1.chars().count() > LONGEST {
             lines.push(vec![("", GOES_ON.to_string())]);
-            length = GOES_ON.chars().count();
         }
-        length += more;
         let line = lines.last_mut().expect("there is a line from the start on");
-        match line.last_mut() {
-            Some((last, text)) if *last == class => text.push_str(&piece),
-            _ => line.push((class, piece)),
-        }
+        push(line, piece);
     }
     lines
 }
 
 /// Lines of paths with commas between them, and how many of the paths they show.
 pub(super) struct Lines {
-    pub(super) lines: Vec<String>,
+    pub(super) lines: Vec<Vec<Piece>>,
     pub(super) shown: usize,
 }
 
 /// As many paths as have room in `most` lines, and at least one. A path is shown whole or not at
 /// all.
-pub(super) fn lines(paths: &[Path], names: &Names, most: usize) -> Lines {
+pub(super) fn lines(items: &[Item], most: usize) -> Lines {
     let mut made = Lines { lines: Vec::new(), shown: 0 };
-    for (place, path) in paths.iter().enumerate() {
-        let own = own_lines(parts(path, names), place + 1 < paths.len());
-        match made.joined(&own) {
-            Some((last, joined)) => made.lines[last] = joined,
-            None if place > 0 && made.lines.len() + own.len() > most => break,
-            None => made.lines.extend(own),
+    for (place, item) in items.iter().enumerate() {
+        let own = item.lines(place + 1 < items.len());
+        if !made.join(&own) {
+            if place > 0 && made.lines.len() + own.len() > most {
+                break;
+            }
+            made.lines.extend(own);
         }
         made.shown += 1;
     }
@@ -69,21 +116,16 @@ pub(super) fn lines(paths: &[Path], names: &Names, most: usize) -> Lines {
 }
 
 impl Lines {
-    /// The last line's place, and that line with a path after it, where there is room for all of
-    /// the path. After a path that was broken, the next starts a line.
-    fn joined(&self, own: &[String]) -> Option<(usize, String)> {
-        let ([line], Some(last)) = (own, self.lines.last()) else { return None };
-        let joined = format!("{last} {line}");
-        let has_room = !last.starts_with(GOES_ON) && joined.chars().count() <= LONGEST;
-        has_room.then(|| (self.lines.len() - 1, joined))
+    /// Puts a path behind the last line, where there is room for all of the path, and says whether
+    /// there is. After a path that was broken, the next starts a line.
+    fn join(&mut self, own: &[Vec<Piece>]) -> bool {
+        let ([line], Some(last)) = (own, self.lines.last_mut()) else { return false };
+        let goes_on = last.first().is_some_and(|(_, text)| text.starts_with(GOES_ON));
+        if goes_on || length(last) + 1 + length(line) > LONGEST {
+            return false;
+        }
+        last.last_mut().into_iter().for_each(|(_, text)| text.push(' '));
+        line.iter().for_each(|piece| push(last, piece.clone()));
+        true
     }
-}
-
-/// The lines of a path by itself, with a comma behind it where others follow.
-fn own_lines(mut parts: Vec<String>, others_follow: bool) -> Vec<String> {
-    if let (true, Some(last)) = (others_follow, parts.last_mut()) {
-        last.push(',');
-    }
-    let lines = broken(parts.into_iter().map(|part| ("", part)));
-    lines.into_iter().map(|line| line.into_iter().map(|(_, piece)| piece).collect()).collect()
 }

@@ -17,11 +17,12 @@ path{fill:none;stroke-width:1.3}\
 /// one.
 type Colour = (&'static str, &'static str, &'static str, &'static str);
 
-const COLOURS: [Colour; 18] = [
+const COLOURS: [Colour; 19] = [
     (".page", "fill", "#ffffff", "#12171e"),
     ("text", "fill", "#1f2933", "#e4e9f0"),
     (".label", "fill", "#5a6572", "#a3afbd"),
     (".assumed", "fill", "#1a4fb4", "#8ab4ff"),
+    (".added", "fill", "#7b2cb0", "#d9a8ff"),
     (".cut,.knife", "fill", "#c01c1c", "#ff9389"),
     (".covered", "fill", "#66717d", "#98a4b2"),
     (".returned", "fill", "#046c4e", "#5fd3a6"),

@@ -51,6 +51,8 @@ pub use matter::blocks_that_matter;
 pub use steps::{How, Step};
 pub use stops::{Holder, Stop, Way, Why};
 pub use text::InFull;
+#[cfg(feature = "draw")]
+pub(crate) use text::{node_counts, some_listed};
 pub use unknown::{Before, Elsewhere, Unknown};
 
 use crate::answer::Answer;

@@ -49,3 +49,15 @@ fn so_it_does_where_none_was_added_and_by_the_strict_propagation() {
         .contains("\n    1.10 in round 1, backward walk: block 0 made 1?.10 into 1.10, since it had 1\n"));
     assert!(text(&["sheet", "--strict"], job).contains("\nnode 2 1.10, added by reduction\n"));
 }
+
+#[test]
+fn a_picture_has_them_under_its_title() {
+    for words in [&["draw"][..], &["draw", "--focus"], &["draw", "--strict"]] {
+        let picture = text(words, JOB);
+        assert!(
+            picture.contains(">nodes: 2 before the first round, 1 added by reduction: athlete.lastSession<"),
+            "{words:?}"
+        );
+        assert!(picture.contains("<tspan class=\"added\">+athlete.lastSession</tspan>"), "{words:?}");
+    }
+}

@@ -4,6 +4,7 @@ mod arrows;
 #[path = "../common/mod.rs"]
 mod common;
 mod focus;
+mod nodes;
 mod palette;
 mod pointer;
 mod read;

@@ -59,6 +59,7 @@ fn text_and_arrows_stand_out_from_what_they_are_on() {
         on("text", 7.0, everywhere),
         on(".label", 4.5, everywhere),
         on(".assumed", 4.5, &[".page", ".box", ".scope"]),
+        on(".added", 4.5, &[".page", ".box", ".scope"]),
         on(".cut", 4.5, &[".page", ".panel"]),
         on(".knife", 4.5, &[".page", ".panel"]),
         on(".covered", 4.5, &[".page", ".panel"]),

@@ -97,7 +97,8 @@ fn every_number_that_is_shown_is_whole() {
             });
             for line in paths {
                 let text = shown(line).replace(['\u{a0}', '|'], "");
-                for word in text.split([',', ' ']).flat_map(words).filter(|word| !word.is_empty()) {
+                let paths = text.split([',', ' ']).map(|path| path.trim_start_matches('+'));
+                for word in paths.flat_map(words).filter(|word| !word.is_empty()) {
                     assert!(known.contains(&word), "{word} in {text} of {job}");
                     long += usize::from(word.len() > 15);
                 }

@@ -14,6 +14,8 @@ use sections::Sections;
 use show::{show_entry, show_path};
 use std::fmt;
 use unknown::unknown;
+#[cfg(feature = "draw")]
+pub(crate) use {nodes::counts as node_counts, show::some_listed};
 
 /// What stands before all else where the propagation is the strict one.
 const STRICT: &str = "strict propagation: a block takes paths over from the blocks before it, or after it, \
