@@ -4,6 +4,7 @@ mod common;
 
 use common::repository;
 use scope_deps::draw::{draw, draw_strict};
+use scope_deps::explain::explain;
 use scope_deps::{answer, sheet, strict_answer, strict_sheet, Job};
 use std::fs;
 use std::path::PathBuf;
@@ -30,7 +31,7 @@ fn job(name: &str) -> Job {
 #[test]
 fn each_example_has_the_answer_beside_it() {
     let names = names();
-    assert_eq!(names, ["diamond", "loop", "no-last-session", "optional-chain", "repeats"]);
+    assert_eq!(names, ["added-nodes", "diamond", "loop", "no-last-session", "optional-chain", "repeats"]);
     for name in names {
         let expected = read(repository(&format!("examples/{name}.answer")));
         let job = job(&name);
@@ -66,7 +67,7 @@ fn the_pictures_in_the_readme_are_those_that_are_drawn() {
         assert!(svg == read(repository(file)), "{file}: draw it again by `scope-deps draw`");
         assert!(readme.contains(file), "{file}");
     };
-    for name in ["no-last-session", "loop"] {
+    for name in ["no-last-session", "loop", "added-nodes"] {
         let job = job(name);
         let svg = draw(&job, &sheet(&job).unwrap(), &answer(&job).unwrap()).unwrap();
         check(&format!("docs/pictures/{name}.svg"), svg);
@@ -74,6 +75,28 @@ fn the_pictures_in_the_readme_are_those_that_are_drawn() {
     let job = job("loop");
     let strict = draw_strict(&job, &strict_sheet(&job).unwrap(), &strict_answer(&job).unwrap()).unwrap();
     check("docs/pictures/loop-strict.svg", strict);
+}
+
+/// What the comment of the example says, and what the README shows of it beside the sheet.
+#[test]
+fn reduction_adds_two_nodes_for_the_chain_and_none_for_the_plain_path() {
+    let text = read(repository("examples/added-nodes.job"));
+    let chain: Job = text.parse().unwrap();
+    let (chained, plain) =
+        ("assumes reactive athlete?.lastSession@3?.zones@4", "athlete.lastSession@3.zones@4");
+    assert!(text.contains(chained));
+    let plain: Job = text.replace(chained, &format!("assumes reactive {plain}")).parse().unwrap();
+    let counts = |job: &Job| sheet(job).map(|sheet| (sheet.nodes_before_rounds(), sheet.nodes().len()));
+    assert_eq!((counts(&chain), counts(&plain)), (Ok((4, 6)), Ok((3, 3))));
+    assert_eq!(answer(&chain), answer(&plain));
+    let explanation = explain(&chain, &sheet(&chain).unwrap(), &answer(&chain).unwrap()).unwrap();
+    let blocks: Vec<u32> = explanation.added.iter().map(|added| added.block.0).collect();
+    assert_eq!(blocks, [1, 2]);
+    let all = explanation.in_full().to_string();
+    let end: Vec<&str> = all.lines().rev().take(3).collect();
+    let shown: String = end.iter().rev().map(|line| format!("    {line}\n")).collect();
+    let command = "    $ bin/scope-deps explain --all examples/added-nodes.job | tail -n 3\n";
+    assert!(read(repository("README.md")).contains(&format!("{command}{shown}")), "{shown}");
 }
 
 /// The indented parts of a document that start a job.

@@ -3,13 +3,14 @@
 use super::failure::Failure;
 
 /// The jobs of the repository's `examples`, by name, each with what it shows.
-const EXAMPLES: [(&str, &str, &str); 5] = [
+const EXAMPLES: [(&str, &str, &str); 6] = [
     (
         "no-last-session",
         "a path is cut before what would throw for an athlete with no last session",
         include_str!("jobs/no-last-session.job"),
     ),
     ("optional-chain", "known bases make `?.` plain", include_str!("jobs/optional-chain.job")),
+    ("added-nodes", "which nodes reduction adds for an optional chain", include_str!("jobs/added-nodes.job")),
     (
         "diamond",
         "what both branches assume is known after them, and what one assumes is not",
