@@ -216,9 +216,10 @@ over where one would be left out, and that is a reason for a cut, too.
   nodes: 1 before the first round, none added by reduction
 
 The end says how many nodes there were before the first round, and how many reduction added, with the
-paths of some; `scope-deps help sheet` says what these are. With `--all` it says of each in which round
-and in which block. A round is a walk forward, in which each block takes paths over from the blocks
-before it, and one backward.
+paths of these, or the first three where there are more than four; `scope-deps help sheet` says what
+nodes are. With `--all` it has all of them, and the round and the block in which each was added. A round
+is a walk forward, in which each block takes paths over from the blocks before it, and one backward, in
+which it takes them over from those after it.
 
   $ echo 'scope 1 block 0 assumes 1 block 1 after 0 assumes 1?.10' | scope-deps explain --all
   the job has no candidate, so no path is returned
