@@ -191,7 +191,8 @@ fn edit(name: &str, item: &str) -> Result<String, String> {
     match name {
         "impl ReactiveScopeDependencyTreeHIR" => cutter::replace_once(item, "sort_unstable_by", "sort_by"),
         "fn propagate_non_null" => {
-            let counted = cutter::insert_in_block_after(item, "0..100", " rounds::started();")?;
+            let counted =
+                cutter::insert_in_block_after(item, "0..100", " rounds::started(registry.nodes.len());")?;
             cutter::insert_in_block_after(&counted, "!changed", " rounds::settled();")
         }
         _ => Ok(item.to_string()),

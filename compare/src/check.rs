@@ -1,5 +1,6 @@
 //! Replays a list of jobs.
 
+use crate::entering::entered;
 use crate::job::limits;
 use crate::list::Record;
 use crate::operation::Operation;
@@ -103,6 +104,9 @@ fn check_together(record: &Record, answer: &Answer, sheet: &Sheet) -> Result<(),
     if !job.blocks.iter().map(|block| block.id).eq(sheet.sets.iter().map(|(id, _)| *id)) {
         return Err("the sheet's blocks are not the job's".into());
     }
+    if sheet.nodes[..sheet.nodes_before] != entered(&job) {
+        return Err("the sheet's nodes before the first round are not those of the assumed paths".into());
+    }
     if answer.returned.len() > job.candidates.len() {
         return Err("more paths are returned than there are candidates".into());
     }
@@ -158,6 +162,30 @@ mod tests {
         assert_eq!(without_rust(&[Record { answer: empty.answer, sheet: empty.sheet, ..in_a_loop }]), Ok(()));
     }
 
+    #[test]
+    fn the_nodes_before_the_first_round_are_held_to_the_paths_without_the_rust() {
+        let node = |identifier: u8| [b"NO\xff\xff", &[identifier, 0, 0, 0][..], &[0; 15]].concat();
+        let sheet = |before: u8, identifier: u8| {
+            let head = [&b"SH\x01\0\x01\0\x01\x01"[..], &[before, 0]].concat();
+            let set = [b"SE\x07\0\0\0\x01", &[0; limits::NODES / 8 - 1][..]].concat();
+            [head, node(identifier), set].concat()
+        };
+        let answer = || b"AN\0\0\x01\x01".to_vec();
+        let with = |sheet: Vec<u8>| Record {
+            answer: answer(),
+            sheet: sheet.clone(),
+            strict_answer: answer(),
+            strict_sheet: sheet,
+            ..record()
+        };
+        assert_eq!(without_rust(&[with(sheet(1, 1))]), Ok(()));
+        fails(with(sheet(1, 2)), "the sheet's nodes before the first round are not those of");
+        fails(with(sheet(0, 1)), "the sheet is not well formed: node 0 is a root");
+        fails(with(sheet(2, 1)), "the sheet is not well formed: it has 2 nodes before");
+        let strict = Record { strict_sheet: sheet(1, 2), ..with(sheet(1, 1)) };
+        fails(strict, "strict: the sheet's nodes before the first round");
+    }
+
     /// A record of two blocks without paths, the second after itself or not.
     fn in_a_loop(is_loop: bool) -> Record {
         let after: &[u32] = if is_loop { &[8] } else { &[] };
@@ -167,6 +195,6 @@ mod tests {
 
     fn sheet_of_two() -> Vec<u8> {
         let set = |id: u8| [b"SE", &[id, 0, 0, 0][..], &[0; limits::NODES / 8]].concat();
-        [b"SH\0\0\x02\0\x01\x01".to_vec(), set(7), set(8)].concat()
+        [b"SH\0\0\x02\0\x01\x01\0\0".to_vec(), set(7), set(8)].concat()
     }
 }

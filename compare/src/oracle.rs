@@ -1,5 +1,6 @@
 //! What the Rust source says of a job, and what the harness says of what the Rust has not.
 
+use crate::counts::Counts;
 use crate::operation::Operation;
 use crate::propagation::Propagation;
 use crate::reader::Refusal;
@@ -49,16 +50,6 @@ impl All {
             Operation::StrictSheet => &self.strict.sheet,
         }
     }
-}
-
-/// Counts of a job that was run.
-#[derive(Debug, Clone, Copy)]
-pub struct Counts {
-    pub rounds: u8,
-    pub settled: bool,
-    /// Nodes before the first round, and after the last.
-    pub entered: usize,
-    pub nodes: usize,
 }
 
 /// What the programs write: a refusal is RF and its number.
@@ -145,12 +136,7 @@ impl Oracle {
         self.alloc.reset();
         let prepared = reference::prepare(&job, &self.alloc);
         let propagated = reference::propagate(&prepared, propagation, &self.alloc);
-        let counts = Some(Counts {
-            rounds: propagated.rounds.run,
-            settled: propagated.rounds.settled,
-            entered: propagated.entered,
-            nodes: propagated.nodes(),
-        });
+        let counts = Some(propagated.counts());
         match refuse_many_nodes(&propagated) {
             Ok(()) => Both {
                 answer: Ok(answer_bytes(prepared, &propagated, &self.alloc)),

@@ -1,7 +1,8 @@
 //! Reads answers and sheets back, and says what is not well formed in them.
 
-use crate::job::{Path, Property, limits};
+use crate::job::{Entry, Path, Property, limits};
 use crate::reader::{Reader, Refusal};
+use std::collections::HashSet;
 
 #[derive(Debug, Clone, PartialEq, Eq)]
 pub struct Answer {
@@ -25,9 +26,24 @@ pub struct Node {
 pub struct Sheet {
     pub rounds: u8,
     pub settled: bool,
+    /// How many of the nodes were there before the first round; reduction made the others.
+    pub nodes_before: usize,
     pub nodes: Vec<Node>,
     /// Each block's id and node numbers, in job order.
     pub sets: Vec<(u32, Vec<usize>)>,
+}
+
+impl Sheet {
+    /// The path of a node.
+    pub fn path(&self, number: usize) -> Path {
+        let Node { parent, identifier, optional, property, span, reactive } = self.nodes[number];
+        let Some(parent) = parent else {
+            return Path { identifier, reactive, span, entries: vec![] };
+        };
+        let mut path = self.path(parent);
+        path.entries.push(Entry { optional, property, span });
+        path
+    }
 }
 
 /// What a program wrote: its own record, or a refusal.
@@ -53,9 +69,10 @@ pub fn read_sheet(bytes: &[u8]) -> Result<Written<Sheet>, String> {
         reader.mark(b"SH")?;
         let (node_count, block_count) = (reader.u16()?, reader.u16()?);
         let (rounds, settled) = (reader.u8()?, reader.flag()?);
+        let nodes_before = reader.u16()?.into();
         let nodes = (0..node_count).map(|_| read_node(reader)).collect::<Result<_, _>>()?;
         let sets = (0..block_count).map(|_| read_set(reader)).collect::<Result<_, _>>()?;
-        Ok(Sheet { rounds, settled, nodes, sets })
+        Ok(Sheet { rounds, settled, nodes_before, nodes, sets })
     })
     .and_then(|written| checked(written, check_sheet))
 }
@@ -131,9 +148,14 @@ fn check_sheet(sheet: &Sheet) -> Result<(), String> {
     if sheet.nodes.len() > limits::NODES || sheet.sets.len() > limits::BLOCKS {
         return Err("it has too many nodes or blocks".into());
     }
+    let mut seen = HashSet::new();
     for (number, node) in sheet.nodes.iter().enumerate() {
         check_node(sheet, number, node)?;
+        if !seen.insert((node.parent, node.identifier, node.optional, node.property)) {
+            return Err(format!("node {number} was there before"));
+        }
     }
+    check_made(sheet)?;
     for (id, set) in &sheet.sets {
         if set.iter().any(|&node| node >= sheet.nodes.len()) {
             return Err(format!("the set of block {id} holds a node that does not exist"));
@@ -152,4 +174,37 @@ fn check_node(sheet: &Sheet, number: usize, node: &Node) -> Result<(), String> {
         Some(_) => false,
     };
     if fits { Ok(()) } else { Err(format!("node {number} does not fit its parent")) }
+}
+
+/// Each node from `nodes_before` on is an entered one with optional entries made plain.
+fn check_made(sheet: &Sheet) -> Result<(), String> {
+    let (before, nodes) = (sheet.nodes_before, sheet.nodes.len());
+    if before > nodes {
+        return Err(format!("it has {before} nodes before the first round, and {nodes} at the end"));
+    }
+    for made in before..nodes {
+        if sheet.nodes[made].parent.is_none() {
+            return Err(format!("node {made} is a root, and reduction makes none"));
+        }
+        if !(0..before).any(|entered| reduces_to(sheet, entered, made)) {
+            return Err(format!("node {made} is no node that reduction could make of those before"));
+        }
+    }
+    Ok(())
+}
+
+/// Whether a node's path has the other's names, is optional wherever that one is, and at a further
+/// place too. Reduction keeps the span of the entry that it makes plain, and of those after it.
+fn reduces_to(sheet: &Sheet, entered: usize, made: usize) -> bool {
+    let (mut from, mut to) = (&sheet.nodes[entered], &sheet.nodes[made]);
+    let (same_span, mut plainer) = (from.span == to.span, false);
+    while let (Some(base), Some(base_made)) = (from.parent, to.parent) {
+        if from.property != to.property || to.optional && !from.optional {
+            return false;
+        }
+        plainer |= from.optional != to.optional;
+        (from, to) = (&sheet.nodes[base], &sheet.nodes[base_made]);
+    }
+    let same_root = (from.parent, from.identifier) == (to.parent, to.identifier);
+    same_root && same_span && plainer
 }

@@ -5,6 +5,7 @@
 mod own;
 
 use crate::arena::{Allocator, ArenaVec, CloneIn, CloneInSemanticIds};
+use crate::counts::Counts;
 use crate::fx::{FxHashMap, FxIndexMap};
 use crate::hir::{BasicBlock, BlockId, HIR, HirFunction, Ident, IdentifierId, OrderedMap, Span};
 use crate::job::{Entry, Job, Path, Property, limits};
@@ -46,15 +47,35 @@ impl<'a> CloneIn<'a> for DependencyPathEntry<'a> {
 /// What a job has come to when propagation ends.
 pub struct Propagated<'a> {
     registry: PropertyPathRegistry<'a>,
+    infos: Infos,
     sets: Sets,
-    /// Nodes that were there before the first round.
-    pub entered: usize,
-    pub rounds: Rounds,
+    /// `nodes.len()` of the registry before the first round, when all assumed paths are entered.
+    nodes_before: usize,
+    rounds: Rounds,
 }
 
 impl Propagated<'_> {
     pub fn nodes(&self) -> usize {
         self.registry.nodes.len()
+    }
+
+    pub fn counts(&self) -> Counts {
+        let nodes = self.nodes();
+        Counts {
+            rounds: self.rounds.run,
+            settled: self.rounds.settled,
+            nodes_before: self.nodes_before,
+            nodes_after_forward: self.rounds.nodes_after_forward,
+            nodes_after_first: self.rounds.nodes_before_second.unwrap_or(nodes),
+            nodes_before_last: self.rounds.nodes_before_last,
+            nodes,
+            replaces: self.replaces(),
+        }
+    }
+
+    /// Whether a node that a block assumes is not in the block's set any more.
+    fn replaces(&self) -> bool {
+        self.infos.iter().any(|(block, info)| !info.assumed_non_null_objects.is_subset(&self.sets[block]))
     }
 
     fn set(&self, block: u32) -> &BTreeSet<usize> {
@@ -88,7 +109,7 @@ pub fn propagate<'a>(
 ) -> Propagated<'a> {
     let mut registry = PropertyPathRegistry::new(alloc);
     let infos = enter_assumed_paths(prepared, &mut registry);
-    let entered = registry.nodes.len();
+    let nodes_before = registry.nodes.len();
     rounds::clear();
     let function = &prepared.function;
     let sets = match propagation {
@@ -96,7 +117,7 @@ pub fn propagate<'a>(
         Propagation::Strict => strict::propagate(function, &infos, &mut registry),
         Propagation::Own(mistake) => own::propagate(function, &infos, &mut registry, mistake),
     };
-    Propagated { registry, sets, entered, rounds: rounds::read() }
+    Propagated { registry, infos, sets, nodes_before, rounds: rounds::read() }
 }
 
 fn enter_assumed_paths<'a>(prepared: &Prepared<'a>, registry: &mut PropertyPathRegistry<'a>) -> Infos {
@@ -216,6 +237,7 @@ pub fn put_sheet(out: &mut Vec<u8>, job: &Job, propagated: &Propagated) {
     out.extend((propagated.nodes() as u16).to_le_bytes());
     out.extend((job.blocks.len() as u16).to_le_bytes());
     put_rounds(out, propagated);
+    out.extend((propagated.nodes_before as u16).to_le_bytes());
     let nodes = &propagated.registry.nodes;
     for (node, parent) in nodes.iter().zip(parents(nodes)) {
         put_node(out, node, parent);

@@ -245,7 +245,7 @@ mod with_the_rust {
     fn answers_and_refusals_come_as_bytes() {
         let job = hex("4844 0100 0000 00000000 / 424C 00000000 00 00");
         assert_eq!(run(&["answer"], &job).stdout, hex("414E 0000 01 01"));
-        assert_eq!(run(&["sheet"], &job).stdout.len(), 8 + 70);
+        assert_eq!(run(&["sheet"], &job).stdout.len(), 10 + 70);
         assert_eq!(run(&["answer"], b"").stdout, b"RF\x03");
         assert_eq!(run(&["sheet"], b"xx").stdout, b"RF\x04");
         assert_eq!(run(&["answer"], &[0; 100_000]).stdout, b"RF\x02");

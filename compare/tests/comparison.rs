@@ -118,7 +118,7 @@ fn the_fixed_list_has_both_sides_of_each_limit() {
         refusals.insert(both.answer.as_ref().err().copied().unwrap_or(0));
         sizes.insert((fixed.job.len(), both.answer.is_ok()));
         if let Some(counts) = both.counts {
-            nodes.insert((counts.nodes, counts.entered < counts.nodes));
+            nodes.insert((counts.nodes, counts.made() > 0));
             rounds.insert((counts.rounds, counts.settled));
         }
     }

@@ -23,7 +23,7 @@ fn the_bytes_case() {
     let job = hex(EXAMPLE);
     let answer = hex("414E 0100 01 01 / 4445 01000000 01 06000000 01 00 00 0A00000000000000 06000000");
     assert_eq!(oracle.answer(Existing, &job, limits::OUT_BYTES), Ok(answer.clone()));
-    let mut sheet = hex("5348 0100 0100 01 01 / 4E4F FFFF 01000000 00 00 0000000000000000 00000000 01");
+    let mut sheet = hex("5348 0100 0100 01 01 0100 / 4E4F FFFF 01000000 00 00 0000000000000000 00000000 01");
     sheet.extend(hex("5345 07000000 01"));
     sheet.extend([0; 63]);
     assert_eq!(oracle.sheet(Existing, &job, limits::OUT_BYTES), Ok(sheet.clone()));
@@ -39,7 +39,7 @@ fn a_sheet_with_a_made_node() {
     let child = Path { identifier: 1, reactive: false, span: 4, entries: vec![entry] };
     let block = Block { id: 7, predecessors: vec![], assumed: vec![root, child] };
     let both = run(&Job { scope: 7, blocks: vec![block], candidates: vec![] });
-    let mut expected = hex("5348 0300 0100 02 01
+    let mut expected = hex("5348 0300 0100 02 01 0200
          4E4F FFFF 01000000 00 00 0000000000000000 03000000 01
          4E4F 0000 01000000 01 01 0000000000000080 09000000 01
          4E4F 0000 01000000 00 01 0000000000000080 09000000 01
@@ -48,7 +48,7 @@ fn a_sheet_with_a_made_node() {
     assert_eq!(both.sheet, Ok(expected));
     assert_eq!(both.answer, Ok(hex("414E 0000 02 01")));
     let counts = both.counts.unwrap();
-    assert_eq!((counts.entered, counts.nodes), (2, 3));
+    assert_eq!((counts.nodes_before, counts.nodes), (2, 3));
 }
 
 fn returned(hoistable: &str, candidates: &str) -> String {

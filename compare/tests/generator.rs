@@ -79,7 +79,7 @@ fn node_counts_are_reached_as_promised() {
         for number in 0..60 {
             let generated = generate(4, number, Some(class));
             let counts = oracle.both(Existing, &generated.job, generated.out_len).counts.unwrap();
-            assert_eq!(class == "nodes-reduced", counts.entered < counts.nodes);
+            assert_eq!(class == "nodes-reduced", counts.made() > 0);
             met.insert(counts.nodes);
         }
         assert!(met.iter().copied().eq(511..=514), "{class}: {met:?}");

@@ -17,7 +17,7 @@ fn the_bytes_case() {
     assert_eq!(answer(&job, &mut out), Ok(due.len()));
     assert_eq!(out[..due.len()], due);
     assert!(out[due.len()..].iter().all(|&byte| byte == 7));
-    assert_eq!(sheet(&job, &mut out), Ok(8 + 23 + 70));
+    assert_eq!(sheet(&job, &mut out), Ok(10 + 23 + 70));
     assert_eq!(out[..2], *b"SH");
 }
 
@@ -55,8 +55,8 @@ fn the_bytes_case_of_a_strict_answer() {
     assert_eq!(said(answer), hex(existing));
     assert_eq!(said(strict_answer), hex("414E 0100 01 01 / 4445 01000000 01 05000000 00"));
     let (sheet, strict_sheet) = (said(sheet), said(strict_sheet));
-    assert_eq!([sheet.len(), strict_sheet.len()], [8 + 23 + 2 * 70; 2]);
-    let in_sets = |sheet: &[u8]| [sheet[8 + 23 + 6], sheet[8 + 23 + 70 + 6]];
+    assert_eq!([sheet.len(), strict_sheet.len()], [10 + 23 + 2 * 70; 2]);
+    let in_sets = |sheet: &[u8]| [sheet[10 + 23 + 6], sheet[10 + 23 + 70 + 6]];
     assert_eq!((in_sets(&sheet), in_sets(&strict_sheet)), ([1, 1], [1, 0]));
 }
 

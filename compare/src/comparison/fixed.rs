@@ -174,7 +174,7 @@ fn out_lengths(jobs: &mut Vec<Fixed>) {
         ("32,768 bytes without a repeat", worst::longest_without_repeats().to_bytes()),
     ];
     let around_the_least = [24_574, 24_575, 24_576, 24_577, 32_766, 32_767, 32_768, 32_769];
-    for out_len in [0, 1, 6, 78].into_iter().chain(around_the_least).chain([65_536, 1 << 20]) {
+    for out_len in [0, 1, 6, 80].into_iter().chain(around_the_least).chain([65_536, 1 << 20]) {
         for (what, job) in &kinds {
             let name = format!("{what}, out buffer of {out_len} bytes");
             jobs.push(Fixed { name, out_len, job: job.clone() });

@@ -14,8 +14,9 @@ pub use graph::order_features;
 pub use strict::strict_features;
 pub use thin::nearly_right;
 
+use crate::counts::Counts;
 use crate::job::{Job, Path, Property, limits};
-use crate::oracle::{All, Counts};
+use crate::oracle::All;
 use crate::output::{Answer, Written, read_answer, read_sheet};
 use crate::reader::read_job;
 use std::collections::{BTreeSet, HashMap, HashSet};
@@ -68,10 +69,10 @@ fn count_features(counts: &Counts, found: &mut Features) {
         rounds => format!("rounds from {}", rounds / 10 * 10),
     });
     found.insert(format!("settled {}", u8::from(counts.settled)));
-    let made = counts.nodes - counts.entered;
+    let made = counts.made();
     add(found, "reduction makes nodes", made > 0);
     add(found, "reduction makes over 8 nodes", made > 8);
-    add(found, "513 nodes or more by reduction alone", counts.nodes > 512 && counts.entered <= 512);
+    add(found, "513 nodes or more by reduction alone", counts.nodes > 512 && counts.nodes_before <= 512);
     if counts.nodes <= 2 || (505..=514).contains(&counts.nodes) {
         found.insert(format!("nodes {}{}", counts.nodes, if made > 0 { " by reduction" } else { "" }));
     }

@@ -100,21 +100,7 @@ fn marks(candidate: &Path, tree: &HashMap<Position, bool>) -> Vec<bool> {
 /// The paths of the scope block's set, ascending by node number.
 fn scope_paths(job: &Job, sheet: &Sheet) -> Vec<Path> {
     let (_, set) = sheet.sets.iter().find(|(id, _)| *id == job.scope).expect("the scope is a block");
-    set.iter().map(|&node| node_path(sheet, node)).collect()
-}
-
-fn node_path(sheet: &Sheet, number: usize) -> Path {
-    let node = &sheet.nodes[number];
-    match node.parent {
-        None => {
-            Path { identifier: node.identifier, reactive: node.reactive, span: node.span, entries: vec![] }
-        }
-        Some(parent) => {
-            let mut path = node_path(sheet, parent);
-            path.entries.push(Entry { optional: node.optional, property: node.property, span: node.span });
-            path
-        }
-    }
+    set.iter().map(|&node| sheet.path(node)).collect()
 }
 
 fn next_is_optional(path: &Path, length: usize) -> bool {

@@ -23,10 +23,11 @@ pub fn propagate(
     let sets = infos.iter().map(|(id, info)| (*id, info.assumed_non_null_objects.clone())).collect();
     let mut run = Run { registry, sets, marks: BTreeMap::new(), changed: false, mistake };
     for _ in 0..limits::ROUNDS {
-        rounds::started();
+        rounds::started(run.registry.nodes.len());
         run.changed = false;
         run.mistake = in_walk(Mistake::StrictBackwardOnly);
         run.walk(&forward, &predecessors);
+        rounds::turned(run.registry.nodes.len());
         if mistake != Some(Mistake::KeepsMarks) {
             run.marks.clear();
         }

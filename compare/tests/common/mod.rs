@@ -4,7 +4,7 @@
 pub use compare::notation::{block, job, path, text};
 
 use compare::comparison::returned_number;
-use compare::job::{Entry, Path};
+use compare::job::Path;
 use compare::oracle::Said;
 use compare::output::{Answer, Sheet, Written, read_answer, read_sheet};
 
@@ -41,17 +41,7 @@ pub fn sheet(bytes: &[u8]) -> Sheet {
 
 /// The path of a node, written shortly.
 pub fn node_text(sheet: &Sheet, number: usize) -> String {
-    text(&node_path(sheet, number))
-}
-
-fn node_path(sheet: &Sheet, number: usize) -> Path {
-    let node = &sheet.nodes[number];
-    let Some(parent) = node.parent else {
-        return Path { identifier: node.identifier, reactive: false, span: 0, entries: vec![] };
-    };
-    let mut path = node_path(sheet, parent);
-    path.entries.push(Entry { optional: node.optional, property: node.property, span: node.span });
-    path
+    text(&sheet.path(number))
 }
 
 /// The sets of all blocks, in job order.
