@@ -1,9 +1,11 @@
 //! Jobs by name, each of which tells a definition from one that is nearly the same. They stand at
 //! the end of the stored list; tests/examples.rs says what the Rust gives for each, tests/thin.rs
-//! what the thin job is, and tests/strict.rs what the strict propagation gives. Those of walks and
-//! orders are, but for two, theorems of the same names in crates/model/specs/Examples.antt;
-//! docs/DIFFERENCES.md tells of the keys.
+//! what the thin job is, tests/strict.rs what the strict propagation gives, and tests/nodes.rs how
+//! many nodes there are before the first round and at the end. Those of walks and orders are, but
+//! for two, theorems of the same names in crates/model/specs/Examples.antt; docs/DIFFERENCES.md
+//! tells of the keys.
 
+mod nodes;
 mod repeats;
 mod strict;
 
@@ -22,8 +24,12 @@ pub fn examples() -> Vec<Example> {
     let thin = [repeats::of_paths(), repeats::at_limits()];
     let strict = [strict::differences(), strict::traps(), strict::limits()];
     let named = [walks(), orders(), keys()].into_iter().chain(thin).chain(strict).flatten();
-    let long_enough = named.map(|(name, job)| Example { name, out_len: limits::THIN_BYTES, job });
-    long_enough.chain(buffers()).collect()
+    let nodes = [nodes::made(), nodes::made_later(), nodes::limits()].into_iter().flatten();
+    named.map(long_enough).chain(buffers()).chain(nodes.map(long_enough)).collect()
+}
+
+fn long_enough((name, job): (&'static str, Job)) -> Example {
+    Example { name, out_len: limits::THIN_BYTES, job }
 }
 
 /// Buffers on both sides of what an answer and a sheet need, and one that is too short for a thin

@@ -6,6 +6,7 @@ mod common;
 use common::write;
 use compare::comparison::run::{Generated, fixed_jobs, generated_jobs};
 use compare::comparison::{Comparison, fixed};
+use compare::cover::node_features;
 use compare::job::limits;
 use compare::library::Stage;
 use compare::operation::Operation;
@@ -112,9 +113,11 @@ fn a_job_that_differed_is_compared_again_by_its_number() {
 fn the_fixed_list_has_both_sides_of_each_limit() {
     let mut oracle = Oracle::open().unwrap();
     let (mut refusals, mut nodes, mut rounds) = (BTreeSet::new(), BTreeSet::new(), BTreeSet::new());
-    let mut sizes = BTreeSet::new();
+    let (mut sizes, mut features) = (BTreeSet::new(), BTreeSet::new());
     for fixed in fixed::list() {
-        let both = oracle.both(Existing, &fixed.job, fixed.out_len);
+        let all = oracle.all(&fixed.job, fixed.out_len);
+        features.extend(node_features(&all));
+        let both = all.existing;
         refusals.insert(both.answer.as_ref().err().copied().unwrap_or(0));
         sizes.insert((fixed.job.len(), both.answer.is_ok()));
         if let Some(counts) = both.counts {
@@ -131,6 +134,8 @@ fn the_fixed_list_has_both_sides_of_each_limit() {
     }
     assert!(sizes.contains(&(limits::JOB_BYTES, true)) && sizes.contains(&(limits::JOB_BYTES + 1, false)));
     assert!(sizes.contains(&(0, false)));
+    // All that there are.
+    assert_eq!(features.len(), 17, "{features:?}");
 }
 
 #[test]
@@ -145,7 +150,7 @@ fn the_fixed_list_has_both_sides_of_each_limit_of_strict_answers() {
         }
     }
     assert!(refusals.into_iter().eq(0..=9));
-    assert!(nodes.into_iter().eq([(false, 511), (false, 512), (false, 513), (true, 511), (true, 513)]));
+    assert!(nodes.into_iter().eq([false, true].into_iter().flat_map(|by| [511, 512, 513].map(|n| (by, n)))));
 }
 
 #[test]

@@ -1,11 +1,16 @@
 //! The generator: the same jobs again, and what each class promises.
 
+#[cfg(reference)]
+use compare::counts::Counts;
 use compare::generate::{class_names, generate};
 use compare::job::limits;
 #[cfg(reference)]
 use compare::oracle::Oracle;
 #[cfg(reference)]
-use compare::propagation::Propagation::{self, Existing, Strict};
+use compare::propagation::{
+    Mistake::PassesActiveOver,
+    Propagation::{Existing, Own, Strict},
+};
 use compare::reader::read_job;
 
 #[test]
@@ -28,6 +33,7 @@ fn jobs_without_faults_are_accepted_by_the_reader() {
         "ladder",
         "nodes-entered",
         "nodes-reduced",
+        "nodes-late",
         "repeats",
         "many-loops",
         "nodes-looped",
@@ -128,19 +134,22 @@ fn operations_agree_with_all() {
     }
 }
 
-/// The harness's own strict propagation is the Rust's text with the joining step exchanged.
+/// The harness's own strict propagation is the Rust's text with the joining step exchanged, and
+/// with Active neighbours passed over it is the Rust's.
 #[cfg(reference)]
 #[test]
-fn both_strict_propagations_agree() {
+fn the_harnesss_own_words_agree_with_the_rusts_text() {
     let mut oracle = Oracle::open().unwrap();
     for class in [None, Some("many-loops"), Some("nodes-looped"), Some("ladder")] {
         for number in 0..if class == Some("ladder") { 200 } else { 2000 } {
             let generated = generate(9, number, class);
             let mut both = |by| {
                 let both = oracle.both(by, &generated.job, generated.out_len);
-                (both.answer, both.sheet)
+                let counts = both.counts.map(|counts| Counts { nodes_after_forward: None, ..counts });
+                (both.answer, both.sheet, counts)
             };
-            assert_eq!(both(Propagation::Own(None)), both(Strict), "{class:?} {number}");
+            assert_eq!(both(Own(None)), both(Strict), "{class:?} {number}");
+            assert_eq!(both(Own(Some(PassesActiveOver))), both(Existing), "{class:?} {number}");
         }
     }
 }

@@ -1,5 +1,7 @@
 //! The limits of the specification, one job at each and one beyond.
 
+mod nodes;
+
 use crate::examples::examples;
 use crate::generate::{edges, ladder};
 use crate::job::{Block, Job, Path, limits};
@@ -17,7 +19,8 @@ pub fn list() -> Vec<Fixed> {
     let mut jobs = Vec::new();
     named(&mut jobs);
     counts(&mut jobs);
-    nodes(&mut jobs);
+    nodes::entered_or_made(&mut jobs);
+    nodes::made_late(&mut jobs);
     rounds(&mut jobs);
     sizes(&mut jobs);
     out_lengths(&mut jobs);
@@ -85,39 +88,6 @@ fn counts(jobs: &mut Vec<Fixed>) {
         jobs.push(fixed(format!("{count} assumed paths"), one_block(assumed, vec![]).to_bytes()));
         let equal = vec![path(1, 10, 2, false); count as usize];
         jobs.push(fixed(format!("{count} equal assumed paths"), one_block(equal, vec![]).to_bytes()));
-    }
-}
-
-/// 512 and 513 nodes, by entering and by reduction alone.
-fn nodes(jobs: &mut Vec<Fixed>) {
-    for nodes in [511, 512, 513, 514, 600] {
-        let job = one_block(full_registry(nodes), vec![path(100, 0, 3, false)]);
-        jobs.push(fixed(format!("{nodes} nodes entered"), job.to_bytes()));
-        // A root that is there makes each of a chain's entries anew.
-        let mut paths = vec![path(1, 10, 0, false)];
-        let mut left = nodes - 1;
-        while left > 1 {
-            let length = (left / 2).min(limits::ENTRIES);
-            let mut chain = path(1, 100 * paths.len() as u64, length, false);
-            chain.entries[0].optional = true;
-            paths.push(chain);
-            left -= 2 * length;
-        }
-        paths.extend((left == 1).then(|| path(1, 50_000, 1, false)));
-        let job = one_block(paths.clone(), vec![path(1, 100, 3, true)]);
-        jobs.push(fixed(format!("{nodes} nodes by reduction"), job.to_bytes()));
-        // The root comes with the forward walk, or with the backward walk.
-        for (way, from, to) in [("forward", 0, 1), ("backward", 1, 0)] {
-            let mut blocks = falling_chain(2);
-            blocks[from].assumed = paths[..1].to_vec();
-            blocks[to].assumed = paths[1..].to_vec();
-            let job = Job { scope: to as u32, blocks, candidates: vec![] };
-            jobs.push(fixed(format!("{nodes} nodes by reduction {way}"), job.to_bytes()));
-        }
-    }
-    for length in 0..=limits::ENTRIES {
-        let job = one_block(reducible_chain(1, length), vec![path(1, 10, limits::ENTRIES, true)]);
-        jobs.push(fixed(format!("reduction of {length} entries"), job.to_bytes()));
     }
 }
 

@@ -40,7 +40,8 @@ pub struct Generated<'o> {
 
 /// Classes whose jobs take long. Where no class is asked for, only those whose number
 /// is divisible by `KEPT` are compared.
-const LONG: [&str; 5] = ["many-blocks", "ladder", "nodes-entered", "nodes-reduced", "nodes-looped"];
+const LONG: [&str; 6] =
+    ["many-blocks", "ladder", "nodes-entered", "nodes-reduced", "nodes-late", "nodes-looped"];
 const KEPT: u64 = 4;
 
 /// Compares generated jobs and says now and then how far it is.

@@ -4,6 +4,7 @@
 //! on lists of paths. They only describe jobs; no answer depends on them.
 
 mod graph;
+mod nodes;
 mod reduction;
 mod refusals;
 mod strict;
@@ -11,6 +12,7 @@ mod thin;
 mod tree;
 
 pub use graph::order_features;
+pub use nodes::node_features;
 pub use strict::strict_features;
 pub use thin::nearly_right;
 

@@ -87,7 +87,7 @@ fn filled(mut blocks: Vec<Block>, nodes: usize) -> Job {
 }
 
 /// A ladder with the scope at its top, and what is climbed as candidate.
-fn climbed(steps: usize, climbs: usize) -> Job {
+pub fn climbed(steps: usize, climbs: usize) -> Job {
     let mut job = ladder::of(1, steps, climbs);
     job.scope = job.blocks[0].id;
     job.candidates = vec![worst::path(1, 10, limits::ENTRIES, false)];

@@ -16,7 +16,7 @@ use crate::job::{Block, Entry, Job, Path, Property, limits};
 use crate::prng::Prng;
 
 /// Each step is two blocks, and five blocks stand beside the ladder.
-const MOST_STEPS: usize = (limits::BLOCKS - 5) / 2;
+pub const MOST_STEPS: usize = (limits::BLOCKS - 5) / 2;
 
 pub fn ladder(prng: &mut Prng) -> Job {
     let climbs = prng.between(1, limits::ENTRIES / 2 + 1);
@@ -46,7 +46,7 @@ fn spoil(prng: &mut Prng, job: &mut Job) {
 }
 
 /// `identifier` with `length` entries, the last of them optional or not.
-fn path(identifier: u32, length: usize, optional: bool) -> Path {
+pub fn path(identifier: u32, length: usize, optional: bool) -> Path {
     let mut entries: Vec<Entry> = (0..length)
         .map(|n| Entry { optional: false, property: Property::Name(n as u64 + 10), span: 0 })
         .collect();

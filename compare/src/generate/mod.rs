@@ -4,6 +4,7 @@ mod damage;
 pub(crate) mod edges;
 pub(crate) mod graph;
 pub(crate) mod ladder;
+mod late;
 mod loops;
 mod nodes;
 mod repeats;
@@ -35,7 +36,8 @@ const CLASSES: &[Class] = &[
     Class { name: "many-blocks", weight: 3, make: |prng| shapes::many_blocks(prng).to_bytes() },
     Class { name: "ladder", weight: 4, make: |prng| ladder::ladder(prng).to_bytes() },
     Class { name: "nodes-entered", weight: 3, make: |prng| nodes::entered(prng).to_bytes() },
-    Class { name: "nodes-reduced", weight: 3, make: |prng| nodes::reduced(prng).to_bytes() },
+    Class { name: "nodes-reduced", weight: 2, make: |prng| nodes::reduced(prng).to_bytes() },
+    Class { name: "nodes-late", weight: 1, make: |prng| late::late(prng).to_bytes() },
     Class { name: "repeats", weight: 10, make: |prng| repeats::repeats(prng).to_bytes() },
     Class { name: "many-loops", weight: 10, make: |prng| loops::many_loops(prng).to_bytes() },
     Class { name: "nodes-looped", weight: 2, make: |prng| loops::nodes_looped(prng).to_bytes() },
