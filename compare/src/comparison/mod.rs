@@ -2,6 +2,7 @@
 
 mod buffer;
 pub mod fixed;
+pub mod nodes;
 pub mod run;
 
 use crate::job::Job;
@@ -10,6 +11,7 @@ use crate::operation::Operation;
 use crate::oracle::{All, Oracle, Said};
 use crate::reader::{MANY_NODES, Refusal, read_job};
 use buffer::Buffer;
+use nodes::Nodes;
 
 /// What was seen of a job on which all agree.
 pub struct Seen {
@@ -19,6 +21,8 @@ pub struct Seen {
     pub has_repeats: bool,
     /// How the two propagations stand to each other, of a job that the reader accepts.
     pub propagations: Option<Propagations>,
+    /// Where the nodes of such a job come from.
+    pub nodes: Option<Nodes>,
 }
 
 /// How the existing propagation and the strict one stand to each other on a job.
@@ -63,7 +67,8 @@ impl<'s> Comparison<'s> {
     pub fn compare(&mut self, job: &[u8], out_len: usize) -> Result<Seen, String> {
         let all = self.oracle.all(job, out_len);
         let read = read_job(job, out_len).ok();
-        let propagations = read.map(|job| Propagations::of(&job, &all)).transpose()?;
+        let propagations = read.as_ref().map(|job| Propagations::of(job, &all)).transpose()?;
+        let nodes = read.as_ref().map(|job| Nodes::of(job, &all)).transpose()?;
         self.call_all(job, out_len, &all)?;
         let shorter = all.thin.as_ref().ok().filter(|thin| *thin != job);
         if let Some(thin) = shorter {
@@ -72,7 +77,8 @@ impl<'s> Comparison<'s> {
             }
             self.compare_thin(thin, out_len, &all).map_err(|why| format!("of the thin job, {why}"))?;
         }
-        Ok(Seen { refusal: all.existing.answer.err(), has_repeats: shorter.is_some(), propagations })
+        let refusal = all.existing.answer.as_ref().err().copied();
+        Ok(Seen { refusal, has_repeats: shorter.is_some(), propagations, nodes })
     }
 
     /// Compares the operations on a thin job: in the library, in the Rust and in the harness its

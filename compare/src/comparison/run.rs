@@ -1,6 +1,7 @@
 //! Runs of a comparison: over the fixed list, and over generated jobs.
 
 use super::fixed;
+use super::nodes::NodesTally;
 use super::{Comparison, Propagations, Seen};
 use crate::generate::generate;
 use std::collections::BTreeMap;
@@ -98,6 +99,7 @@ pub struct Tally {
     /// Jobs with repeats: those that are accepted, and those that 9 refuses.
     pub repeats: [usize; 2],
     pub propagations: PropagationTally,
+    pub nodes: NodesTally,
 }
 
 impl Tally {
@@ -107,6 +109,7 @@ impl Tally {
         *self.refusals.entry(seen.refusal.unwrap_or(0)).or_default() += 1;
         self.repeats[usize::from(seen.refusal.is_some())] += usize::from(seen.has_repeats);
         seen.propagations.iter().for_each(|propagations| self.propagations.count(propagations));
+        seen.nodes.iter().for_each(|nodes| self.nodes.count(nodes));
     }
 
     pub fn text(&self) -> String {
@@ -118,7 +121,7 @@ impl Tally {
         let [accepted, refused] = self.repeats;
         let thin = format!("thin jobs with fewer paths: accepted {accepted}, refused by 9: {refused}");
         let (classes, refusals) = (classes.join(", "), refusals.collect::<Vec<_>>().join(", "));
-        format!("{classes}\n{refusals}\n{thin}\n{}", self.propagations.text())
+        format!("{classes}\n{refusals}\n{thin}\n{}\n{}", self.propagations.text(), self.nodes.text())
     }
 }
 
