@@ -6,6 +6,7 @@ pub mod arena;
 pub mod bench;
 pub mod check;
 pub mod comparison;
+pub mod count_mistakes;
 pub mod counts;
 pub mod cover;
 pub mod cutter;
