@@ -38,6 +38,7 @@ fn bad_words_get_a_message_and_a_hint() {
     misused(&["answer", "more"], "`more` follows");
     misused(&["thin", "more"], "`more` follows");
     misused(&["strict_answer", "more"], "`more` follows");
+    misused(&["nodes", "more"], "`more` follows");
     misused(&["help", "bogus"], "no help on `bogus`");
     misused(&["bogus", "--help"], "no help on `bogus`");
     misused(&["help", "answer", "more"], "`more` follows");
@@ -95,6 +96,7 @@ fn help_is_there_for_every_command() {
             "thin",
             "strict_answer",
             "strict_sheet",
+            "nodes",
             "check",
             "compare",
             "programs",
@@ -196,6 +198,7 @@ fn the_library_is_compared_or_one_line_says_why_not() {
     assert!(output.status.success(), "{}", String::from_utf8_lossy(&output.stderr));
     if cfg!(all(library, reference)) {
         assert!(message.contains("200 generated jobs of seed 1 agree with the Rust"), "{message}");
+        assert!(message.contains(" made by reduction; none made in "), "{message}");
     } else {
         assert!(message.contains("did not run") && message.lines().count() == 1, "{message}");
     }
@@ -225,9 +228,15 @@ fn without_the_library_or_the_rust_nothing_is_timed() {
 #[cfg(not(reference))]
 #[test]
 fn without_the_rust_one_line_says_so() {
-    for words in
-        [&["answer"][..], &["sheet"], &["strict_answer"], &["strict_sheet"], &["store"], &["generate"]]
-    {
+    for words in [
+        &["answer"][..],
+        &["sheet"],
+        &["strict_answer"],
+        &["strict_sheet"],
+        &["nodes"],
+        &["store"],
+        &["generate"],
+    ] {
         let output = run(words, b"");
         let message = String::from_utf8(output.stderr).unwrap();
         assert_eq!(output.status.code(), Some(3), "{words:?}");
@@ -239,6 +248,7 @@ fn without_the_rust_one_line_says_so() {
 mod with_the_rust {
     use super::common::hex;
     use super::run;
+    use compare::examples::example;
     use compare::list::read_list;
 
     #[test]
@@ -252,6 +262,33 @@ mod with_the_rust {
         assert_eq!(run(&["strict_answer"], &job).stdout, hex("414E 0000 01 01"));
         assert_eq!(run(&["strict_sheet"], &job).stdout, run(&["sheet"], &job).stdout);
         assert_eq!(run(&["strict_sheet"], b"").stdout, b"RF\x03");
+    }
+
+    /// What `nodes` prints of an example.
+    fn nodes_of(name: &str) -> String {
+        let output = run(&["nodes"], &example(name).to_bytes());
+        assert!(output.status.success() && output.stderr.is_empty(), "{name}");
+        String::from_utf8(output.stdout).unwrap()
+    }
+
+    #[test]
+    fn nodes_before_the_first_round_and_at_the_end_are_printed() {
+        let both = |existing: &str, strict: &str| {
+            format!(
+                "existing propagation: nodes.len() is {existing}\nstrict propagation: nodes.len() is {strict}\n"
+            )
+        };
+        let one = "2 before the first round and 3 at the end; reduction made 1, 1 of them in the first round";
+        assert_eq!(nodes_of("changed-by-set"), both(one, one));
+        let two = "5 before the first round and 7 at the end; reduction made 2, 1 of them in the first round";
+        assert_eq!(nodes_of("made-in-two-rounds"), both(two, two));
+        let refused = "512 before the first round and 513 at the end; reduction made 1, 0 of them in the first \
+                       round; refused by 9";
+        let none =
+            "512 before the first round and 512 at the end; reduction made 0, 0 of them in the first round";
+        assert_eq!(nodes_of("513-nodes-in-the-last-round"), both(refused, none));
+        assert_eq!(run(&["nodes"], b"").stdout, b"refused by 3, and nothing is entered\n");
+        assert_eq!(run(&["nodes"], &[0; 100_000]).stdout, b"refused by 2, and nothing is entered\n");
     }
 
     #[test]

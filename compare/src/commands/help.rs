@@ -14,6 +14,7 @@ usage: compare/oracle COMMAND [OPTIONS]
   thin            a job on standard input -> the job without repeated paths
   strict_answer   a job on standard input -> its answer by the strict propagation
   strict_sheet    a job on standard input -> its sheet by the strict propagation
+  nodes           a job on standard input -> how many nodes there are before the first round and at the end
   check           the stored list beside the Rust
   compare         the stage's library beside the Rust, on fixed and on generated jobs
   programs        the stage's programs beside the Rust
@@ -79,13 +80,25 @@ sheet's bytes, or RF and the number of the refusal. As for `strict_answer`, the 
   $ bin/scope-deps encode examples/loop.job | compare/oracle strict_sheet | xxd
 ";
 
+const NODES: &str = "\
+usage: compare/oracle nodes < JOB
+
+Runs the Rust on the job on standard input and prints `nodes.len()` of its registry before the first round, when
+all assumed paths are entered, and at the end, and how many nodes reduction made, in all and in the first round.
+The second line has the same by the strict propagation. The counts before the first round are those of the sheets.
+A job that 9 refuses is counted all the same; of one that is refused by 1 to 8 nothing is entered.
+
+  $ bin/scope-deps encode examples/optional-chain.job | compare/oracle nodes
+";
+
 const CHECK: &str = "\
 usage: compare/oracle check
 
 Compares each record of compare/stored/jobs.bin with what the Rust says now, and its thin job, strict answer
 and strict sheet with what the harness says. Where the Rust is absent, the records are read, and their refusals
 compared with those of the harness's reader, thin jobs with those of its writer, and strict answers and sheets
-of jobs without loops with the existing ones.
+of jobs without loops with the existing ones. In each sheet the nodes before the first round must be those of the
+job's assumed paths, and the others such as reduction makes of these.
 ";
 
 const STORE: &str = "\
@@ -120,8 +133,10 @@ usage: compare/oracle compare [--seed S] [--count N] [--seconds T] [--class C] [
 Compares the stage's library with the Rust, byte for byte, on a fixed list of jobs and then on generated
 ones: answers and sheets with the Rust, thin jobs and strict answers and sheets with the harness's own. On jobs
 without loops the harness's strict answers and sheets must be the Rust's. A thin job must have the answers and
-the sheets of its job, in the library, in the Rust and in the harness, and be its own thin job. At a difference
-it says which job, keeps it in a file in the current directory and exits with 1.
+the sheets of its job, in the library, in the Rust and in the harness, and be its own thin job. `nodes.len()` of the
+Rust before the first round must be the number of distinct prefixes of the assumed paths. At a difference it says
+which job, keeps it in a file in the current directory and exits with 1. At the end it prints how many jobs there
+were of each kind, and where their nodes come from.
 
   --seed S      another seed gives other jobs; 20261115 where it is missing
   --count N     how many generated jobs; 20000 where it and --seconds are missing
@@ -158,12 +173,13 @@ answers and thin jobs, which the Rust does not make, the harness's own stand in 
   --plot FILE   draw the times into this file, as SVG
 ";
 
-const TOPICS: [(&str, &str); 12] = [
+const TOPICS: [(&str, &str); 13] = [
     ("answer", ANSWER),
     ("sheet", SHEET),
     ("thin", THIN),
     ("strict_answer", STRICT_ANSWER),
     ("strict_sheet", STRICT_SHEET),
+    ("nodes", NODES),
     ("check", CHECK),
     ("compare", COMPARE),
     ("programs", PROGRAMS),

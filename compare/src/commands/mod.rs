@@ -6,6 +6,7 @@ pub mod failure;
 mod generate;
 mod help;
 mod memory;
+mod nodes;
 mod one_job;
 mod options;
 mod output;
@@ -31,13 +32,14 @@ pub fn run(words: &[&str]) -> Result<(), Failure> {
         ["check"] => stored::check(),
         ["store"] => stored::store(),
         ["memory"] => memory::run(),
+        ["nodes"] => nodes::run(),
         [command, ref rest @ ..] => operation(command, rest),
     }
 }
 
 /// An operation on one job, or why the words are none.
 fn operation(command: &str, rest: &[&str]) -> Result<(), Failure> {
-    let takes_nothing = ["check", "store", "memory", "help"].contains(&command);
+    let takes_nothing = ["check", "store", "memory", "nodes", "help"].contains(&command);
     match (Operation::named(command), rest.last()) {
         (Some(operation), None) => one_job::run(operation),
         (found, Some(extra)) if found.is_some() || takes_nothing => {

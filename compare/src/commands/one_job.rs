@@ -21,7 +21,7 @@ pub fn run(operation: Operation) -> Result<(), Failure> {
 }
 
 /// The job on standard input.
-fn read() -> Result<Vec<u8>, Failure> {
+pub fn read() -> Result<Vec<u8>, Failure> {
     let mut job = Vec::new();
     // One byte beyond the limit is enough to see that a job is too long.
     let limit = limits::JOB_BYTES as u64 + 1;
