@@ -1,6 +1,6 @@
 //! Chooses the jobs of the stored list.
 
-use crate::cover::{Features, features, order_features, strict_features};
+use crate::cover::{Features, features, node_features, order_features, strict_features};
 use crate::examples::{Example, examples};
 use crate::generate::{Generated, generate};
 use crate::list::Record;
@@ -12,12 +12,14 @@ use std::collections::HashMap;
 pub const SEED: u64 = 20_261_115;
 const TRIED: usize = 60_000;
 /// Pairs of features are looked for among small records only.
-const PAIR_BYTES: usize = 680;
+const PAIR_BYTES: usize = 682;
 const MOST_PAIR_JOBS: usize = 100;
+/// Jobs of this class, most of them long, are chosen only by where their nodes come from.
+const CHOSEN_BY_NODES: &str = "nodes-late";
 
 /// How many jobs should have a feature.
 fn quota(feature: &str) -> usize {
-    let one = [" met at ", "; ", "job-size", "job of 3"];
+    let one = [" met at ", "; ", "job-size", "job of 3", "nodes: "];
     let many = ["would differ", " position, first ", "a pass goes on", "equal keys"];
     let two = [
         "an unstable sort",
@@ -51,6 +53,9 @@ pub struct Chosen {
     class: &'static str,
     all: All,
     covers: Features,
+    /// What it covers of where nodes come from. It is looked for last, apart from the rest, and
+    /// changes nothing of what is chosen by that.
+    nodes: Features,
 }
 
 impl Chosen {
@@ -91,13 +96,15 @@ fn named(example: &Example, oracle: &mut Oracle) -> Chosen {
 fn chosen(generated: &Generated, oracle: &mut Oracle, covers: impl FnOnce(&All) -> Features) -> Chosen {
     let all = oracle.all(&generated.job, generated.out_len);
     let (record, covers) = (record(generated, &all), covers(&all));
-    Chosen { record, class: generated.class, all, covers }
+    let nodes = node_features(&all);
+    Chosen { record, class: generated.class, all, covers, nodes }
 }
 
 /// Tries jobs in order of size and keeps one that has a feature, or a pair of
 /// features, of which too few are kept.
 fn choose_generated(oracle: &mut Oracle) -> Vec<Chosen> {
-    let mut tried = try_jobs(oracle);
+    let (late, mut tried): (Vec<_>, Vec<_>) =
+        try_jobs(oracle).into_iter().partition(|job| job.class == CHOSEN_BY_NODES);
     tried.sort_by_key(Chosen::size);
     let mut chosen: Vec<Chosen> = Vec::new();
     let mut singles = Wanted::default();
@@ -112,7 +119,10 @@ fn choose_generated(oracle: &mut Oracle) -> Vec<Chosen> {
     }
     // Later jobs may make an earlier one needless.
     chosen.retain(|job| !singles.give_back(&job.covers));
-    chosen.extend(choose_pairs(rest, &chosen));
+    let (pairs, rest) = choose_pairs(rest, &chosen);
+    chosen.extend(pairs);
+    let rest = rest.into_iter().chain(late).collect();
+    chosen.extend(choose_by_nodes(rest, &chosen));
     chosen.sort_by_key(|job| job.class);
     chosen
 }
@@ -132,12 +142,13 @@ fn try_jobs(oracle: &mut Oracle) -> Vec<Chosen> {
     tried
 }
 
-fn choose_pairs(rest: Vec<Chosen>, singles: &[Chosen]) -> Vec<Chosen> {
+/// Those with new pairs, and those that are left.
+fn choose_pairs(rest: Vec<Chosen>, singles: &[Chosen]) -> (Vec<Chosen>, Vec<Chosen>) {
     let mut wanted = Wanted::default();
     singles.iter().for_each(|job| wanted.count(&pairs(&job.covers)));
-    let small = rest.into_iter().filter(|job| job.size() <= PAIR_BYTES);
+    let (small, mut left): (Vec<_>, Vec<_>) = rest.into_iter().partition(|job| job.size() <= PAIR_BYTES);
     let mut new: Vec<(usize, Chosen)> =
-        small.map(|job| (wanted.missing(&pairs(&job.covers)), job)).filter(|(gain, _)| *gain > 0).collect();
+        small.into_iter().map(|job| (wanted.missing(&pairs(&job.covers)), job)).collect();
     // The most new pairs first; what was gained meanwhile is looked at again.
     new.sort_by_key(|(gain, _)| std::cmp::Reverse(*gain));
     let mut kept = Vec::new();
@@ -146,9 +157,26 @@ fn choose_pairs(rest: Vec<Chosen>, singles: &[Chosen]) -> Vec<Chosen> {
         if kept.len() < MOST_PAIR_JOBS && wanted.missing(&pairs) > 2 {
             wanted.count(&pairs);
             kept.push(job);
+        } else {
+            left.push(job);
         }
     }
-    kept
+    (kept, left)
+}
+
+/// Those with something of where nodes come from of which too few are chosen, the smallest first.
+fn choose_by_nodes(mut rest: Vec<Chosen>, chosen: &[Chosen]) -> Vec<Chosen> {
+    let mut wanted = Wanted::default();
+    chosen.iter().for_each(|job| wanted.count(&job.nodes));
+    rest.sort_by_key(Chosen::size);
+    rest.retain(|job| {
+        let wants = wanted.wants(&job.nodes);
+        if wants {
+            wanted.count(&job.nodes);
+        }
+        wants
+    });
+    rest
 }
 
 fn pairs(covers: &Features) -> Features {
@@ -210,6 +238,7 @@ pub fn index_line(number: usize, chosen: &Chosen) -> String {
     let covers: Vec<&str> = chosen
         .covers
         .iter()
+        .chain(&chosen.nodes)
         .map(String::as_str)
         .filter(|feature| !told.iter().any(|word| feature.starts_with(word)))
         .collect();
@@ -221,13 +250,17 @@ pub fn index_line(number: usize, chosen: &Chosen) -> String {
 fn outcome(both: &Both) -> String {
     match (&both.answer, &both.counts) {
         (Ok(answer), Some(counts)) => format!(
-            "rounds {} settled {} nodes {} returned {}",
+            "rounds {} settled {} nodes {} to {} returned {}",
             counts.rounds,
             u8::from(counts.settled),
+            counts.nodes_before,
             counts.nodes,
             u16::from_le_bytes([answer[2], answer[3]])
         ),
-        (Err(number), _) => format!("refusal {number}"),
+        (Err(number), Some(counts)) => {
+            format!("refusal {number} nodes {} to {}", counts.nodes_before, counts.nodes)
+        }
+        (Err(number), None) => format!("refusal {number}"),
         (Ok(_), None) => unreachable!("an answer comes from a run"),
     }
 }
