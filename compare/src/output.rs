@@ -193,18 +193,17 @@ fn check_made(sheet: &Sheet) -> Result<(), String> {
     Ok(())
 }
 
-/// Whether a node's path has the other's names, is optional wherever that one is, and at a further
-/// place too. Reduction keeps the span of the entry that it makes plain, and of those after it.
+/// Whether a node's path has the other's names, and is optional wherever that one is; since no node
+/// is there twice, it is so at a further place too. Reduction keeps the span of the entry that it
+/// makes plain, and of those after it.
 fn reduces_to(sheet: &Sheet, entered: usize, made: usize) -> bool {
     let (mut from, mut to) = (&sheet.nodes[entered], &sheet.nodes[made]);
-    let (same_span, mut plainer) = (from.span == to.span, false);
+    let same_span = from.span == to.span;
     while let (Some(base), Some(base_made)) = (from.parent, to.parent) {
         if from.property != to.property || to.optional && !from.optional {
             return false;
         }
-        plainer |= from.optional != to.optional;
         (from, to) = (&sheet.nodes[base], &sheet.nodes[base_made]);
     }
-    let same_root = (from.parent, from.identifier) == (to.parent, to.identifier);
-    same_root && same_span && plainer
+    same_span && (from.parent, from.identifier) == (to.parent, to.identifier)
 }

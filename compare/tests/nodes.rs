@@ -168,6 +168,9 @@ fn a_sheet_is_read_back_only_with_a_count_that_can_be() {
     fails("one-node-made", 0, 0, "node 0 is a root, and reduction makes none");
     // Reduction keeps spans.
     fails("one-node-made", 3, 4, "node 3 is no node that reduction could make");
+    // 1.11 after 1.10, and 2.10 after 1.10: reduction keeps names and the root.
+    fails("repeat-after-another", 2, 0, "node 2 is no node that reduction could make");
+    fails("other-identifier", 3, 0, "node 3 is no node that reduction could make");
     // 1?.10 after 1.10: reduction makes no entry optional.
     fails("replaced-by-a-node-that-is-there", 2, 0, "node 2 is no node that reduction could make");
 }
