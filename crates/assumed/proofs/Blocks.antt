@@ -2,7 +2,7 @@
 -- starts the whole.
 use Prim.Native.Nat.{ℕ, zero, suc, _+_, _*_, _≤_, _<_}
 use native.Mathlib.Omega.{arith}
-use native.Mathlib.Nat.{zero-add}
+use native.Mathlib.Nat.{zero-add, add-zero}
 use mathlib.Core.Path.{_≡_, refl, sym, ap, subst, _∙_}
 use mathlib.Core.Bool.{true, false}
 use mathlib.Core.List.{List, [], _∷_, _++_, append-assoc, append-nil}
@@ -14,7 +14,8 @@ use Rattle.model.specs.Job.{Block, readBlock}
 use Rattle.model.specs.Sets.{NodeSet}
 use Rattle.model.specs.Registry.{nodeLimit, PropertyPathRegistry}
 use Rattle.model.specs.RegistryLaws.{Extends, extends-refl, extends-trans, extends-length}
-use Rattle.model.specs.Stage.{PathsEntered, Started, enterPaths, enterBlock, enterBlocks}
+use Rattle.model.specs.Stage.{PathsEntered, Started, enterPaths, noneEntered, enterBlock, enterBlocks}
+use Rattle.model.specs.PropagationLaws.{paths-longer}
 use Rattle.registry.specs.Words.{registryOf, Held}
 use Rattle.registry.proofs.View.{registry-length}
 use Rattle.rows.specs.Members.{membersOf}
@@ -37,11 +38,16 @@ assumed-are s at e = ap (λ (x : Read Block). orNone x (λ (b : Block) end. b .a
 blocks-extend : (reg : PropertyPathRegistry) (bs : List Block) → Extends reg (enterBlocks reg bs .registry)
 unfolding enterBlocks
 blocks-extend reg [] = extends-refl reg
-blocks-extend reg (b ∷ bs) = extends-trans (paths-extend reg [] (b .assumed)) (blocks-extend (enterBlock reg b .registry) bs)
+blocks-extend reg (b ∷ bs) = extends-trans (paths-extend (noneEntered reg) (b .assumed)) (blocks-extend (enterBlock reg b .registry) bs)
 
--- sets in front of those with which the blocks that are left start
-abbrev after : List NodeSet → Started → Started
-after sets st = record { registry = st .registry; sets = sets ++ st .sets }
+-- sets, for which so many nodes were made, in front of those with which the blocks that are left
+-- start
+abbrev after : List NodeSet → ℕ → Started → Started
+after sets made st = record { registry = st .registry; sets = sets ++ st .sets; made = made + st .made }
+
+-- one block in front of those that are left
+abbrev withFirst : PathsEntered → Started → Started
+withFirst e st = record { registry = st .registry; sets = e .set ∷ st .sets; made = e .made + st .made }
 
 set-behind : (l : List NodeSet) (i : ℕ) (x : NodeSet) → length l ≤ i → set l i x ≡ l
 set-behind [] i x h = refl
@@ -67,39 +73,41 @@ row-more entry exit b s x =
     ∙ ap (λ t. rowsOf entry b ++ (t ∷ [])) (ap (rowOf exit) (zero-add b) ∙ this)
 
 -- the first of the blocks that are left is entered, and its set stands last of those before
-one-more : (front more : List NodeSet) (e : PathsEntered) (reg : PropertyPathRegistry) (s : NodeSet) (bs cs : List Block)
-    → e ≡ record { registry = reg; set = s }
-    → more ≡ front ++ (s ∷ []) → bs ≡ cs
-    → after front (record { registry = enterBlocks (e .registry) bs .registry; sets = e .set ∷ enterBlocks (e .registry) bs .sets })
-    ≡ after more (enterBlocks reg cs)
-one-more front more e reg s bs cs is stored same =
-    ap (λ (e : PathsEntered). after front (record { registry = enterBlocks (e .registry) bs .registry; sets = e .set ∷ enterBlocks (e .registry) bs .sets })) is
-    ∙ ap (λ (l : List NodeSet). record { registry = enterBlocks reg bs .registry; sets = l }) (sym (append-assoc front (s ∷ []) (enterBlocks reg bs .sets)))
-    ∙ ap (λ (l : List NodeSet). after l (enterBlocks reg bs)) (sym stored)
-    ∙ ap (λ bs. after more (enterBlocks reg bs)) same
+one-more : (front more : List NodeSet) (made : ℕ) (e : PathsEntered) (reg : PropertyPathRegistry) (s : NodeSet) (new : ℕ) (bs cs : List Block)
+    → e ≡ record { registry = reg; set = s; made = new }
+    → more ≡ front ++ (s ∷ []) → bs ≡ cs → after front made (withFirst e (enterBlocks (e .registry) bs)) ≡ after more (made + new) (enterBlocks reg cs)
+one-more front more made e reg s new bs cs is stored same =
+    let rest = enterBlocks reg bs in
+    let total : made + (new + rest .made) ≡ (made + new) + rest .made = omega arith in
+    ap (λ (e : PathsEntered). after front made (withFirst e (enterBlocks (e .registry) bs))) is
+    ∙ (λ i. record { registry = rest .registry; sets = sym (append-assoc front (s ∷ []) (rest .sets)) i; made = total i })
+    ∙ ap (λ (l : List NodeSet). after l (made + new) rest) (sym stored)
+    ∙ ap (λ bs. after more (made + new) (enterBlocks reg bs)) same
 
--- The blocks that are left start, after the sets before them, what is wanted, and as many nodes
--- were made as there are.
+-- The blocks that are left start, after the sets before them, what is wanted, and what was made for
+-- those before is among the nodes.
 pub record Starting (bs : List Block) (n : ℕ) (ws os sets : List ℕ) (made b : ℕ) : Type 0 where
   pub held : Held ws os
-  pub counted : made ≡ length (registryOf ws)
+  pub among : made ≤ length (registryOf ws)
   pub lent : Lent sets
   pub below : b ≤ n
-  pub same : enterBlocks [] bs ≡ after (rowsOf sets b) (enterBlocks (registryOf ws) (drop b bs))
+  pub same : enterBlocks [] bs ≡ after (rowsOf sets b) made (enterBlocks (registryOf ws) (drop b bs))
 
 pub starting : (bs : List Block) (n : ℕ) (ws os sets : List ℕ) → Held ws os → registryOf ws ≡ [] → Lent sets → Starting bs n ws os sets 0 0
 unfolding rowsOf
 starting bs n ws os sets held none lent = record {
   held = held;
-  counted = ap length (sym none);
+  among = omega arith;
   lent = lent;
   below = omega arith;
-  same = ap (λ reg. enterBlocks reg bs) (sym none);
+  same =
+      ap (λ reg. enterBlocks reg bs) (sym none)
+      ∙ (let st = enterBlocks (registryOf ws) bs in λ i. record { registry = st .registry; sets = st .sets; made = sym (zero-add (st .made)) i });
 }
 
 -- what was made is among the nodes, for which the words have room
 pub starting-few : {bs : List Block} {n : ℕ} {ws os sets : List ℕ} {made b : ℕ} → Starting bs n ws os sets made b → made ≤ 512
-starting-few {ws = ws} x = let size = registry-length ws in let room = x .held .sized .room in let counted = x .counted in omega arith
+starting-few {ws = ws} x = let size = registry-length ws in let room = x .held .sized .room in let among = x .among in omega arith
 
 module _ {s : List ℕ} {n : ℕ} {places : List ℕ} (job : PlacedJob s n places) where
   count : length (blocksOf s) ≡ n
@@ -109,37 +117,35 @@ module _ {s : List ℕ} {n : ℕ} {places : List ℕ} (job : PlacedJob s n place
   block-read b l = let t = block-there (job .job) (job .blocks) b l in record { value = t .0; next = t .1; read = t .2 }
 
   module _ {ws os sets : List ℕ} {made b : ℕ} (x : Starting (blocksOf s) n ws os sets made b) where
-    starting-held : n ≤ b → StartHeld (enterBlocks [] (blocksOf s)) n ws os sets
+    all-entered : n ≤ b → enterBlocks [] (blocksOf s) ≡ record { registry = registryOf ws; sets = rowsOf sets n; made = made }
     unfolding enterBlocks
-    starting-held none =
+    all-entered none =
         let all : b ≡ n = let l = x .below in omega arith in
         let few : length (blocksOf s) ≤ b = let size = count in omega arith in
         let gone : drop b (blocksOf s) ≡ [] = drop-of-length-le (blocksOf s) few in
-        record {
-          held = x .held;
-          lent = x .lent;
-          same =
-              x .same ∙ ap (λ bs. after (rowsOf sets b) (enterBlocks (registryOf ws) bs)) gone
-              ∙ ap (λ (l : List NodeSet). record { registry = registryOf ws; sets = l }) (append-nil (rowsOf sets b) ∙ ap (rowsOf sets) all);
-        }
+        let rows = append-nil (rowsOf sets b) ∙ ap (rowsOf sets) all in
+        x .same ∙ ap (λ bs. after (rowsOf sets b) made (enterBlocks (registryOf ws) bs)) gone
+        ∙ (λ i. record { registry = registryOf ws; sets = rows i; made = add-zero made i })
 
-    pub starting-end : n ≤ b → StartHeld (enterBlocks [] (blocksOf s)) n ws os sets × (made ≡ length (enterBlocks [] (blocksOf s) .registry))
+    pub starting-end : n ≤ b → StartHeld (enterBlocks [] (blocksOf s)) n ws os sets × (made ≡ enterBlocks [] (blocksOf s) .made)
     starting-end none =
-        let held = starting-held none in
-        (held, x .counted ∙ sym (ap (λ (st : Started). length (st .registry)) (held .same)))
+        let is = all-entered none in
+        let counted = sym (ap (λ (st : Started). st .made) is) in
+        (record { held = x .held; lent = x .lent; same = is ∙ (λ i. record { registry = registryOf ws; sets = rowsOf sets n; made = counted i }) }, counted)
 
     module _ (some : b < n) (r : EnteredSet) (us ps : List ℕ)
-        (entered : Fills (registryOf ws) (enterPaths (registryOf ws) [] (assumedAt s (getD places b 0))) r us ps) where
+        (entered : Fills (enterPaths (noneEntered (registryOf ws)) (assumedAt s (getD places b 0))) r us ps) where
       -- the block that is entered, and what that does to the whole
-      next-block : (a : Block) × (enterBlocks [] (blocksOf s) ≡ after (rowsOf sets b) (enterBlocks (registryOf ws) (a ∷ drop (suc b) (blocksOf s))))
-          × Fills (registryOf ws) (enterBlock (registryOf ws) a) r us ps
+      next-block : (a : Block)
+          × (enterBlocks [] (blocksOf s) ≡ after (rowsOf sets b) made (enterBlocks (registryOf ws) (a ∷ drop (suc b) (blocksOf s))))
+          × Fills (enterBlock (registryOf ws) a) r us ps
       next-block =
           let t = block-there (job .job) (job .blocks) b some in
           let here : drop b (blocksOf s) ≡ t .0 ∷ drop (suc b) (blocksOf s) =
           subst (λ (bs : List Block). drop b bs ≡ t .0 ∷ drop (suc b) bs) (sym (blocks-read (job .job) (job .blocks))) (t .3) in (
             t .0,
-            x .same ∙ ap (λ bs. after (rowsOf sets b) (enterBlocks (registryOf ws) bs)) here,
-            subst (λ (ds : List ReactiveScopeDependency). Fills (registryOf ws) (enterPaths (registryOf ws) [] ds) r us ps)
+            x .same ∙ ap (λ bs. after (rowsOf sets b) made (enterBlocks (registryOf ws) bs)) here,
+            subst (λ (ds : List ReactiveScopeDependency). Fills (enterPaths (noneEntered (registryOf ws)) ds) r us ps)
                 (assumed-are s (getD places b 0) (t .2)) entered,
           )
 
@@ -148,7 +154,7 @@ module _ {s : List ℕ} {n : ℕ} {places : List ℕ} (job : PlacedJob s n place
       starting-full e =
           let t = next-block in
           let f : nodeLimit < length (enterBlock (registryOf ws) (t .0) .registry) =
-          subst (λ f. FillsBy f (registryOf ws) (enterBlock (registryOf ws) (t .0)) r us ps) e (t .2) in
+          subst (λ f. FillsBy f (enterBlock (registryOf ws) (t .0)) r us ps) e (t .2) in
           let longer = extends-length (blocks-extend (enterBlock (registryOf ws) (t .0) .registry) (drop (suc b) (blocksOf s))) in
           subst (λ (st : Started). nodeLimit < length (st .registry)) (sym (t .1)) (omega arith)
 
@@ -157,21 +163,19 @@ module _ {s : List ℕ} {n : ℕ} {places : List ℕ} (job : PlacedJob s n place
       unfolding enterBlocks
       starting-more e more stored =
           let t = next-block in
-          let is : Held us ps × (enterBlock (registryOf ws) (t .0) ≡ record { registry = registryOf us; set = membersOf (r .set .words) })
-          × (length (enterBlock (registryOf ws) (t .0) .registry) ≡ length (registryOf ws) + r .made) =
-          subst (λ f. FillsBy f (registryOf ws) (enterBlock (registryOf ws) (t .0)) r us ps) e (t .2) in
+          let block = enterBlock (registryOf ws) (t .0) in
+          let is : Held us ps × (block ≡ record { registry = registryOf us; set = membersOf (r .set .words); made = r .made }) =
+          subst (λ f. FillsBy f block r us ps) e (t .2) in
+          let longer = subst (λ (y : PathsEntered). length (y .registry) + 0 ≡ length (registryOf ws) + y .made) (is .1)
+          (paths-longer (noneEntered (registryOf ws)) (t .0 .assumed)) in
           record {
             held = is .0;
-            counted =
-                let so-far = x .counted in
-                let there = ap (λ (y : PathsEntered). length (y .registry)) (is .1) in
-                let longer = is .2 in
-                omega arith;
+            among = let so-far = x .among in omega arith;
             lent = stored .lent;
             below = omega arith;
             same =
                 t .1
-                ∙ one-more (rowsOf sets b) (rowsOf more (b + 1)) (enterBlock (registryOf ws) (t .0)) (registryOf us) (membersOf (r .set .words))
+                ∙ one-more (rowsOf sets b) (rowsOf more (b + 1)) made block (registryOf us) (membersOf (r .set .words)) (r .made)
                 (drop (suc b) (blocksOf s)) (drop (b + 1) (blocksOf s)) (is .1)
                 (row-more sets more b (membersOf (r .set .words)) stored) (let next : suc b ≡ b + 1 = omega arith in ap (λ k. drop k (blocksOf s)) next);
           }

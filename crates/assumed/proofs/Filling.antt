@@ -10,8 +10,8 @@ use Rattle.model.specs.ReadingBytes.{Read, got, refused, readMany}
 use Rattle.model.specs.Job.{PA, readPath}
 use Rattle.model.specs.Sets.{NodeSet, insert}
 use Rattle.model.specs.Registry.{nodeLimit, PropertyPathRegistry, Reached, ownMark, getOrCreateProperty}
-use Rattle.model.specs.RegistryLaws.{Extends, extends-refl, extends-trans, extends-length, path-extends, path-made, path-proper}
-use Rattle.model.specs.Stage.{PathsEntered, enterPaths}
+use Rattle.model.specs.RegistryLaws.{Extends, extends-refl, extends-trans, extends-length, path-extends, property-longer, path-proper}
+use Rattle.model.specs.Stage.{PathsEntered, enterPath, enterPaths, noneEntered}
 use Rattle.registry.specs.Words.{registryOf, Held}
 use Rattle.registry.proofs.View.{registry-length}
 use Rattle.rows.specs.Members.{membersOf}
@@ -23,12 +23,10 @@ use Rattle.paths.specs.Enters.{Enters}
 use Rattle.assumed.specs.Start.{pathsAt}
 
 -- Entering paths only adds nodes.
-pub paths-extend : (reg : PropertyPathRegistry) (s : NodeSet) (ds : List ReactiveScopeDependency) → Extends reg (enterPaths reg s ds .registry)
+pub paths-extend : (e : PathsEntered) (ds : List ReactiveScopeDependency) → Extends (e .registry) (enterPaths e ds .registry)
 unfolding getOrCreateProperty
-paths-extend reg s [] = extends-refl reg
-paths-extend reg s (d ∷ ds) =
-    let at = getOrCreateProperty reg d in
-    extends-trans (path-extends ownMark reg d) (paths-extend (at .registry) (insert (at .node) s) ds)
+paths-extend e [] = extends-refl (e .registry)
+paths-extend e (d ∷ ds) = extends-trans (path-extends ownMark (e .registry) d) (paths-extend (enterPath e d) ds)
 
 -- The answers of `enter_path` by their case.
 
@@ -43,23 +41,28 @@ entered-full x reach ws os h {a} {n} e = subst (λ y. Enters y reach path.Full w
 
 -- The paths that are left.
 
-next-path : (reg more : PropertyPathRegistry) (s t : NodeSet) (es rest : List ReactiveScopeDependency) (c d : ReactiveScopeDependency) (k : NodeId)
-    {made : ℕ} → c ∷ rest ≡ es → c ≡ d
-    → getOrCreateProperty reg d ≡ record { registry = more; node = k; made = made } → t ≡ insert k s → enterPaths reg s es ≡ enterPaths more t rest
-next-path reg more s t es rest c d k all same reached inserted =
-    ap (enterPaths reg s) (sym all)
-    ∙ ap (λ (at : Reached). enterPaths (at .registry) (insert (at .node) s) rest) (ap (getOrCreateProperty reg) same ∙ reached)
-    ∙ ap (λ u. enterPaths more u rest) (sym inserted)
+-- how far entering has come
+abbrev soFar : PropertyPathRegistry → NodeSet → ℕ → PathsEntered
+soFar reg s made = record { registry = reg; set = s; made = made }
 
--- The paths that are left were read, entering them after those before gives what is wanted, and for
--- those before as many nodes were made as the registry is longer by.
-pub record Filling (before : PropertyPathRegistry) (want : PathsEntered) (s ws os set : List ℕ) (made at left : ℕ) : Type 0 where
+next-path : (reg more : PropertyPathRegistry) (s t : NodeSet) (made : ℕ) (es rest : List ReactiveScopeDependency) (c d : ReactiveScopeDependency)
+    (k : NodeId) (new : ℕ) → c ∷ rest ≡ es → c ≡ d
+    → getOrCreateProperty reg d ≡ record { registry = more; node = k; made = new } → t ≡ insert k s
+    → enterPaths (soFar reg s made) es ≡ enterPaths (soFar more t (made + new)) rest
+next-path reg more s t made es rest c d k new all same reached inserted =
+    ap (enterPaths (soFar reg s made)) (sym all)
+    ∙ ap (λ (at : Reached). enterPaths (soFar (at .registry) (insert (at .node) s) (made + at .made)) rest) (ap (getOrCreateProperty reg) same ∙ reached)
+    ∙ ap (λ u. enterPaths (soFar more u (made + new)) rest) (sym inserted)
+
+-- The paths that are left were read, entering them after those before gives what is wanted, and
+-- what was made for those before is among the nodes.
+pub record Filling (want : PathsEntered) (s ws os set : List ℕ) (made at left : ℕ) : Type 0 where
   pub held : Held ws os
-  pub longer : length (registryOf ws) ≡ length before + made
+  pub among : made ≤ length (registryOf ws)
   pub rest : List ReactiveScopeDependency
   pub end : ℕ
   pub read : readMany left (readPath 4 PA) s at ≡ got rest end
-  pub same : want ≡ enterPaths (registryOf ws) (membersOf set) rest
+  pub same : want ≡ enterPaths (soFar (registryOf ws) (membersOf set) made) rest
 
 -- the paths that were read
 pub paths-are : (s : List ℕ) (start count : ℕ) {ds : List ReactiveScopeDependency} {end : ℕ} → readMany count (readPath 4 PA) s start ≡ got ds end
@@ -69,32 +72,29 @@ paths-are s start count e = ap (λ (x : Read (List ReactiveScopeDependency)). or
 
 pub filling : (reg : PropertyPathRegistry) (s ws os set : List ℕ) (start count : ℕ) → Held ws os → registryOf ws ≡ reg → membersOf set ≡ []
     → IsRead (readMany count (readPath 4 PA) s start)
-    → Filling reg (enterPaths reg [] (pathsAt s start count)) s ws os set 0 start count
+    → Filling (enterPaths (noneEntered reg) (pathsAt s start count)) s ws os set 0 start count
 filling reg s ws os set start count held is none x = record {
   held = held;
-  longer = let same = ap length is in omega arith;
+  among = omega arith;
   rest = x .value;
   end = x .next;
   read = x .read;
   same =
-      ap (enterPaths reg []) (paths-are s start count (x .read)) ∙ ap (λ reg. enterPaths reg [] (x .value)) (sym is)
-      ∙ ap (λ t. enterPaths (registryOf ws) t (x .value)) (sym none);
+      ap (enterPaths (noneEntered reg)) (paths-are s start count (x .read)) ∙ ap (λ reg. enterPaths (noneEntered reg) (x .value)) (sym is)
+      ∙ ap (λ t. enterPaths (soFar (registryOf ws) t 0) (x .value)) (sym none);
 }
 
-module _ {before : PropertyPathRegistry} {want : PathsEntered} {s ws os set : List ℕ} {made at left : ℕ}
-    (x : Filling before want s ws os set made at left) where
-  pub filling-end : left ≤ 0 → Held ws os × (want ≡ record { registry = registryOf ws; set = membersOf set })
-      × (length (want .registry) ≡ length before + made)
+module _ {want : PathsEntered} {s ws os set : List ℕ} {made at left : ℕ} (x : Filling want s ws os set made at left) where
+  pub filling-end : left ≤ 0 → Held ws os × (want ≡ soFar (registryOf ws) (membersOf set) made)
   filling-end none =
       let zero-left : left ≡ 0 = omega arith in
       let nothing : got [] at ≡ got (x .rest) (x .end) = subst (λ n. readMany n (readPath 4 PA) s at ≡ got (x .rest) (x .end)) zero-left (x .read) in
       let no : [] ≡ x .rest = cc in
-      let same = x .same ∙ ap (enterPaths (registryOf ws) (membersOf set)) (sym no) in
-      (x .held, same, ap (λ (y : PathsEntered). length (y .registry)) same ∙ x .longer)
+      (x .held, x .same ∙ ap (enterPaths (soFar (registryOf ws) (membersOf set) made)) (sym no))
 
   -- what was made is among the nodes, for which the words have room
   pub filling-few : made ≤ 512
-  filling-few = let size = registry-length ws in let room = x .held .sized .room in let longer = x .longer in omega arith
+  filling-few = let size = registry-length ws in let room = x .held .sized .room in let among = x .among in omega arith
 
   module _ (some : 0 < left) where
     -- the first of the paths that are left, and the others
@@ -109,7 +109,8 @@ module _ {before : PropertyPathRegistry} {want : PathsEntered} {s ws os set : Li
       pub filling-full : r ≡ path.Full → nodeLimit < length (want .registry)
       filling-full same =
           let node = getOrCreateProperty (registryOf ws) (first .0) in
-          let longer = extends-length (paths-extend (node .registry) (insert (node .node) (membersOf set)) (first .2)) in
+          let so-far = soFar (node .registry) (insert (node .node) (membersOf set)) (made + node .made) in
+          let longer = extends-length (paths-extend so-far (first .2)) in
           let full = subst (λ q. Enters (readPath 4 PA s at) (getOrCreateProperty (registryOf ws)) q us ps) same entered in
           let more = entered-full (readPath 4 PA s at) (getOrCreateProperty (registryOf ws)) us ps full (first .3) in
           rw (x .same, ← (first .5)) (omega (arith, more, longer))
@@ -130,27 +131,26 @@ module _ {before : PropertyPathRegistry} {want : PathsEntered} {s ws os set : Li
             let room = reached .2 .sized .room in
             omega arith
 
-        pub more-longer : length (registryOf us) ≡ length before + (made + new)
-        unfolding getOrCreateProperty
-        more-longer =
-            let so-far = x .longer in
+        among-more : made + new ≤ length (registryOf us)
+        among-more =
+            let so-far = x .among in
             let one = subst (λ (y : Reached). length (y .registry) ≡ length (registryOf ws) + y .made) (reached .3)
-            (path-made ownMark (registryOf ws) (reached .0)) in
+            (property-longer (registryOf ws) (reached .0)) in
             omega arith
 
-        pub filling-more : (more : List ℕ) → membersOf more ≡ insert k (membersOf set) → Filling before want s us ps more (made + new) n (left - 1)
+        pub filling-more : (more : List ℕ) → membersOf more ≡ insert k (membersOf set) → Filling want s us ps more (made + new) n (left - 1)
         filling-more more inserted =
             let there : got (reached .0) n ≡ got (first .0) (first .1) = sym (reached .1) ∙ first .3 in
             let d-same : first .0 ≡ reached .0 = cc in
             let n-same : first .1 ≡ n = cc in
             record {
               held = reached .2;
-              longer = more-longer;
+              among = among-more;
               rest = first .2;
               end = x .end;
               read = subst (λ m. readMany (left - 1) (readPath 4 PA) s m ≡ got (first .2) (x .end)) n-same (first .4);
               same =
                   x .same
-                  ∙ next-path (registryOf ws) (registryOf us) (membersOf set) (membersOf more) (x .rest) (first .2) (first .0) (reached .0) k (first .5) d-same
-                  (reached .3) inserted;
+                  ∙ next-path (registryOf ws) (registryOf us) (membersOf set) (membersOf more) made (x .rest) (first .2) (first .0) (reached .0) k new
+                  (first .5) d-same (reached .3) inserted;
             }

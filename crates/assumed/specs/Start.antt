@@ -1,5 +1,5 @@
 -- What entering the assumed paths leaves in the lent words.
-use Prim.Native.Nat.{ℕ, _+_, _<_}
+use Prim.Native.Nat.{ℕ, _<_}
 use mathlib.Core.Path.{_≡_}
 use mathlib.Core.Bool.{Bool, true, false}
 use mathlib.Core.List.{List}
@@ -8,7 +8,7 @@ use Rattle.entries.specs.Path.{ReactiveScopeDependency}
 use Rattle.model.specs.ReadingBytes.{readMany}
 use Rattle.model.specs.Job.{PA, Block, readPath, readBlock}
 use Rattle.model.specs.Answer.{spanWidth}
-use Rattle.model.specs.Registry.{nodeLimit, PropertyPathRegistry}
+use Rattle.model.specs.Registry.{nodeLimit}
 use Rattle.model.specs.Stage as stage
 use Rattle.rows.specs.Members.{membersOf}
 use Rattle.rows.specs.Rows.{Lent, rowsOf}
@@ -28,26 +28,25 @@ unfoldable pub assumedAt : List ℕ → ℕ → List ReactiveScopeDependency
 unfolding readBlock
 assumedAt s at = orNone (readBlock spanWidth s at) (λ (b : Block) end. b .assumed)
 
--- The words hold the registry that the paths lead to from the one before, the set is that of their
--- nodes, and as many nodes were made as the registry is longer by; or that registry has no room.
-abbrev pub FillsBy : Bool → PropertyPathRegistry → stage.PathsEntered → EnteredSet → List ℕ → List ℕ → Type 0
-FillsBy true before want r ws os = nodeLimit < length (want .registry)
-FillsBy false before want r ws os =
-    Held ws os × (want ≡ record { registry = registryOf ws; set = membersOf (r .set .words) })
-    × (length (want .registry) ≡ length before + r .made)
+-- The words hold the registry that the paths lead to, the set is that of their nodes, and as many
+-- nodes were made for them; or that registry has no room.
+abbrev pub FillsBy : Bool → stage.PathsEntered → EnteredSet → List ℕ → List ℕ → Type 0
+FillsBy true want r ws os = nodeLimit < length (want .registry)
+FillsBy false want r ws os =
+    Held ws os × (want ≡ record { registry = registryOf ws; set = membersOf (r .set .words); made = r .made })
 
 -- The same, by whether the code says that there was no room.
-abbrev pub Fills : PropertyPathRegistry → stage.PathsEntered → EnteredSet → List ℕ → List ℕ → Type 0
-Fills before want r ws os = FillsBy (r .full) before want r ws os
+abbrev pub Fills : stage.PathsEntered → EnteredSet → List ℕ → List ℕ → Type 0
+Fills want r ws os = FillsBy (r .full) want r ws os
 
 -- The words hold the registry, and the first n rows the sets, with which propagation starts.
 pub record StartHeld (want : stage.Started) (n : ℕ) (ws os sets : List ℕ) : Type 0 where
   pub held : Held ws os
   pub lent : Lent sets
-  pub same : want ≡ record { registry = registryOf ws; sets = rowsOf sets n }
+  pub same : want ≡ record { registry = registryOf ws; sets = rowsOf sets n; made = want .made }
 
--- "All assumed paths are entered first, in job order": that, with as many nodes made as there are
--- then, or that the registry has no room.
+-- "All assumed paths are entered first, in job order": that, with as many nodes made for them, or
+-- that the registry has no room.
 abbrev pub Starts : stage.Started → ℕ → BlocksEntered → List ℕ → List ℕ → List ℕ → Type 0
-Starts want n (All made) ws os sets = StartHeld want n ws os sets × (made ≡ length (want .registry))
+Starts want n (All made) ws os sets = StartHeld want n ws os sets × (made ≡ want .made)
 Starts want n Full ws os sets = nodeLimit < length (want .registry)

@@ -7,7 +7,7 @@ ghost use Rattle.registry.specs.Words.{registryOf, Held, HoldsNone};
 ghost use Rattle.model.specs.ReadingBytes.{readMany};
 ghost use Rattle.model.specs.Job.{PA, readPath, readBlock};
 ghost use Rattle.model.specs.Answer.{spanWidth};
-ghost use Rattle.model.specs.Stage.{enterPaths, enterBlocks};
+ghost use Rattle.model.specs.Stage.{enterPaths, noneEntered, enterBlocks};
 ghost use Rattle.job.specs.Kept.{blocksOf, PlacedJob};
 ghost use Rattle.job.specs.Passing.{IsRead};
 ghost use Rattle.assumed.specs.Start.{pathsAt, assumedAt, Fills, Starts};
@@ -33,8 +33,8 @@ fn enter_paths(
     optional: &mut [u64; 8],
 ) -> EnteredSet
     requires { ⌜ Held (now ws) (now optional) × IsRead (readMany count (readPath spanWidth PA) (now s) start) ⌝ }
-    ensures { λ r. ⌜ Fills (registryOf (now (ws .entry)))
-        (enterPaths (registryOf (now (ws .entry))) [] (pathsAt (now (s .entry)) start count)) r (now (ws .exit)) (now (optional .exit)) ⌝ }
+    ensures { λ r. ⌜ Fills (enterPaths (noneEntered (registryOf (now (ws .entry)))) (pathsAt (now (s .entry)) start count)) r
+        (now (ws .exit)) (now (optional .exit)) ⌝ }
 {
     let mut set = NodeBits::empty();
     let mut made = 0;
@@ -64,8 +64,8 @@ fn enter_paths(
 // The assumed paths of the block at a place, which was read before.
 fn enter_block(s: &[u8], at: usize, ws: &mut [u64; 1665], optional: &mut [u64; 8]) -> EnteredSet
     requires { ⌜ Held (now ws) (now optional) × IsRead (readBlock spanWidth (now s) at) ⌝ }
-    ensures { λ r. ⌜ Fills (registryOf (now (ws .entry)))
-        (enterPaths (registryOf (now (ws .entry))) [] (assumedAt (now (s .entry)) at)) r (now (ws .exit)) (now (optional .exit)) ⌝ }
+    ensures { λ r. ⌜ Fills (enterPaths (noneEntered (registryOf (now (ws .entry)))) (assumedAt (now (s .entry)) at)) r
+        (now (ws .exit)) (now (optional .exit)) ⌝ }
 {
     // A block that was read has its head and its ids, so this is never the answer.
     let never = EnteredSet {
@@ -84,7 +84,8 @@ fn enter_block(s: &[u8], at: usize, ws: &mut [u64; 1665], optional: &mut [u64; 8
     enter_paths(s, paths_at, head.assumed, ws, optional)
 }
 
-// How many nodes were made where all assumed paths were entered; or the registry had no room.
+// How many nodes were made in all, once every assumed path was entered; or the registry had no
+// room.
 pub enum BlocksEntered {
     All(usize),
     Full,

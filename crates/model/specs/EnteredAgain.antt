@@ -1,7 +1,8 @@
 -- A path that is entered a second time, with others in between, leads to the same node and changes
 -- neither the registry nor a set with that node. Spans and reactive of the second may differ.
-use Prim.Native.Nat.{ℕ}
+use Prim.Native.Nat.{ℕ, _+_}
 use native.Mathlib.Omega.{arith}
+use native.Mathlib.Nat.{add-zero}
 use mathlib.Core.Path.{_≡_, refl, sym, ap, _∙_}
 use mathlib.Core.Logic.{_⊎_, inl, inr}
 use mathlib.Core.Bool.{Bool, true}
@@ -27,14 +28,14 @@ use Rattle.model.specs.Registry.{
   rootNode,
   childNode,
   fullPathOf,
-  madeBefore,
+  afterMaking,
   walkFrom,
   ownMark,
   getOrCreateProperty,
 }
 use Rattle.model.specs.Sets.{NodeSet, contains, insert}
 use Rattle.model.specs.SetLaws.{Ascending, insert-from, contains-insert, insert-again, contains-inserted}
-use Rattle.model.specs.Stage.{enterPaths}
+use Rattle.model.specs.Stage.{PathsEntered, enterPath, enterPaths}
 use Rattle.model.specs.RegistryLaws.{
   entry-property,
   entry-optional,
@@ -98,11 +99,11 @@ walk-repeated at (e ∷ es) (f ∷ fs) h {b} x =
     let d = fullPathOf (at .registry) (at .node) in
     let new = childNode (at .node) d e in
     let offered = childNode (at .node) (fullPathOf b (at .node)) f in
-    let next = madeBefore (at .made) (findOrMake test new (at .registry)) in
+    let next = afterMaking (at .made) (findOrMake test new (at .registry)) in
     let there : findOrMake (isChildBy (at .node) f) offered b ≡ record { registry = b; node = next .node; made = 0 } = ap
     (λ t. findOrMake t offered b) (child-alike (at .node) e f (and-first (sameEntry e f) _ h)) ∙ found-later test new
     (child-own (at .node) d e) (at .registry) offered (extends-trans (walk-extends ownMark next es) x) in
-    ap (λ (r : Reached). walkFrom ownMark (madeBefore 0 r) fs) there ∙ walk-repeated next es fs (and-second (sameEntry e f) _ h) x
+    ap (λ (r : Reached). walkFrom ownMark (afterMaking 0 r) fs) there ∙ walk-repeated next es fs (and-second (sameEntry e f) _ h) x
 
 -- A path with the same identifier and equal entries, entered in a registry that has what the first
 -- left, leads to the first one's node and makes none.
@@ -121,38 +122,43 @@ entered-again reg b d e same equal x =
     (root-own (d .identifier) (d .reactive) (d .span)) reg offered (extends-trans (walk-extends ownMark first (d .path)) x) in
     ap (λ (r : Reached). walkFrom ownMark r (e .path)) there ∙ walk-repeated first (d .path) (e .path) equal x
 
--- So it changes neither the registry nor a set with that node, whatever paths follow.
-pub enters-nothing : (reg b : PropertyPathRegistry) (s : NodeSet) (d e : ReactiveScopeDependency) (es : List ReactiveScopeDependency)
+-- So it changes neither the registry nor a set with that node, and nothing is made for it.
+pub enters-nothing : (reg : PropertyPathRegistry) (p : PathsEntered) (d e : ReactiveScopeDependency)
     → eqb (d .identifier .0) (e .identifier .0) ≡ true → areEqualPaths (d .path) (e .path) ≡ true
-    → Extends (getOrCreateProperty reg d .registry) b → Ascending s → contains s (getOrCreateProperty reg d .node) ≡ true
-    → enterPaths b s (e ∷ es) ≡ enterPaths b s es
-enters-nothing reg b s d e es same equal x up there =
+    → Extends (getOrCreateProperty reg d .registry) (p .registry) → Ascending (p .set)
+    → contains (p .set) (getOrCreateProperty reg d .node) ≡ true
+    → enterPath p e ≡ p
+enters-nothing reg p d e same equal x up there =
     let k = getOrCreateProperty reg d .node in
-    ap (λ (r : Reached). enterPaths (r .registry) (insert (r .node) s) es) (entered-again reg b d e same equal x)
-    ∙ ap (λ (t : NodeSet). enterPaths b t es) (insert-again 0 k s up there)
+    ap (λ (r : Reached). record { registry = r .registry; set = insert (r .node) (p .set); made = p .made + r .made })
+    (entered-again reg (p .registry) d e same equal x)
+    ∙ (λ i. record { registry = p .registry; set = insert-again 0 k (p .set) up there i; made = add-zero (p .made) i })
 
 -- The same where other paths come before it.
-enters-nothing-later : (reg b : PropertyPathRegistry) (s : NodeSet) (d e : ReactiveScopeDependency) (es fs : List ReactiveScopeDependency)
-    → eqb (d .identifier .0) (e .identifier .0) ≡ true → areEqualPaths (d .path) (e .path) ≡ true
-    → Extends (getOrCreateProperty reg d .registry) b → Ascending s → contains s (getOrCreateProperty reg d .node) ≡ true
-    → enterPaths b s (es ++ e ∷ fs) ≡ enterPaths b s (es ++ fs)
+enters-nothing-later : (reg : PropertyPathRegistry) (p : PathsEntered) (d e : ReactiveScopeDependency)
+    (es fs : List ReactiveScopeDependency) → eqb (d .identifier .0) (e .identifier .0) ≡ true → areEqualPaths (d .path) (e .path) ≡ true
+    → Extends (getOrCreateProperty reg d .registry) (p .registry) → Ascending (p .set)
+    → contains (p .set) (getOrCreateProperty reg d .node) ≡ true
+    → enterPaths p (es ++ e ∷ fs) ≡ enterPaths p (es ++ fs)
 unfolding getOrCreateProperty
-enters-nothing-later reg b s d e [] fs same equal x up there = enters-nothing reg b s d e fs same equal x up there
-enters-nothing-later reg b s d e (c ∷ es) fs same equal x up there =
-    let at = getOrCreateProperty b c in
-    enters-nothing-later reg (at .registry) (insert (at .node) s) d e es fs same equal (extends-trans x (path-extends ownMark b c))
-    (insert-from 0 (at .node) s (omega arith) up) (contains-insert (at .node) (getOrCreateProperty reg d .node) s there)
+enters-nothing-later reg p d e [] fs same equal x up there =
+    ap (λ (q : PathsEntered). enterPaths q fs) (enters-nothing reg p d e same equal x up there)
+enters-nothing-later reg p d e (c ∷ es) fs same equal x up there =
+    let at = getOrCreateProperty (p .registry) c in
+    enters-nothing-later reg (enterPath p c) d e es fs same equal (extends-trans x (path-extends ownMark (p .registry) c))
+    (insert-from 0 (at .node) (p .set) (omega arith) up)
+    (contains-insert (at .node) (getOrCreateProperty reg d .node) (p .set) there)
 
 -- Of two paths of a list with the same identifier and equal entries, the later one changes neither
--- the registry nor the set.
-pub entered-twice : (reg : PropertyPathRegistry) (s : NodeSet) (d e : ReactiveScopeDependency)
-    (before between after : List ReactiveScopeDependency) → eqb (d .identifier .0) (e .identifier .0) ≡ true
-    → areEqualPaths (d .path) (e .path) ≡ true → Ascending s
-    → enterPaths reg s (before ++ d ∷ between ++ e ∷ after) ≡ enterPaths reg s (before ++ d ∷ between ++ after)
-entered-twice reg s d e [] between after same equal up =
-    let at = getOrCreateProperty reg d in
-    enters-nothing-later reg (at .registry) (insert (at .node) s) d e between after same equal (extends-refl (at .registry))
-    (insert-from 0 (at .node) s (omega arith) up) (rw (contains-inserted (at .node) (at .node) s, eqb-same (at .node .0)))
-entered-twice reg s d e (c ∷ before) between after same equal up =
-    let at = getOrCreateProperty reg c in
-    entered-twice (at .registry) (insert (at .node) s) d e before between after same equal (insert-from 0 (at .node) s (omega arith) up)
+-- the registry nor the set, and nothing is made for it.
+pub entered-twice : (p : PathsEntered) (d e : ReactiveScopeDependency) (before between after : List ReactiveScopeDependency)
+    → eqb (d .identifier .0) (e .identifier .0) ≡ true → areEqualPaths (d .path) (e .path) ≡ true → Ascending (p .set)
+    → enterPaths p (before ++ d ∷ between ++ e ∷ after) ≡ enterPaths p (before ++ d ∷ between ++ after)
+entered-twice p d e [] between after same equal up =
+    let at = getOrCreateProperty (p .registry) d in
+    enters-nothing-later (p .registry) (enterPath p d) d e between after same equal (extends-refl (at .registry))
+    (insert-from 0 (at .node) (p .set) (omega arith) up)
+    (rw (contains-inserted (at .node) (at .node) (p .set), eqb-same (at .node .0)))
+entered-twice p d e (c ∷ before) between after same equal up =
+    let at = getOrCreateProperty (p .registry) c in
+    entered-twice (enterPath p c) d e before between after same equal (insert-from 0 (at .node) (p .set) (omega arith) up)

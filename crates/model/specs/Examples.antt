@@ -16,7 +16,7 @@ use Rattle.model.specs.Registry.{fullPathOf, getOrCreateProperty}
 use Rattle.model.specs.Reduction.{Reduced, reduceMaybeOptionalChains}
 use Rattle.model.specs.Tree.{deriveMinimalDependencies}
 use Rattle.model.specs.Job.{Block}
-use Rattle.model.specs.Stage.{PathsEntered, enterPaths, propagated}
+use Rattle.model.specs.Stage.{PathsEntered, enterPaths, noneEntered, propagated}
 use Rattle.model.specs.Propagation.{JoiningRule, doneNeighbours}
 use Rattle.model.specs.Answer.{leastBuffer, Verdict, writes, answerOf}
 
@@ -47,7 +47,7 @@ PropagatesTo rule blocks sets rounds =
 
 abbrev pub ExampleHolds : Example → Type 0
 ExampleHolds (tree hs cs ds) = deriveMinimalDependencies hs cs ≡ ds
-ExampleHolds (reduction before after) = reducedPaths (reduceEntered (enterPaths [] [] before)) ≡ after
+ExampleHolds (reduction before after) = reducedPaths (reduceEntered (enterPaths (noneEntered []) before)) ≡ after
 ExampleHolds (propagation blocks sets rounds) = PropagatesTo doneNeighbours blocks sets rounds
 ExampleHolds (bytes job answer) = (out : List ℕ) → leastBuffer ≤ length out → answerOf job out ≡ writes answer
 
@@ -221,7 +221,8 @@ optional-order-kept = refl
 -- {1, 1?.10, 1?.10?.11}: 1.10 is in the set at the moment when 1?.10?.11 is walked again, so
 -- 1.10.11 is reached at once and 1.10?.11 is not made.
 pub set-of-the-moment :
-    length (reduceEntered (enterPaths [] [] (one [] ∷ one (optional 10 ∷ []) ∷ one (optional 10 ∷ optional 11 ∷ []) ∷ [])) .registry) ≡ 5
+    length (reduceEntered (enterPaths (noneEntered [])
+    (one [] ∷ one (optional 10 ∷ []) ∷ one (optional 10 ∷ optional 11 ∷ []) ∷ [])) .registry) ≡ 5
 unfolding reduceMaybeOptionalChains getOrCreateProperty
 set-of-the-moment = refl
 

@@ -1,7 +1,7 @@
 -- Along a job's propagation the registry stays sound and each set is an ascending set of its nodes,
 -- so each reduction ends by a pass that changed nothing; no step makes the registry shorter; and a
 -- block that has joined has a reduced set from then on.
-use Prim.Native.Nat.{ℕ, zero, suc, _≤_, _<_}
+use Prim.Native.Nat.{ℕ, zero, suc, _+_, _≤_, _<_}
 use native.Mathlib.Nat.{le-refl, le-trans, not-suc-le-zero}
 use native.Mathlib.Omega.{arith}
 use mathlib.Core.Path.{_≡_, refl, sym, ap, subst, _∙_}
@@ -36,10 +36,11 @@ use Rattle.model.specs.Propagation.{
   propagateNonNull,
 }
 use Rattle.model.specs.Job.{Block}
-use Rattle.model.specs.Stage.{PathsEntered, enterPaths, enterBlock, Started, enterBlocks, graphOf, propagated}
+use Rattle.model.specs.Stage.{PathsEntered, enterPath, enterPaths, noneEntered, enterBlock, Started, enterBlocks, graphOf, propagated}
 use Rattle.model.specs.ListLaws.{All, all-map, all-select, all-getD, all-set, set-here, all-mapped}
 use Rattle.model.specs.SetLaws.{insert-from, select-from, union-from, insert-all, union-all}
 use Rattle.model.specs.RegistryLaws.{
+  property-longer,
   Extends,
   extends-refl,
   extends-trans,
@@ -252,18 +253,18 @@ pub record Filled (reg : PropertyPathRegistry) (e : PathsEntered) : Type 0 where
   pub extends : Extends reg (e .registry)
   pub members : Members (e .registry) (e .set)
 
-pub paths-filled : (reg : PropertyPathRegistry) (s : NodeSet) (ds : List ReactiveScopeDependency) → Sound reg → Members reg s
-    → Filled reg (enterPaths reg s ds)
+pub paths-filled : (e : PathsEntered) (ds : List ReactiveScopeDependency) → Sound (e .registry) → Members (e .registry) (e .set)
+    → Filled (e .registry) (enterPaths e ds)
 unfolding getOrCreateProperty
-paths-filled reg s [] h m = record { sound = h; extends = extends-refl reg; members = m }
-paths-filled reg s (d ∷ ds) h m =
-    let at = getOrCreateProperty reg d in
-    let p = path-proper ownMark reg d h in
-    let x = path-extends ownMark reg d in
-    let old = members-extends s x m in
-    let rest = paths-filled (at .registry) (insert (at .node) s) ds (p .sound) (record {
-      ascending = insert-from zero (at .node) s (omega arith) (old .ascending);
-      inside = insert-all (λ k. k .0 < length (at .registry)) (at .node) s (p .inside) (old .inside);
+paths-filled e [] h m = record { sound = h; extends = extends-refl (e .registry); members = m }
+paths-filled e (d ∷ ds) h m =
+    let at = getOrCreateProperty (e .registry) d in
+    let p = path-proper ownMark (e .registry) d h in
+    let x = path-extends ownMark (e .registry) d in
+    let old = members-extends (e .set) x m in
+    let rest = paths-filled (enterPath e d) ds (p .sound) (record {
+      ascending = insert-from zero (at .node) (e .set) (omega arith) (old .ascending);
+      inside = insert-all (λ k. k .0 < length (at .registry)) (at .node) (e .set) (p .inside) (old .inside);
     }) in
     record { sound = rest .sound; extends = extends-trans x (rest .extends); members = rest .members }
 
@@ -277,7 +278,7 @@ unfolding enterBlocks
 blocks-begun reg [] h = record { sound = h; extends = extends-refl reg; members = tt }
 blocks-begun reg (b ∷ bs) h =
     let e = enterBlock reg b in
-    let first = paths-filled reg [] (b .assumed) h (members-empty reg) in
+    let first = paths-filled (noneEntered reg) (b .assumed) h (members-empty reg) in
     let rest = blocks-begun (e .registry) bs (first .sound) in
     record {
       sound = rest .sound;
@@ -285,6 +286,27 @@ blocks-begun reg (b ∷ bs) h =
           (rest .extends);
       members = (members-extends (e .set) (rest .extends) (first .members), rest .members);
     }
+
+-- What was made for paths, and for all blocks, is how much longer the registry is.
+pub paths-longer : (e : PathsEntered) (ds : List ReactiveScopeDependency)
+    → length (enterPaths e ds .registry) + e .made ≡ length (e .registry) + enterPaths e ds .made
+paths-longer e [] = refl
+paths-longer e (d ∷ ds) =
+    let at = getOrCreateProperty (e .registry) d in
+    let all = enterPaths (enterPath e d) ds in
+    let one = property-longer (e .registry) d in
+    let rest : length (all .registry) + (e .made + at .made) ≡ length (at .registry) + all .made = paths-longer (enterPath e d) ds in
+    omega arith
+
+pub blocks-longer : (reg : PropertyPathRegistry) (bs : List Block)
+    → length (enterBlocks reg bs .registry) ≡ length reg + enterBlocks reg bs .made
+unfolding enterBlocks
+blocks-longer reg [] = omega arith
+blocks-longer reg (b ∷ bs) =
+    let e = enterBlock reg b in
+    let first : length (e .registry) + 0 ≡ length reg + e .made = paths-longer (noneEntered reg) (b .assumed) in
+    let rest = blocks-longer (e .registry) bs in
+    omega arith
 
 -- A job's propagation.
 
@@ -295,7 +317,7 @@ pub propagated-proper : (rule : JoiningRule) (bs : List Block) → ProperWork (p
 unfolding propagated
 propagated-proper rule bs = propagation-proper rule (graphOf bs) (enterBlocks [] bs .registry) (enterBlocks [] bs .sets) (start-proper bs)
 
--- The nodes present before the first round keep their numbers; those behind them reductions made.
+-- The nodes present before the first round keep their numbers; those made later stand behind them.
 pub propagated-extends : (rule : JoiningRule) (bs : List Block) → Extends (enterBlocks [] bs .registry) (propagated rule bs .work .registry)
 unfolding propagated
 propagated-extends rule bs = propagation-extends rule (graphOf bs) (enterBlocks [] bs .registry) (enterBlocks [] bs .sets)

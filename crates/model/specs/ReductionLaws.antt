@@ -24,7 +24,7 @@ use Rattle.model.specs.Registry.{
   getOrCreateIdentifier,
   getOrCreatePropertyEntry,
   withOptional,
-  madeBefore,
+  afterMaking,
   walkFrom,
   walkPath,
   ownMark,
@@ -136,7 +136,7 @@ walk-lowers mark low at (e ∷ es) h =
     go o (e .optional) refl refl (walk-lowers mark low _ es (step-proper mark at e h)) (child-marks at (withOptional e o) h)
   where
     next : Bool → Reached
-    next o = madeBefore (at .made) (getOrCreatePropertyEntry (at .registry) (at .node) (withOptional e o))
+    next o = afterMaking (at .made) (getOrCreatePropertyEntry (at .registry) (at .node) (withOptional e o))
 
     all : optionalMarks (e ∷ es) ≡ mark-value (e .optional) + optionalMarks es
     all = marks-cons e es

@@ -63,8 +63,8 @@ abbrev pub ensure : (PropertyPathNode → Bool) → PropertyPathNode → Propert
 ensure test new [] = new ∷ []
 ensure test new (n ∷ ns) = n ∷ cond (test n) ns (ensure test new ns)
 
--- a registry, the node reached in it, and how many nodes were made on the way to it: 1 or 0 where a
--- single one was to be found or made
+-- a registry, the node reached in it, and how many nodes were made on the way to it; where a single
+-- one was to be found or made, that is 1 or 0
 pub record Reached : Type 0 where
   pub registry : PropertyPathRegistry
   pub node : NodeId
@@ -106,15 +106,15 @@ getOrCreatePropertyEntry reg p e = findOrMake (isChildBy p e) (childNode p (full
 abbrev pub withOptional : DependencyPathEntry → Bool → DependencyPathEntry
 withOptional e o = record { property = e .property; optional = o; span = e .span }
 
--- The same reached after so many nodes were made.
-abbrev pub madeBefore : ℕ → Reached → Reached
-madeBefore made at = record { registry = at .registry; node = at .node; made = made + at .made }
+-- What is reached, with the nodes that were made before it counted too.
+abbrev pub afterMaking : ℕ → Reached → Reached
+afterMaking made at = record { registry = at .registry; node = at .node; made = made + at .made }
 
 -- the child of what was reached, by an entry under the optional mark that `mark` gives it there
 abbrev pub stepFrom : (NodeId → DependencyPathEntry → Bool) → Reached → DependencyPathEntry → Reached
-stepFrom mark at e = madeBefore (at .made) (getOrCreatePropertyEntry (at .registry) (at .node) (withOptional e (mark (at .node) e)))
+stepFrom mark at e = afterMaking (at .made) (getOrCreatePropertyEntry (at .registry) (at .node) (withOptional e (mark (at .node) e)))
 
--- down from a node by entries, step by step
+-- down from a node by entries, step by step; what the steps make is added to what was made before
 unfoldable pub walkFrom : (NodeId → DependencyPathEntry → Bool) → Reached → List DependencyPathEntry → Reached
 walkFrom mark at [] = at
 walkFrom mark at (e ∷ es) = walkFrom mark (stepFrom mark at e) es

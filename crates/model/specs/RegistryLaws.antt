@@ -40,11 +40,12 @@ use Rattle.model.specs.Registry.{
   getOrCreatePropertyEntry,
   withOptional,
   makes,
-  madeBefore,
+  afterMaking,
   stepFrom,
   walkFrom,
   walkPath,
   ownMark,
+  getOrCreateProperty,
 }
 
 -- Equal entries.
@@ -146,13 +147,17 @@ module _ (test : PropertyPathNode → Bool) where
       go t (inr m) = inr
           (record { appended = rw t (ap (λ r. n ∷ r) (m .appended)); last = rw t (ap suc (m .last)); one = rw t (m .one) })
 
-  -- One is made exactly where the registry is longer by one.
-  pub makes-longer : (new : PropertyPathNode) (reg : PropertyPathRegistry) → length (ensure test new reg) ≡ length reg + makes test reg
+  -- One node is made, or none, and exactly so much longer is the registry.
+  pub makes-longer : (new : PropertyPathNode) (reg : PropertyPathRegistry)
+      → (let at = findOrMake test new reg in (length (at .registry) ≡ length reg + at .made) × (at .made ≤ 1))
   makes-longer new reg = go (found-or-made new reg)
     where
-      go : WasFound new reg ⊎ WasMade new reg → length (ensure test new reg) ≡ length reg + makes test reg
-      go (inl f) = let same = ap length (f .same) in let none = f .none in omega arith
-      go (inr m) = let longer = ap length (m .appended) ∙ length-append reg (new ∷ []) in let one = m .one in omega arith
+      go : WasFound new reg ⊎ WasMade new reg → (length (ensure test new reg) ≡ length reg + makes test reg) × (makes test reg ≤ 1)
+      go (inl f) = let same = ap length (f .same) in let none = f .none in (omega arith, omega arith)
+      go (inr m) =
+          let longer = ap length (m .appended) ∙ length-append reg (new ∷ []) in
+          let one = m .one in
+          (omega arith, omega arith)
 
   pub ensure-extends : (new : PropertyPathNode) (reg : PropertyPathRegistry) → Extends reg (ensure test new reg)
   ensure-extends new reg = go (found-or-made new reg)
@@ -383,26 +388,32 @@ pub path-extends : (mark : NodeId → DependencyPathEntry → Bool) (reg : Prope
 path-extends mark reg d = extends-trans (ensure-extends (isRootFor (d .identifier)) _ reg) (walk-extends mark _ (d .path))
 
 -- A walk has made as many nodes as the registry is longer by.
-pub walk-made : (mark : NodeId → DependencyPathEntry → Bool) (at : Reached) (es : List DependencyPathEntry)
+pub walk-longer : (mark : NodeId → DependencyPathEntry → Bool) (at : Reached) (es : List DependencyPathEntry)
     → length (walkFrom mark at es .registry) + at .made ≡ length (at .registry) + walkFrom mark at es .made
 unfolding walkFrom
-walk-made mark at [] = refl
-walk-made mark at (e ∷ es) =
+walk-longer mark at [] = refl
+walk-longer mark at (e ∷ es) =
     let marked = withOptional e (mark (at .node) e) in
     let test = isChildBy (at .node) marked in
     let new = childNode (at .node) (fullPathOf (at .registry) (at .node)) marked in
     let walked = walkFrom mark (stepFrom mark at e) es in
-    let one = makes-longer test new (at .registry) in
+    let one = makes-longer test new (at .registry) .0 in
     let rest : length (walked .registry) + (at .made + makes test (at .registry)) ≡ length (ensure test new (at .registry)) + walked .made =
-    walk-made mark (stepFrom mark at e) es in
+    walk-longer mark (stepFrom mark at e) es in
     omega arith
 
-pub path-made : (mark : NodeId → DependencyPathEntry → Bool) (reg : PropertyPathRegistry) (d : ReactiveScopeDependency)
+pub path-longer : (mark : NodeId → DependencyPathEntry → Bool) (reg : PropertyPathRegistry) (d : ReactiveScopeDependency)
     → length (walkPath mark reg d .registry) ≡ length reg + walkPath mark reg d .made
-path-made mark reg d =
-    let rest = walk-made mark (getOrCreateIdentifier reg (d .identifier) (d .reactive) (d .span)) (d .path) in
-    let one = makes-longer (isRootFor (d .identifier)) (rootNode (d .identifier) (d .reactive) (d .span)) reg in
+path-longer mark reg d =
+    let rest = walk-longer mark (getOrCreateIdentifier reg (d .identifier) (d .reactive) (d .span)) (d .path) in
+    let one = makes-longer (isRootFor (d .identifier)) (rootNode (d .identifier) (d .reactive) (d .span)) reg .0 in
     omega arith
+
+-- and so has a path that is entered
+pub property-longer : (reg : PropertyPathRegistry) (d : ReactiveScopeDependency)
+    → (let at = getOrCreateProperty reg d in length (at .registry) ≡ length reg + at .made)
+unfolding getOrCreateProperty
+property-longer reg d = path-longer ownMark reg d
 
 walk-append : (mark : NodeId → DependencyPathEntry → Bool) (at : Reached) (xs ys : List DependencyPathEntry) → walkFrom mark at
     (xs ++ ys) ≡ walkFrom mark (walkFrom mark at xs) ys
@@ -454,10 +465,10 @@ walk-again-from mark {a} {b} x q (f ∷ fs) {k} e =
     let new′ = childNode q (fullPathOf b q) g in
     let test = isChildBy q g in
     let back = subst (λ (r : Reached). Extends (ensure test new a) (r .registry)) e
-    (walk-extends mark (madeBefore 0 (findOrMake test new a)) fs) in
+    (walk-extends mark (afterMaking 0 (findOrMake test new a)) fs) in
     let there = found-again test new new′ x back in
-    ap (λ (at : Reached). walkFrom mark (madeBefore 0 at) fs) (there .1) ∙ walk-again-from mark x (record { 0 = find test a }) fs
-    (sym (ap (λ (at : Reached). walkFrom mark (madeBefore 0 at) fs) (there .0)) ∙ e)
+    ap (λ (at : Reached). walkFrom mark (afterMaking 0 at) fs) (there .1) ∙ walk-again-from mark x (record { 0 = find test a }) fs
+    (sym (ap (λ (at : Reached). walkFrom mark (afterMaking 0 at) fs) (there .0)) ∙ e)
 
 pub walk-extended : (mark : NodeId → DependencyPathEntry → Bool) {a b : PropertyPathRegistry} → Extends a b →
     (d : ReactiveScopeDependency) {k : NodeId}
@@ -488,7 +499,7 @@ leads-back reg h (suc below) k lt le r s =
     go (childOf p e) d st parent =
         rw (st .child .path, st .child .identifier)
         (walk-append ownMark _ (fullPathOf reg p .path) (e ∷ []) ∙ ap (λ at. walkFrom ownMark at (e ∷ [])) (parent p (st .after))
-        ∙ ap (madeBefore 0) (found (isChildBy p e) (childNode p (fullPathOf reg p) e) reg k le (st .only)))
+        ∙ ap (afterMaking 0) (found (isChildBy p e) (childNode p (fullPathOf reg p) e) reg k le (st .only)))
 
 -- A node's path walked again from its root, under any marks.
 

@@ -20,7 +20,7 @@ use Rattle.model.specs.Sets.{NodeSet}
 use Rattle.model.specs.Reduction.{reducedMark}
 use Rattle.model.specs.Propagation.{JoiningRule, doneNeighbours}
 use Rattle.model.specs.Job.{Block}
-use Rattle.model.specs.Stage.{enterPaths, enterBlocks, propagated}
+use Rattle.model.specs.Stage.{enterPaths, noneEntered, enterBlocks, propagated}
 use Rattle.model.specs.Answer.{leastBuffer, writes, sheetOf}
 use Rattle.model.specs.Strict.{strictNeighbours}
 use Rattle.model.specs.Examples.{optional, plain, one, block}
@@ -30,46 +30,46 @@ use Rattle.model.specs.ThinExamples as bytes
 -- again.
 
 -- the registry of 1, and of 1 and 1.10
-abbrev root : PropertyPathRegistry
-root = getOrCreateIdentifier [] (record { 0 = 1 }) true 1 .registry
+abbrev ofRoot : PropertyPathRegistry
+ofRoot = getOrCreateIdentifier [] (record { 0 = 1 }) true 1 .registry
 
-abbrev rootAndChild : PropertyPathRegistry
-rootAndChild = getOrCreatePropertyEntry root (record { 0 = 0 }) (plain 10) .registry
+abbrev ofRootAndChild : PropertyPathRegistry
+ofRootAndChild = getOrCreatePropertyEntry ofRoot (record { 0 = 0 }) (plain 10) .registry
 
-pub root-made : getOrCreateIdentifier [] (record { 0 = 1 }) true 1 .made ≡ 1
-root-made = refl
+pub root-was-made : getOrCreateIdentifier [] (record { 0 = 1 }) true 1 .made ≡ 1
+root-was-made = refl
 
-pub root-found : getOrCreateIdentifier root (record { 0 = 1 }) true 1 .made ≡ 0
-root-found = refl
+pub root-was-found : getOrCreateIdentifier ofRoot (record { 0 = 1 }) true 1 .made ≡ 0
+root-was-found = refl
 
-pub child-made : getOrCreatePropertyEntry root (record { 0 = 0 }) (plain 10) .made ≡ 1
-child-made = refl
+pub child-was-made : getOrCreatePropertyEntry ofRoot (record { 0 = 0 }) (plain 10) .made ≡ 1
+child-was-made = refl
 
-pub child-found : getOrCreatePropertyEntry rootAndChild (record { 0 = 0 }) (plain 10) .made ≡ 0
-child-found = refl
+pub child-was-found : getOrCreatePropertyEntry ofRootAndChild (record { 0 = 0 }) (plain 10) .made ≡ 0
+child-was-found = refl
 
 -- 1?.10 is another node than 1.10
-pub other-mark-made : getOrCreatePropertyEntry rootAndChild (record { 0 = 0 }) (optional 10) .made ≡ 1
-other-mark-made = refl
+pub other-mark-was-made : getOrCreatePropertyEntry ofRootAndChild (record { 0 = 0 }) (optional 10) .made ≡ 1
+other-mark-was-made = refl
 
--- all three nodes of 1.10.11, the two that are not there yet, the last one, and none
+-- of 1.10.11 all three nodes, those of its two entries, and that of the last; of 1.10 none
 pub path-makes-all : getOrCreateProperty [] (one (plain 10 ∷ plain 11 ∷ [])) .made ≡ 3
 unfolding getOrCreateProperty
 path-makes-all = refl
 
-pub path-makes-two : getOrCreateProperty root (one (plain 10 ∷ plain 11 ∷ [])) .made ≡ 2
+pub path-makes-two : getOrCreateProperty ofRoot (one (plain 10 ∷ plain 11 ∷ [])) .made ≡ 2
 unfolding getOrCreateProperty
 path-makes-two = refl
 
-pub path-makes-one : getOrCreateProperty rootAndChild (one (plain 10 ∷ plain 11 ∷ [])) .made ≡ 1
+pub path-makes-one : getOrCreateProperty ofRootAndChild (one (plain 10 ∷ plain 11 ∷ [])) .made ≡ 1
 unfolding getOrCreateProperty
 path-makes-one = refl
 
-pub path-makes-none : getOrCreateProperty rootAndChild (one (plain 10 ∷ [])) .made ≡ 0
+pub path-makes-none : getOrCreateProperty ofRootAndChild (one (plain 10 ∷ [])) .made ≡ 0
 unfolding getOrCreateProperty
 path-makes-none = refl
 
--- the walk of node k's path under the marks that a set leaves, in the registry of these paths
+-- a node's path walked again from its root, under the marks that a set leaves
 abbrev again : NodeSet → ℕ → PropertyPathRegistry → Reached
 again s k reg = walkPath (reducedMark s) reg (fullPathOf reg (record { 0 = k }))
 
@@ -78,33 +78,36 @@ nodeZero = record { 0 = 0 } ∷ []
 
 -- 1?.10?.11 beside 1 becomes 1.10?.11, for which 1.10 is made too; 1?.10 beside 1 becomes 1.10,
 -- which may be there already
-pub again-makes-two : again nodeZero 2 (enterPaths [] [] (one (optional 10 ∷ optional 11 ∷ []) ∷ []) .registry) .made ≡ 2
+pub again-makes-two : again nodeZero 2 (enterPaths (noneEntered []) (one (optional 10 ∷ optional 11 ∷ []) ∷ []) .registry) .made ≡ 2
 unfolding getOrCreateProperty walkFrom
 again-makes-two = refl
 
-pub again-makes-one : again nodeZero 1 (enterPaths [] [] (one (optional 10 ∷ []) ∷ []) .registry) .made ≡ 1
+pub again-makes-one : again nodeZero 1 (enterPaths (noneEntered []) (one (optional 10 ∷ []) ∷ []) .registry) .made ≡ 1
 unfolding getOrCreateProperty walkFrom
 again-makes-one = refl
 
-pub again-makes-none : again nodeZero 2 (enterPaths [] [] (one (plain 10 ∷ []) ∷ one (optional 10 ∷ []) ∷ []) .registry) .made ≡ 0
+pub again-makes-none :
+    again nodeZero 2 (enterPaths (noneEntered []) (one (plain 10 ∷ []) ∷ one (optional 10 ∷ []) ∷ []) .registry) .made ≡ 0
 unfolding getOrCreateProperty walkFrom
 again-makes-none = refl
 
 -- The nodes present before the first round, and those at the end.
 
-abbrev Nodes : JoiningRule → List Block → ℕ → ℕ → Type 0
-Nodes rule blocks before atEnd =
-    (length (enterBlocks [] blocks .registry) ≡ before) × (length (propagated rule blocks .work .registry) ≡ atEnd)
+-- so many before, which entering made, and so many at the end
+abbrev NodesBeforeAndAfter : JoiningRule → List Block → ℕ → ℕ → Type 0
+NodesBeforeAndAfter rule blocks before after =
+    let start = enterBlocks [] blocks in
+    (length (start .registry) ≡ before) × (start .made ≡ before) × (length (propagated rule blocks .work .registry) ≡ after)
 
 -- the smallest: 1 and 1?.10
-pub one-is-added : Nodes doneNeighbours (block 7 [] (one [] ∷ one (optional 10 ∷ []) ∷ []) ∷ []) 2 3
+pub one-is-added : NodesBeforeAndAfter doneNeighbours (block 7 [] (one [] ∷ one (optional 10 ∷ []) ∷ []) ∷ []) 2 3
 unfolding enterBlocks propagated doneNeighbours
-one-is-added = (refl, refl)
+one-is-added = (refl, refl, refl)
 
 -- 1.10 is there already
-pub none-is-added : Nodes doneNeighbours (block 7 [] (one [] ∷ one (plain 10 ∷ []) ∷ one (optional 10 ∷ []) ∷ []) ∷ []) 3 3
+pub none-is-added : NodesBeforeAndAfter doneNeighbours (block 7 [] (one [] ∷ one (plain 10 ∷ []) ∷ one (optional 10 ∷ []) ∷ []) ∷ []) 3 3
 unfolding enterBlocks propagated doneNeighbours
-none-is-added = (refl, refl)
+none-is-added = (refl, refl, refl)
 
 -- By the existing propagation block 1, its own predecessor, takes 1 over from block 0, and its
 -- 1?.10 reduces; by the strict one it takes nothing over. (Block 2 keeps 1?.10 from coming to
@@ -112,13 +115,13 @@ none-is-added = (refl, refl)
 abbrev ownPredecessor : List Block
 ownPredecessor = block 0 [] (one [] ∷ []) ∷ block 1 (1 ∷ 0 ∷ []) (one (optional 10 ∷ []) ∷ []) ∷ block 2 (0 ∷ []) [] ∷ []
 
-pub added-by-existing : Nodes doneNeighbours ownPredecessor 2 3
+pub added-by-existing : NodesBeforeAndAfter doneNeighbours ownPredecessor 2 3
 unfolding enterBlocks propagated doneNeighbours
-added-by-existing = (refl, refl)
+added-by-existing = (refl, refl, refl)
 
-pub none-added-by-strict : Nodes strictNeighbours ownPredecessor 2 2
+pub none-added-by-strict : NodesBeforeAndAfter strictNeighbours ownPredecessor 2 2
 unfolding enterBlocks propagated strictNeighbours
-none-added-by-strict = (refl, refl)
+none-added-by-strict = (refl, refl, refl)
 
 -- Sheets.
 

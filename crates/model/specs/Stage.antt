@@ -1,5 +1,5 @@
 -- The stage on a job: its graph, its assumed paths entered, propagated, and the returned paths.
-use Prim.Native.Nat.{ℕ, zero, suc}
+use Prim.Native.Nat.{ℕ, zero, suc, _+_}
 use mathlib.Core.Bool.{Bool, true, false, cond}
 use mathlib.Core.List.{List, [], _∷_, map}
 use lib.ListN.{length, getD}
@@ -58,33 +58,45 @@ graphOf bs = record { size = length bs; predecessors = predecessorsOf bs; succes
 
 -- The start.
 
--- The registry and one block's set, as paths are entered.
+-- The registry and one block's set, as paths are entered, and how many nodes were made for them.
 pub record PathsEntered : Type 0 where
   pub registry : PropertyPathRegistry
   pub set : NodeSet
+  pub made : ℕ
 
--- "Assumed paths are entered .. in job order": each path's node joins the block's set.
-abbrev pub enterPaths : PropertyPathRegistry → NodeSet → List ReactiveScopeDependency → PathsEntered
-enterPaths reg s [] = record { registry = reg; set = s }
-enterPaths reg s (d ∷ ds) = let at = getOrCreateProperty reg d in enterPaths (at .registry) (insert (at .node) s) ds
+-- A path's node joins the block's set, and what was made for it is counted.
+abbrev pub enterPath : PathsEntered → ReactiveScopeDependency → PathsEntered
+enterPath e d =
+    let at = getOrCreateProperty (e .registry) d in
+    record { registry = at .registry; set = insert (at .node) (e .set); made = e .made + at .made }
+
+-- "Assumed paths are entered .. in job order".
+abbrev pub enterPaths : PathsEntered → List ReactiveScopeDependency → PathsEntered
+enterPaths e [] = e
+enterPaths e (d ∷ ds) = enterPaths (enterPath e d) ds
+
+-- As a block starts: none of its paths is entered.
+abbrev pub noneEntered : PropertyPathRegistry → PathsEntered
+noneEntered reg = record { registry = reg; set = []; made = 0 }
 
 -- a block's set at the start: its assumed paths
 abbrev pub enterBlock : PropertyPathRegistry → Block → PathsEntered
-enterBlock reg b = enterPaths reg [] (b .assumed)
+enterBlock reg b = enterPaths (noneEntered reg) (b .assumed)
 
--- the registry, and the blocks' sets in job order
+-- the registry, the blocks' sets in job order, and how many nodes were made for them
 pub record Started : Type 0 where
   pub registry : PropertyPathRegistry
   pub sets : List NodeSet
+  pub made : ℕ
 
 -- "All assumed paths are entered first, in job order."
 unfoldable pub enterBlocks : PropertyPathRegistry → List Block → Started
 unfolding getOrCreateProperty
-enterBlocks reg [] = record { registry = reg; sets = [] }
+enterBlocks reg [] = record { registry = reg; sets = []; made = 0 }
 enterBlocks reg (b ∷ bs) =
     let e = enterBlock reg b in
     let rest = enterBlocks (e .registry) bs in
-    record { registry = rest .registry; sets = e .set ∷ rest .sets }
+    record { registry = rest .registry; sets = e .set ∷ rest .sets; made = e .made + rest .made }
 
 -- The whole.
 

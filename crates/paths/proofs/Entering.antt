@@ -17,8 +17,8 @@ use Rattle.job.specs.Head.{readPathHead, pathOf}
 use Rattle.job.proofs.Heads.{path-by-head}
 use Rattle.job.proofs.Many.{many-first}
 use Rattle.job.proofs.Passing.{not-both, mapped-got}
-use Rattle.model.specs.Registry.{nodeLimit, PropertyPathRegistry, Reached, fullPathOf, isRootFor, isChildBy, rootNode, childNode, madeBefore, walkFrom, ownMark}
-use Rattle.model.specs.Registry.{getOrCreateIdentifier, getOrCreatePropertyEntry, getOrCreateProperty}
+use Rattle.model.specs.Registry.{nodeLimit, PropertyPathRegistry, Reached, fullPathOf, isRootFor, isChildBy, rootNode, childNode, walkFrom, ownMark}
+use Rattle.model.specs.Registry.{getOrCreateIdentifier, getOrCreatePropertyEntry, afterMaking, getOrCreateProperty}
 use Rattle.model.specs.RegistryLaws.{entry-same, extends-length, makes-longer, reached-inside, walk-extends}
 use Rattle.model.specs.Tests.{eqb-same}
 use Rattle.registry.specs.declared.NodeEntered.{NodeEntered}
@@ -74,7 +74,7 @@ pub root-made-at : (reg : PropertyPathRegistry) (i : IdentifierId) (reactive : B
     → (k : NodeId) (made : ℕ) → r ≡ entered.At k made → Made reg (getOrCreateIdentifier reg i reactive span) ws os k made
 root-made-at reg i reactive span =
     made-at reg (getOrCreateIdentifier reg i reactive span) (reached-inside (isRootFor i) (rootNode i reactive span) (eqb-same (i .0)) reg)
-    (makes-longer (isRootFor i) (rootNode i reactive span) reg)
+    (makes-longer (isRootFor i) (rootNode i reactive span) reg .0)
 
 pub child-made-at : (reg : PropertyPathRegistry) (p : NodeId) (e : DependencyPathEntry) (r : NodeEntered) (ws os : List ℕ)
     → Arrives (getOrCreatePropertyEntry reg p e) r ws os
@@ -82,7 +82,7 @@ pub child-made-at : (reg : PropertyPathRegistry) (p : NodeId) (e : DependencyPat
 child-made-at reg p e =
     made-at reg (getOrCreatePropertyEntry reg p e)
     (reached-inside (isChildBy p e) (childNode p (fullPathOf reg p) e) (rw (eqb-same (p .0)) (entry-same e)) reg)
-    (makes-longer (isChildBy p e) (childNode p (fullPathOf reg p) e) reg)
+    (makes-longer (isChildBy p e) (childNode p (fullPathOf reg p) e) reg .0)
 
 -- The entries that are left.
 
@@ -130,7 +130,7 @@ module _ {A : Type 0} {whole : Read A} {reach : A → Reached} {s ws os : List �
 
       -- what enters the entries after this one enters those from it on
       step : (r : EnteredPath) (us ps : List ℕ)
-          → Enters (readMany (left - 1) (readEntry 4) s next) (λ es. walkFrom ownMark (madeBefore made child) es) r us ps
+          → Enters (readMany (left - 1) (readEntry 4) s next) (λ es. walkFrom ownMark (afterMaking made child) es) r us ps
           → Enters whole reach r us ps
       unfolding walkFrom
       step r us ps h =
@@ -139,8 +139,8 @@ module _ {A : Type 0} {whole : Read A} {reach : A → Reached} {s ws os : List �
       pub entering-full : (us ps : List ℕ) → nodeLimit < length (child .registry) → Enters whole reach Full us ps
       entering-full us ps full =
           step Full us ps
-          (enters-full (readMany (left - 1) (readEntry 4) s next) (λ es. walkFrom ownMark (madeBefore made child) es) us ps rest-there
-          (λ es. let longer = extends-length (walk-extends ownMark (madeBefore made child) es) in omega arith))
+          (enters-full (readMany (left - 1) (readEntry 4) s next) (λ es. walkFrom ownMark (afterMaking made child) es) us ps rest-there
+          (λ es. let longer = extends-length (walk-extends ownMark (afterMaking made child) es) in omega arith))
 
       pub entering-more : (vs qs : List ℕ) (k : NodeId) (new : ℕ) → Made (registryOf ws) child vs qs k new
           → Entering whole reach s vs qs k (made + new) next (left - 1)
@@ -152,7 +152,7 @@ module _ {A : Type 0} {whole : Read A} {reach : A → Reached} {s ws os : List �
         on =
             λ r us ps h.
             step r us ps
-            (subst (λ (y : Reached). Enters (readMany (left - 1) (readEntry 4) s next) (λ es. walkFrom ownMark (madeBefore made y) es) r us ps)
+            (subst (λ (y : Reached). Enters (readMany (left - 1) (readEntry 4) s next) (λ es. walkFrom ownMark (afterMaking made y) es) r us ps)
             (sym (m .is)) h);
       }
 

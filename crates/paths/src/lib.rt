@@ -31,17 +31,17 @@ fn enter_entries(
     ws: &mut [u64; 1665],
     optional: &mut [u64; 8],
     from: NodeId,
-    before: usize,
+    earlier: usize,
 ) -> EnteredPath
-    requires { ⌜ Held (now ws) (now optional) × (from .0 < countIn (now ws)) × (before ≤ countIn (now ws))
+    requires { ⌜ Held (now ws) (now optional) × (from .0 < countIn (now ws)) × (earlier ≤ countIn (now ws))
         × IsRead (readMany count (readEntry spanWidth) (now s) start) ⌝ }
     ensures { λ r. ⌜ Enters (readMany count (readEntry spanWidth) (now (s .entry)) start)
-        (walkOwn (registryOf (now (ws .entry))) from before) r (now (ws .exit)) (now (optional .exit)) ⌝ }
+        (walkOwn (registryOf (now (ws .entry))) from earlier) r (now (ws .exit)) (now (optional .exit)) ⌝ }
 {
     let mut at = start;
     let mut left = count;
     let mut node = from;
-    let mut made = before;
+    let mut made = earlier;
     while 0 < left {
         let field = job::entry_at(s, at);
         let ReadEntry::Value(entry, next) = field else {

@@ -31,7 +31,7 @@ use Rattle.model.specs.Registry.{
   findOrMake,
   fullPathOf,
   withOptional,
-  madeBefore,
+  afterMaking,
   stepFrom,
   getOrCreatePropertyEntry,
   isChild,
@@ -55,7 +55,7 @@ use Rattle.model.specs.RegistryLaws.{
   path-proper,
   found,
   makes-longer,
-  path-made,
+  path-longer,
   again-root,
   again-child,
   child-after,
@@ -86,8 +86,8 @@ module _ (mark : NodeId → DependencyPathEntry → Bool) (reg : PropertyPathReg
   abbrev childOfReached : Reached
   childOfReached = getOrCreatePropertyEntry reg q (withOptional e o)
 
-  stepped-is : (before : ℕ) → stepped before ≡ madeBefore before childOfReached
-  stepped-is before = ap (λ b. madeBefore before (getOrCreatePropertyEntry reg q (withOptional e b))) (sym own)
+  stepped-is : (before : ℕ) → stepped before ≡ afterMaking before childOfReached
+  stepped-is before = ap (λ b. afterMaking before (getOrCreatePropertyEntry reg q (withOptional e b))) (sym own)
 
   -- the parent is where it was and the mark stays: the node is found
   pub step-same : (before : ℕ) → ChildAt reg p e k → q .0 ≡ p .0 → o ≡ e .optional → stepped before ≡ record { registry = reg; node = k; made = before }
@@ -96,7 +96,7 @@ module _ (mark : NodeId → DependencyPathEntry → Bool) (reg : PropertyPathReg
       ap (λ b. getOrCreatePropertyEntry reg q (withOptional e b)) kept
       ∙ ap (λ (i : ℕ). getOrCreatePropertyEntry reg (record { 0 = i }) e) here ∙ found (isChildBy p e) (childNode p (fullPathOf reg p) e) reg k
       (c .inside) (c .first) in
-      stepped-is before ∙ ap (madeBefore before) there ∙ (λ i. record { registry = reg; node = k; made = add-zero before i })
+      stepped-is before ∙ ap (afterMaking before) there ∙ (λ i. record { registry = reg; node = k; made = add-zero before i })
 
   -- there is no room for the child
   pub step-full : (before : ℕ) → nodeLimit < length (childOfReached .registry) → nodeLimit < length (stepped before .registry)
@@ -105,12 +105,12 @@ module _ (mark : NodeId → DependencyPathEntry → Bool) (reg : PropertyPathReg
   -- the child is found or made
   module _ (ws : List ℕ) (r : NodeId) (new : ℕ) (is : childOfReached ≡ record { registry = registryOf ws; node = r; made = new }) where
     pub step-made : (before : ℕ) → stepped before ≡ record { registry = registryOf ws; node = r; made = before + new }
-    step-made before = stepped-is before ∙ ap (madeBefore before) is
+    step-made before = stepped-is before ∙ ap (afterMaking before) is
 
     pub step-fits : (before : ℕ) → before ≤ length reg → before + new ≤ countIn ws
     step-fits before few =
         let longer = subst (λ (y : Reached). length (y .registry) ≡ length reg + y .made) is
-        (makes-longer (isChildBy q (withOptional e o)) (childNode q (fullPathOf reg q) (withOptional e o)) reg) in
+        (makes-longer (isChildBy q (withOptional e o)) (childNode q (fullPathOf reg q) (withOptional e o)) reg .0) in
         let size = registry-length ws in
         omega arith
 
@@ -165,7 +165,7 @@ module _ (mark : NodeId → DependencyPathEntry → Bool) {ws : List ℕ} {k : N
       pub walked-made : made ≤ countIn vs
       walked-made =
           let size = registry-length vs in
-          let longer = subst (λ (y : Reached). length (y .registry) ≡ length reg + y .made) walked (path-made mark reg (fullPathOf reg p)) in
+          let longer = subst (λ (y : Reached). length (y .registry) ≡ length reg + y .made) walked (path-longer mark reg (fullPathOf reg p)) in
           omega arith
 
       pub child-still : ChildAt (registryOf vs) p e k
@@ -202,7 +202,7 @@ module _ (mark : NodeId → DependencyPathEntry → Bool) {ws : List ℕ} {k : N
         × (mark p e ≡ e .optional)
     back-parent back = go (found-or-made wanted new (again p .registry))
       where
-        to : madeBefore (again p .made) (findOrMake wanted new (again p .registry)) ≡ record { registry = reg; node = k; made = 0 }
+        to : afterMaking (again p .made) (findOrMake wanted new (again p .registry)) ≡ record { registry = reg; node = k; made = 0 }
         to = sym on ∙ back
 
         go : WasFound wanted new (again p .registry) ⊎ WasMade wanted new (again p .registry)

@@ -50,12 +50,12 @@ fn step(
     p: NodeId,
     e: DependencyPathEntry,
     q: NodeId,
-    before: usize,
+    earlier: usize,
 ) -> NodeEntered
     requires { ⌜ Held (now ws) (now optional) × (q .0 < countIn (now ws)) × ChildAt (registryOf (now ws)) p e k
-        × (before ≤ countIn (now ws)) ⌝ }
+        × (earlier ≤ countIn (now ws)) ⌝ }
     ensures { λ r. ⌜ Arrives (stepFrom (reducedMark (membersOf (set .words)))
-        (record { registry = registryOf (now (ws .entry)); node = q; made = before }) e) r (now (ws .exit)) (now (optional .exit)) ⌝ }
+        (record { registry = registryOf (now (ws .entry)); node = q; made = earlier }) e) r (now (ws .exit)) (now (optional .exit)) ⌝ }
 {
     let property = e.property;
     let marked = e.optional;
@@ -63,7 +63,7 @@ fn step(
     let kept = reduced_mark(set, q, e);
     if q.0 == p.0 {
         if kept == marked {
-            return NodeEntered::At(k, before);
+            return NodeEntered::At(k, earlier);
         }
     }
     let child = get_or_create_property_entry(
@@ -79,7 +79,7 @@ fn step(
     let NodeEntered::At(reached, new) = child else {
         return NodeEntered::Full;
     };
-    let made = before + new;
+    let made = earlier + new;
     NodeEntered::At(reached, made)
 }
 

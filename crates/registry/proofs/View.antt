@@ -17,7 +17,7 @@ use Rattle.model.specs.RegistryLaws.{found-or-made, WasFound, WasMade, StandsAt
 use Rattle.model.specs.RegistryLaws as Placed
 use Rattle.registry.specs.declared.Node.{Node}
 use Rattle.registry.specs.declared.Node.the-variants.{Root, Child}
-use Rattle.registry.specs.Nodes.{sameKey, findNode, originOf, nodeOver, nodesOver, registryFrom, testFor, madeFor, Inside}
+use Rattle.registry.specs.Nodes.{sameKey, findNode, originOf, nodeOver, nodesOver, registryFrom, testFor, reachedFor, Inside}
 use Rattle.registry.specs.Words.{ParentFits, storedNode, countIn, nodesOf, registryOf}
 use Rattle.registry.proofs.Stored.{nodesOf-length, nodesOf-at}
 
@@ -120,25 +120,25 @@ found-at ws k n h l t =
 
 module _ (ws : List ℕ) (n : Node) where
   pub made-found : findNode (nodesOf ws) n < countIn ws
-      → madeFor (registryOf ws) n ≡ record { registry = registryOf ws; node = record { 0 = findNode (nodesOf ws) n }; made = 0 }
+      → reachedFor (registryOf ws) n ≡ record { registry = registryOf ws; node = record { 0 = findNode (nodesOf ws) n }; made = 0 }
   made-found l = go (found-or-made (testFor n) (nodeOver (registryOf ws) n) (registryOf ws))
     where
       go : WasFound (testFor n) (nodeOver (registryOf ws) n) (registryOf ws) ⊎ WasMade (testFor n) (nodeOver (registryOf ws) n) (registryOf ws)
-          → madeFor (registryOf ws) n ≡ record { registry = registryOf ws; node = record { 0 = findNode (nodesOf ws) n }; made = 0 }
+          → reachedFor (registryOf ws) n ≡ record { registry = registryOf ws; node = record { 0 = findNode (nodesOf ws) n }; made = 0 }
       go (inl f) = λ i. record { registry = f .same i; node = record { 0 = find-view ws n i }; made = f .none i }
       go (inr m) = absurd (let a = m .last in let b = find-view ws n in let c = registry-length ws in omega arith)
 
   pub made-new : countIn ws ≤ findNode (nodesOf ws) n
-      → madeFor (registryOf ws) n ≡ record { registry = registryOf ws ++ (nodeOver (registryOf ws) n ∷ []); node = record { 0 = countIn ws }; made = 1 }
+      → reachedFor (registryOf ws) n ≡ record { registry = registryOf ws ++ (nodeOver (registryOf ws) n ∷ []); node = record { 0 = countIn ws }; made = 1 }
   made-new l = go (found-or-made (testFor n) (nodeOver (registryOf ws) n) (registryOf ws))
     where
       go : WasFound (testFor n) (nodeOver (registryOf ws) n) (registryOf ws) ⊎ WasMade (testFor n) (nodeOver (registryOf ws) n) (registryOf ws)
-          → madeFor (registryOf ws) n ≡ record { registry = registryOf ws ++ (nodeOver (registryOf ws) n ∷ []); node = record { 0 = countIn ws }; made = 1 }
+          → reachedFor (registryOf ws) n ≡ record { registry = registryOf ws ++ (nodeOver (registryOf ws) n ∷ []); node = record { 0 = countIn ws }; made = 1 }
       go (inl f) = absurd (let a = f .inside in let b = find-view ws n in let c = registry-length ws in omega arith)
       go (inr m) = λ i. record { registry = m .appended i; node = record { 0 = (m .last ∙ registry-length ws) i }; made = m .one i }
 
   -- no room for it: the model's registry would pass the limit
-  pub made-full : countIn ws ≤ findNode (nodesOf ws) n → nodeLimit ≤ countIn ws → nodeLimit < length (madeFor (registryOf ws) n .registry)
+  pub made-full : countIn ws ≤ findNode (nodesOf ws) n → nodeLimit ≤ countIn ws → nodeLimit < length (reachedFor (registryOf ws) n .registry)
   made-full l f =
       let a = ap (λ (r : Reached). length (r .registry)) (made-new l) in
       let b = length-append (registryOf ws) (nodeOver (registryOf ws) n ∷ []) in
@@ -147,22 +147,22 @@ module _ (ws : List ℕ) (n : Node) where
 
 -- The same, as the code knows it: by the number k that was found and the count e.
 module _ (ws : List ℕ) (n : Node) (k e : ℕ) (found : k ≡ findNode (nodesOf ws) n) (counted : e ≡ countIn ws) where
-  pub arrived-found : k < e → madeFor (registryOf ws) n ≡ record { registry = registryOf ws; node = record { 0 = k }; made = 0 }
+  pub arrived-found : k < e → reachedFor (registryOf ws) n ≡ record { registry = registryOf ws; node = record { 0 = k }; made = 0 }
   arrived-found l = rw found (made-found ws n (omega arith))
 
   pub arrived-new : (vs : List ℕ) → e ≤ k → nodesOf vs ≡ nodesOf ws ++ (n ∷ [])
-      → madeFor (registryOf ws) n ≡ record { registry = registryOf vs; node = record { 0 = e }; made = 1 }
+      → reachedFor (registryOf ws) n ≡ record { registry = registryOf vs; node = record { 0 = e }; made = 1 }
   arrived-new vs l h = rw (counted, registry-snoc ws vs n h) (made-new ws n (omega arith))
 
-  pub arrived-full : e ≤ k → nodeLimit ≤ e → nodeLimit < length (madeFor (registryOf ws) n .registry)
+  pub arrived-full : e ≤ k → nodeLimit ≤ e → nodeLimit < length (reachedFor (registryOf ws) n .registry)
   arrived-full l f = made-full ws n (omega arith) (omega arith)
 
 -- a sound registry stays sound
 pub arrived-sound : (ws vs : List ℕ) (n : Node) (k : NodeId) (m : ℕ) → Sound (registryOf ws) → Inside n (countIn ws)
-    → madeFor (registryOf ws) n ≡ record { registry = registryOf vs; node = k; made = m } → Sound (registryOf vs)
+    → reachedFor (registryOf ws) n ≡ record { registry = registryOf vs; node = k; made = m } → Sound (registryOf vs)
 arrived-sound ws vs n k m h inside e = subst (λ (x : Reached). Sound (x .registry)) e (go n (subst (Inside n) (sym (registry-length ws)) inside))
   where
-    go : (m : Node) → Inside m (length (registryOf ws)) → Sound (madeFor (registryOf ws) m .registry)
+    go : (m : Node) → Inside m (length (registryOf ws)) → Sound (reachedFor (registryOf ws) m .registry)
     go (Root i r s) l = root-reached (registryOf ws) i r s h .proper .sound
     go (Child p f) l = child-reached (registryOf ws) p f h l .proper .sound
 

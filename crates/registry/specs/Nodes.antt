@@ -60,8 +60,8 @@ testFor (Root i r s) = isRootFor i
 testFor (Child p e) = isChildBy p e
 
 -- the model's finding or making of a node
-abbrev pub madeFor : PropertyPathRegistry → Node → Reached
-madeFor reg n = findOrMake (testFor n) (nodeOver reg n) reg
+abbrev pub reachedFor : PropertyPathRegistry → Node → Reached
+reachedFor reg n = findOrMake (testFor n) (nodeOver reg n) reg
 
 -- a parent is one of n nodes
 abbrev pub Inside : Node → ℕ → Type 0

@@ -11,7 +11,7 @@ ghost use Rattle.model.specs.Answer.{flag};
 ghost use mathlib.Core.List.{_++_, _∷_, []};
 ghost use Rattle.registry.specs.declared.Node.the-variants.{Root, Child};
 ghost use Rattle.rows.specs.Members.{membersOf};
-ghost use Rattle.registry.specs.Nodes.{sameKey, bucketOf, findNode, madeFor, Inside, optionalOver, notedWith};
+ghost use Rattle.registry.specs.Nodes.{sameKey, bucketOf, findNode, reachedFor, Inside, optionalOver, notedWith};
 ghost use Rattle.registry.specs.Words.{
   valueIn,
   spanIn,
@@ -277,7 +277,7 @@ fn note(optional: &mut [u64; 8], n: Node, k: NodeId)
 // The node with the key of n, made where there is none.
 fn find_or_make(ws: &mut [u64; 1665], optional: &mut [u64; 8], n: Node) -> NodeEntered
     requires { ⌜ Held (now ws) (now optional) × Inside n (countIn (now ws)) ⌝ }
-    ensures { λ r. ⌜ Arrives (madeFor (registryOf (now (ws .entry))) n) r (now (ws .exit)) (now (optional .exit)) ⌝ }
+    ensures { λ r. ⌜ Arrives (reachedFor (registryOf (now (ws .entry))) n) r (now (ws .exit)) (now (optional .exit)) ⌝ }
 {
     let k = find(ws, n);
     let end = count(ws);

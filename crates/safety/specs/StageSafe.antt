@@ -12,7 +12,19 @@ use Rattle.model.specs.Registry.{PropertyPathRegistry, ownMark, getOrCreateProp
 use Rattle.model.specs.Propagation.{Work, JoiningRule, setOf, roundStart, doneNeighbours, propagateNonNull}
 use Rattle.model.specs.Strict.{strictNeighbours}
 use Rattle.model.specs.Job.{Block, Job}
-use Rattle.model.specs.Stage.{blockAt, placeOf, graphOf, enterPaths, enterBlock, enterBlocks, propagated, hoistablePaths}
+use Rattle.model.specs.Stage.{
+  blockAt,
+  placeOf,
+  graphOf,
+  PathsEntered,
+  enterPath,
+  enterPaths,
+  noneEntered,
+  enterBlock,
+  enterBlocks,
+  propagated,
+  hoistablePaths,
+}
 use Rattle.model.specs.ListLaws.{All, all-map}
 use Rattle.model.specs.SetLaws.{insert-all}
 use Rattle.model.specs.RegistryLaws.{Sound, sound-empty, path-proper, path-extends}
@@ -27,16 +39,15 @@ use Rattle.laws.specs.GraphLaws.{ProperBlocks}
 use Rattle.safety.specs.RunLaws.{no-loop-back, no-loop-onward, OnRun, back, onward, on-via}
 
 module _ {X : Type 0} (S : Store X) where
-  paths-safe : (reg : PropertyPathRegistry) (s : NodeSet) (ds : List ReactiveScopeDependency) → Sound reg → NonNullSet S reg s → All
-      (NonNull S) ds
-      → NonNullSet S (enterPaths reg s ds .registry) (enterPaths reg s ds .set)
+  paths-safe : (e : PathsEntered) (ds : List ReactiveScopeDependency) → Sound (e .registry) → NonNullSet S (e .registry) (e .set)
+      → All (NonNull S) ds → NonNullSet S (enterPaths e ds .registry) (enterPaths e ds .set)
   unfolding getOrCreateProperty
-  paths-safe reg s [] h a p = a
-  paths-safe reg s (d ∷ ds) h a p =
-      let at = getOrCreateProperty reg d in
-      paths-safe (at .registry) (insert (at .node) s) ds (path-proper ownMark reg d h .sound)
-      (insert-all (NonNullNode S (at .registry)) (at .node) s (path-safe S ownMark reg d h (p .0))
-      (set-extends S s (path-extends ownMark reg d) a)) (p .1)
+  paths-safe e [] h a p = a
+  paths-safe e (d ∷ ds) h a p =
+      let at = getOrCreateProperty (e .registry) d in
+      paths-safe (enterPath e d) ds (path-proper ownMark (e .registry) d h .sound)
+      (insert-all (NonNullNode S (at .registry)) (at .node) (e .set) (path-safe S ownMark (e .registry) d h (p .0))
+      (set-extends S (e .set) (path-extends ownMark (e .registry) d) a)) (p .1)
 
   -- the set of a block whose assumed paths hold
   blocks-safe : (reg : PropertyPathRegistry) (bs : List Block) (c : ℕ) → Sound reg → All (NonNull S) (blockAt bs c .assumed)
@@ -45,10 +56,10 @@ module _ {X : Type 0} (S : Store X) where
   blocks-safe reg [] c h p = tt
   blocks-safe reg (b ∷ bs) zero h p =
       let e = enterBlock reg b in
-      let first = paths-filled reg [] (b .assumed) h (members-empty reg) in
-      set-extends S (e .set) (blocks-begun (e .registry) bs (first .sound) .extends) (paths-safe reg [] (b .assumed) h tt p)
+      let first = paths-filled (noneEntered reg) (b .assumed) h (members-empty reg) in
+      set-extends S (e .set) (blocks-begun (e .registry) bs (first .sound) .extends) (paths-safe (noneEntered reg) (b .assumed) h tt p)
   blocks-safe reg (b ∷ bs) (suc c) h p = blocks-safe (enterBlock reg b .registry) bs c
-      (paths-filled reg [] (b .assumed) h (members-empty reg) .sound) p
+      (paths-filled (noneEntered reg) (b .assumed) h (members-empty reg) .sound) p
 
   -- under any rule under which propagation keeps the run's sets non-nullish
   module _ (rule : JoiningRule) (j : Job) (ok : ProperBlocks (j .blocks)) (s : List Block) (run : Run j s) (assumed : AssumedHold S s) where

@@ -24,7 +24,7 @@ rootOf d = record { identifier = d .identifier; reactive = d .reactive }
 -- "SH, nodes u16, blocks u16, rounds u8, settled u8", and "a u16 at its end: nodes present before
 -- the first round" (E4)
 abbrev pub headBytes : ℕ → ℕ → ℕ → Bool → ℕ → List ℕ
-headBytes nodes blocks rounds settled entered = u16 SH ++ u16 nodes ++ u16 blocks ++ u8 rounds ++ u8 (flag settled) ++ u16 entered
+headBytes nodes blocks rounds settled nodesBefore = u16 SH ++ u16 nodes ++ u16 blocks ++ u8 rounds ++ u8 (flag settled) ++ u16 nodesBefore
 
 -- "Per block .. SE, id u32, 64 bytes where node k is bit k mod 8 of byte k div 8"
 abbrev pub setRecord : BlockId → NodeSet → List ℕ
@@ -36,8 +36,9 @@ setRecords numbers rows b zero = []
 setRecords numbers rows b (suc n) = setRecord (blockId (getD numbers b 0)) (rowOf rows b) ++ setRecords numbers rows (suc b) n
 
 -- The job has n blocks, whose ids have these numbers; the work p has the registry and the sets that
--- the words hold, after so many rounds, settled or not; and the start has so many nodes.
-pub record HoldsPropagated (ws rows numbers : List ℕ) (n ran : ℕ) (last : Bool) (entered : ℕ) (j : Job) (start : Started)
+-- the words hold, after so many rounds, settled or not; and so many nodes were there before the
+-- first round.
+pub record HoldsPropagated (ws rows numbers : List ℕ) (n ran : ℕ) (last : Bool) (nodesBefore : ℕ) (j : Job) (start : Started)
     (p : Rounds Work) : Type 0 where
   pub count : length (j .blocks) ≡ n
   pub ids : map blockId (take n numbers) ≡ idsOf (j .blocks)
@@ -45,10 +46,10 @@ pub record HoldsPropagated (ws rows numbers : List ℕ) (n ran : ℕ) (last : Bo
   pub sets : p .work .sets ≡ rowsOf rows n
   pub rounds : p .rounds ≡ ran
   pub settled : p .settled ≡ last
-  pub before : length (start .registry) ≡ entered
+  pub present : length (start .registry) ≡ nodesBefore
 
 -- The sheet of that job stands in the buffer from its start on.
 abbrev pub WritesSheet : List ℕ → List ℕ → List ℕ → ℕ → ℕ → Bool → ℕ → List ℕ → List ℕ → ℕ → Type 0
-WritesSheet ws sets ids blocks rounds settled entered before after next =
-    (j : Job) (start : Started) (p : Rounds Work) → HoldsPropagated ws sets ids blocks rounds settled entered j start p
+WritesSheet ws sets ids blocks rounds settled nodesBefore before after next =
+    (j : Job) (start : Started) (p : Rounds Work) → HoldsPropagated ws sets ids blocks rounds settled nodesBefore j start p
     → Writes before after 0 (sheetBytes spanWidth j start p) next

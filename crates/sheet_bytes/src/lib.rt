@@ -156,25 +156,24 @@ fn put_blocks(
     at
 }
 
-// What stands before the nodes, at its end how many of them were made by entering the assumed
-// paths.
+// The head; at its end how many nodes were there before the first round.
 fn put_head(
     out: &mut [u8],
     nodes: usize,
     blocks: usize,
     rounds: u8,
     settled: bool,
-    entered: usize,
+    present: usize,
 ) -> usize
     requires { ⌜ 10 ≤ length (now out) ⌝ }
-    ensures { λ r. ⌜ Writes (now (out .entry)) (now (out .exit)) 0 (headBytes nodes blocks rounds settled entered) r ⌝ }
+    ensures { λ r. ⌜ Writes (now (out .entry)) (now (out .exit)) 0 (headBytes nodes blocks rounds settled present) r ⌝ }
 {
     let nodes_at = put_number(out, 0, 2, SH);
     let blocks_at = put_number(out, nodes_at, 2, nodes as u64);
     let rounds_at = put_number(out, blocks_at, 2, blocks as u64);
     let settled_at = put_number(out, rounds_at, 1, rounds as u64);
-    let entered_at = put_number(out, settled_at, 1, flag(settled));
-    put_number(out, entered_at, 2, entered as u64)
+    let present_at = put_number(out, settled_at, 1, flag(settled));
+    put_number(out, present_at, 2, present as u64)
 }
 
 // The whole sheet, from the buffer's start on.
@@ -185,14 +184,14 @@ pub fn put_sheet(
     blocks: usize,
     rounds: u8,
     settled: bool,
-    entered: usize,
+    present: usize,
     out: &mut [u8],
 ) -> usize
     requires { ⌜ HoldsRegistry (now ws) × (blocks ≤ 128) × (leastBuffer ≤ length (now out)) ⌝ }
-    ensures { λ r. ⌜ WritesSheet (now (ws .entry)) (now (sets .entry)) (now (ids .entry)) blocks rounds settled entered
+    ensures { λ r. ⌜ WritesSheet (now (ws .entry)) (now (sets .entry)) (now (ids .entry)) blocks rounds settled present
         (now (out .entry)) (now (out .exit)) r ⌝ }
 {
-    let nodes_at = put_head(out, registry::count(ws), blocks, rounds, settled, entered);
+    let nodes_at = put_head(out, registry::count(ws), blocks, rounds, settled, present);
     let blocks_at = put_nodes(ws, out, nodes_at);
     put_blocks(sets, ids, blocks, out, blocks_at)
 }

@@ -1,6 +1,6 @@
 -- The propagation of a job: its assumed paths entered and its graph filled are what the definition
 -- starts from.
-use Prim.Native.Nat.{ℕ, _≤_, _<_}
+use Prim.Native.Nat.{ℕ, _+_, _≤_, _<_}
 use native.Mathlib.Omega.{arith}
 use mathlib.Core.Path.{_≡_, refl, sym, ap, subst, _∙_}
 use mathlib.Core.Bool.{true, false}
@@ -13,7 +13,7 @@ use Rattle.model.specs.RegistryLaws.{extends-length}
 use Rattle.model.specs.ReductionLaws.{Members}
 use Rattle.model.specs.Rounds.{Rounds}
 use Rattle.model.specs.Propagation.{Work, Graph, JoiningRule, propagateNonNull, roundStart}
-use Rattle.model.specs.PropagationLaws.{propagated-extends, start-proper}
+use Rattle.model.specs.PropagationLaws.{propagated-extends, blocks-longer, start-proper}
 use Rattle.model.specs.Job.{Block}
 use Rattle.model.specs.Stage.{Started, graphOf, enterBlocks, propagated}
 use Rattle.rows.specs.Rows.{rowsOf}
@@ -76,7 +76,7 @@ module _ {bs : List Block} {n : ℕ} {ws os sets g : List ℕ} (count : length b
 
 -- the answer of `enter_blocks` by its case
 module _ (want : Started) (n : ℕ) (r : BlocksEntered) (ws os sets : List ℕ) (h : Starts want n r ws os sets) where
-  pub entered-all : (made : ℕ) → r ≡ entered.All made → StartHeld want n ws os sets × (made ≡ length (want .registry))
+  pub entered-all : (made : ℕ) → r ≡ entered.All made → StartHeld want n ws os sets × (made ≡ want .made)
   entered-all made e = subst (λ q. Starts want n q ws os sets) e h
 
   pub entered-full : r ≡ entered.Full → nodeLimit < length (want .registry)
@@ -91,6 +91,10 @@ module _ {s ids places : List ℕ} {n : ℕ} (noted : NotedJob s ids places n) w
       → Propagates (propagated rule (noted .job .blocks)) n r sets ws os
   job-propagated rule r sets ws os = subst (λ (bs : List Block). Propagates (propagated rule bs) n r sets ws os) (blocks-read (noted .job) (noted .blocks))
 
-  -- what entering made is what the job's start has
-  pub job-entered : (made : ℕ) → made ≡ length (enterBlocks [] (blocksOf s) .registry) → length (enterBlocks [] (noted .job .blocks) .registry) ≡ made
-  job-entered made e = ap (λ (bs : List Block). length (enterBlocks [] bs .registry)) (sym (blocks-read (noted .job) (noted .blocks))) ∙ sym e
+  -- what entering made is what is there before the first round
+  pub job-entered : (made : ℕ) → made ≡ enterBlocks [] (blocksOf s) .made → length (enterBlocks [] (noted .job .blocks) .registry) ≡ made
+  job-entered made e =
+      let bs = noted .job .blocks in
+      let same = ap (λ (bs : List Block). enterBlocks [] bs .made) (blocks-read (noted .job) (noted .blocks)) in
+      let all : length (enterBlocks [] bs .registry) ≡ 0 + enterBlocks [] bs .made = blocks-longer [] bs in
+      omega arith

@@ -95,8 +95,7 @@ fn put_answer(
     )
 }
 
-// The bytes of the operation, from the buffer's start on; `entered` is how many nodes entering the
-// assumed paths made.
+// The bytes of the operation, from the buffer's start on.
 fn put(
     operation: Operation,
     s: &[u8],
@@ -105,13 +104,13 @@ fn put(
     head: JobHead,
     ws: &[u64; 1665],
     sets: &[u64; 1024],
-    entered: usize,
+    present: usize,
     run: RoundsRun,
     out: &mut [u8],
 ) -> usize
     requires { ⌜ AcceptedJob (now s) (now ids) (now places) head × Standing (head .blocks) (now sets) (now ws) × (run .rounds < 256)
         × (leastBuffer ≤ length (now out)) ⌝ }
-    ensures { λ r. ⌜ PutsJob operation (now (s .entry)) head (now (sets .entry)) (now (ws .entry)) entered run (now (out .entry))
+    ensures { λ r. ⌜ PutsJob operation (now (s .entry)) head (now (sets .entry)) (now (ws .entry)) present run (now (out .entry))
         (now (out .exit)) r ⌝ }
 {
     match operation {
@@ -123,7 +122,7 @@ fn put(
             head.blocks,
             run.rounds as u8,
             run.settled,
-            entered,
+            present,
             out,
         ),
     }

@@ -125,20 +125,20 @@ module _ (head w : ℕ) (m : head < 256 ^ 2) (job o t : List ℕ) (bytes : All (
 
   -- an operation that writes the same of a thin job as of the job does the same with what was
   -- written
-  pub same-verdict : (rule : JoiningRule) (made : Writing)
-      → ((j : Job) (start : Started) (p : Rounds Work) → made w (thinned j) start p ≡ made w j start p)
-      → (out : List ℕ) → verdict head w rule made t out ≡ verdict head w rule made job out
+  pub same-verdict : (rule : JoiningRule) (writing : Writing)
+      → ((j : Job) (start : Started) (p : Rounds Work) → writing w (thinned j) start p ≡ writing w j start p)
+      → (out : List ℕ) → verdict head w rule writing t out ≡ verdict head w rule writing job out
   unfolding verdict thinned
-  same-verdict rule made same out =
+  same-verdict rule writing same out =
       let j = written .j in
       let p = propagated rule (j .blocks) in
       let short = within .short in
-      let on : onJob rule (made w) (readJob head w t) ≡ onJob rule (made w) (readJob head w job)
-      = ap (onJob rule (made w)) reads-thin
-      ∙ ap (λ (q : Rounds Work). withinNodes q (made w (thinned j) (enterBlocks [] (thinned j .blocks)) q))
+      let on : onJob rule (writing w) (readJob head w t) ≡ onJob rule (writing w) (readJob head w job)
+      = ap (onJob rule (writing w)) reads-thin
+      ∙ ap (λ (q : Rounds Work). withinNodes q (writing w (thinned j) (enterBlocks [] (thinned j .blocks)) q))
       (propagated-thinned rule (j .blocks))
-      ∙ ap (λ (start : Started). withinNodes p (made w (thinned j) start p)) (blocks-thinned [] (j .blocks))
-      ∙ ap (withinNodes p) (same j (enterBlocks [] (j .blocks)) p) ∙ ap (onJob rule (made w)) (sym (written .reads)) in
+      ∙ ap (λ (start : Started). withinNodes p (writing w (thinned j) start p)) (blocks-thinned [] (j .blocks))
+      ∙ ap (withinNodes p) (same j (enterBlocks [] (j .blocks)) p) ∙ ap (onJob rule (writing w)) (sym (written .reads)) in
       rw (ltb-not-less longestJob (length t) (omega (arith, thin-no-longer)), ltb-not-less longestJob (length job) short)
       (ap (λ (v : Verdict). cond (ltb (length out) leastBuffer) (turnsBack ShortBuffer) v) on)
 
@@ -153,9 +153,9 @@ module _ (head w : ℕ) (m : head < 256 ^ 2) (job o t : List ℕ) (bytes : All (
 
 -- Refusals.
 
-module _ (head w : ℕ) (rule : JoiningRule) (made : Writing) (r : Refusal) where
+module _ (head w : ℕ) (rule : JoiningRule) (writing : Writing) (r : Refusal) where
   on-turned : (long : Bool) (read : Read Job) → cond long (turnsBack LongJob) (onThinJob head w read) ≡ turnsBack r
-      → cond long (turnsBack LongJob) (onJob rule (made w) read) ≡ turnsBack r
+      → cond long (turnsBack LongJob) (onJob rule (writing w) read) ≡ turnsBack r
   on-turned true read e = e
   on-turned false (got j end) e = absurd (let z : _≡_ {A = ℕ} 0 1 = cc in omega arith)
   on-turned false (refused x) e = e
@@ -167,23 +167,23 @@ module _ (head w : ℕ) (rule : JoiningRule) (made : Writing) (r : Refusal) wher
       (λ b. let f : writes bytes ≡ turnsBack r = rw b at e in cc)
 
   on-turned-back : (r ≡ ManyNodes → ⊥) → (long : Bool) (read : Read Job)
-      → cond long (turnsBack LongJob) (onJob rule (made w) read) ≡ turnsBack r
+      → cond long (turnsBack LongJob) (onJob rule (writing w) read) ≡ turnsBack r
       → cond long (turnsBack LongJob) (onThinJob head w read) ≡ turnsBack r
   on-turned-back other true read e = e
   on-turned-back other false (got j end) e =
       let p = propagated rule (j .blocks) in
-      absurd (other (turned-nodes p (made w j (enterBlocks [] (j .blocks)) p) e))
+      absurd (other (turned-nodes p (writing w j (enterBlocks [] (j .blocks)) p) e))
   on-turned-back other false (refused x) e = e
 
   module _ (job o out : List ℕ) (wide : leastThinBuffer ≤ length o) (roomy : leastBuffer ≤ length out) where
     -- what the thin writer turns back, an operation turns back
-    pub thin-turned : thinVerdict head w job o ≡ turnsBack r → verdict head w rule made job out ≡ turnsBack r
+    pub thin-turned : thinVerdict head w job o ≡ turnsBack r → verdict head w rule writing job out ≡ turnsBack r
     unfolding thinVerdict verdict
     thin-turned e = rw (ltb-not-less (length out) leastBuffer roomy) (on-turned (ltb longestJob (length job)) (readJob head w job)
         (rw (ltb-not-less (length o) leastThinBuffer wide) at e))
 
     -- and the reverse, but for 9
-    pub turned-thin : (r ≡ ManyNodes → ⊥) → verdict head w rule made job out ≡ turnsBack r → thinVerdict head w job o ≡ turnsBack r
+    pub turned-thin : (r ≡ ManyNodes → ⊥) → verdict head w rule writing job out ≡ turnsBack r → thinVerdict head w job o ≡ turnsBack r
     unfolding thinVerdict verdict
     turned-thin other e = rw (ltb-not-less (length o) leastThinBuffer wide)
         (on-turned-back other (ltb longestJob (length job)) (readJob head w job) (rw (ltb-not-less (length out) leastBuffer roomy) at e))
@@ -228,11 +228,11 @@ taken (turnsBack r) a back not-nine (inl w) =
 taken (turnsBack r) a back not-nine (inr nine) = absurd (not-nine (sym (back r refl) ∙ nine))
 
 -- the thin writer takes what an operation takes or turns back by 9
-pub thin-takes : (head w : ℕ) (rule : JoiningRule) (made : Writing) (job o out : List ℕ)
-    → leastThinBuffer ≤ length o → leastBuffer ≤ length out → PassedEight (verdict head w rule made job out)
+pub thin-takes : (head w : ℕ) (rule : JoiningRule) (writing : Writing) (job o out : List ℕ)
+    → leastThinBuffer ≤ length o → leastBuffer ≤ length out → PassedEight (verdict head w rule writing job out)
     → (t : List ℕ) × (thinVerdict head w job o ≡ writes t)
-thin-takes head w rule made job o out wide roomy = taken (thinVerdict head w job o) (verdict head w rule made job out)
-    (λ r. thin-turned head w rule made r job o out wide roomy) (never-nine-verdict head w job o)
+thin-takes head w rule writing job o out wide roomy = taken (thinVerdict head w job o) (verdict head w rule writing job out)
+    (λ r. thin-turned head w rule writing r job o out wide roomy) (never-nine-verdict head w job o)
 
 -- With HD as the mark due.
 

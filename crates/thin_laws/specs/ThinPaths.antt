@@ -1,7 +1,7 @@
 -- The stage makes the same of a thin job: its blocks give the same registry, sets and graph, so
 -- that propagation is the same; its candidates give the same returned paths; and the bytes of the
 -- answer and of the sheet are the same.
-use Prim.Native.Nat.{ℕ, zero, suc}
+use Prim.Native.Nat.{ℕ, zero, suc, _+_}
 use native.Mathlib.Omega.{arith}
 use mathlib.Core.Path.{_≡_, refl, sym, ap, _∙_}
 use mathlib.Core.Bool.{Bool, true, cond}
@@ -43,7 +43,10 @@ use Rattle.model.specs.Stage.{
   successorsOf,
   graphOf,
   PathsEntered,
+  enterPath,
   enterPaths,
+  noneEntered,
+  enterBlock,
   Started,
   enterBlocks,
   propagated,
@@ -57,13 +60,9 @@ use Rattle.thin_laws.specs.Repeats.{thinned-fold}
 
 -- Paths entered.
 
--- one path entered
-abbrev enter : PathsEntered → ReactiveScopeDependency → PathsEntered
-enter s d = enterPaths (s .registry) (s .set) (d ∷ [])
-
-enter-each : (s : PathsEntered) (ds : List ReactiveScopeDependency) → enterPaths (s .registry) (s .set) ds ≡ foldl enter s ds
+enter-each : (s : PathsEntered) (ds : List ReactiveScopeDependency) → enterPaths s ds ≡ foldl enterPath s ds
 enter-each s [] = refl
-enter-each s (d ∷ ds) = enter-each (enter s d) ds
+enter-each s (d ∷ ds) = enter-each (enterPath s d) ds
 
 -- a path was entered, and its node is in the set
 record Entered (s : PathsEntered) (d : ReactiveScopeDependency) : Type 0 where
@@ -71,7 +70,7 @@ record Entered (s : PathsEntered) (d : ReactiveScopeDependency) : Type 0 where
   extends : Extends (getOrCreateProperty from d .registry) (s .registry)
   inside : contains (s .set) (getOrCreateProperty from d .node) ≡ true
 
-entered-own : (s : PathsEntered) (d : ReactiveScopeDependency) → Ascending (s .set) → Entered (enter s d) d
+entered-own : (s : PathsEntered) (d : ReactiveScopeDependency) → Ascending (s .set) → Entered (enterPath s d) d
 entered-own s d up =
     let at = getOrCreateProperty (s .registry) d in
     record {
@@ -80,7 +79,7 @@ entered-own s d up =
       inside = rw (contains-inserted (at .node) (at .node) (s .set), eqb-same (at .node .0));
     }
 
-entered-kept : (s : PathsEntered) (d e : ReactiveScopeDependency) → Entered s e → Entered (enter s d) e
+entered-kept : (s : PathsEntered) (d e : ReactiveScopeDependency) → Entered s e → Entered (enterPath s d) e
 unfolding getOrCreateProperty
 entered-kept s d e k =
     let at = getOrCreateProperty (s .registry) d in
@@ -90,16 +89,16 @@ entered-kept s d e k =
       inside = contains-insert (at .node) (getOrCreateProperty (k .from) e .node) (s .set) (k .inside);
     }
 
-entered-again : (s : PathsEntered) (d e : ReactiveScopeDependency) → Ascending (s .set) → Entered s e → samePath e d ≡ true → enter s d ≡ s
+entered-again : (s : PathsEntered) (d e : ReactiveScopeDependency) → Ascending (s .set) → Entered s e → samePath e d ≡ true
+    → enterPath s d ≡ s
 entered-again s d e up k same =
     let first = eqb (e .identifier .0) (d .identifier .0) in
-    enters-nothing (k .from) (s .registry) (s .set) e d [] (and-first first _ same) (and-second first _ same) (k .extends) up (k .inside)
+    enters-nothing (k .from) s e d (and-first first _ same) (and-second first _ same) (k .extends) up (k .inside)
 
-pub enter-thinned : (reg : PropertyPathRegistry) (s : NodeSet) (ds : List ReactiveScopeDependency) → Ascending s
-    → enterPaths reg s (thinnedPaths ds) ≡ enterPaths reg s ds
-enter-thinned reg s ds up =
-    let start : PathsEntered = record { registry = reg; set = s } in
-    enter-each start (thinnedPaths ds) ∙ thinned-fold enter (λ x. Ascending (x .set)) Entered
+pub enter-thinned : (start : PathsEntered) (ds : List ReactiveScopeDependency) → Ascending (start .set)
+    → enterPaths start (thinnedPaths ds) ≡ enterPaths start ds
+enter-thinned start ds up =
+    enter-each start (thinnedPaths ds) ∙ thinned-fold enterPath (λ x. Ascending (x .set)) Entered
     (λ x d h. insert-from zero (getOrCreateProperty (x .registry) d .node) (x .set) (omega arith) h) entered-own entered-kept entered-again
     start ds up ∙ sym (enter-each start ds)
 
@@ -107,9 +106,13 @@ pub blocks-thinned : (reg : PropertyPathRegistry) (bs : List Block) → enterBlo
 unfolding enterBlocks
 blocks-thinned reg [] = refl
 blocks-thinned reg (b ∷ bs) =
-    let e = enterPaths reg [] (b .assumed) in
-    let after : PathsEntered → Started → Started = λ x rest. record { registry = rest .registry; sets = x .set ∷ rest .sets } in
-    ap (λ (x : PathsEntered). after x (enterBlocks (x .registry) (map thinnedBlock bs))) (enter-thinned reg [] (b .assumed) tt)
+    let e = enterBlock reg b in
+    let after : PathsEntered → Started → Started = λ x rest. record {
+      registry = rest .registry;
+      sets = x .set ∷ rest .sets;
+      made = x .made + rest .made;
+    } in
+    ap (λ (x : PathsEntered). after x (enterBlocks (x .registry) (map thinnedBlock bs))) (enter-thinned (noneEntered reg) (b .assumed) tt)
     ∙ ap (after e) (blocks-thinned (e .registry) bs)
 
 -- The graph.

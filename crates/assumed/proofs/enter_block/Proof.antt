@@ -2,12 +2,12 @@
 -- read has all of them.
 use Prim.Native.Nat.{ℕ}
 use mathlib.Core.Path.{_≡_, sym, subst, _∙_}
-use mathlib.Core.List.{List, []}
+use mathlib.Core.List.{List}
 use denote.Ref.{now}
 use borrow.Author.Needs.{needs}
 use Rattle.entries.specs.Path.{ReactiveScopeDependency}
 use Rattle.model.specs.Registry.{PropertyPathRegistry}
-use Rattle.model.specs.Stage.{enterPaths}
+use Rattle.model.specs.Stage.{enterPaths, noneEntered}
 use Rattle.registry.specs.Words.{registryOf}
 use Rattle.fields.specs.Answer.{gotPlace}
 use Rattle.fields.proofs.Reading.{seen}
@@ -22,8 +22,8 @@ use Rattle.assumed.proofs.enter_block.Tie as tie
 
 -- equal paths are entered alike
 fills-as : (reg : PropertyPathRegistry) {ds es : List ReactiveScopeDependency} (r : EnteredSet) (ws os : List ℕ) → ds ≡ es
-    → Fills reg (enterPaths reg [] ds) r ws os → Fills reg (enterPaths reg [] es) r ws os
-fills-as reg r ws os e = subst (λ (ds : List ReactiveScopeDependency). Fills reg (enterPaths reg [] ds) r ws os) e
+    → Fills (enterPaths (noneEntered reg) ds) r ws os → Fills (enterPaths (noneEntered reg) es) r ws os
+fills-as reg r ws os e = subst (λ (ds : List ReactiveScopeDependency). Fills (enterPaths (noneEntered reg) ds) r ws os) e
 
 returns : tie.Need-returns
 returns c =

@@ -1,9 +1,8 @@
 -- The loop's invariant, `Filling`: the paths that are left were read, and what enters them after
 -- those before enters them all. The measure is their number.
 use mathlib.Core.Path.{refl}
-use mathlib.Core.List.{[]}
 use borrow.Author.Needs.{needs}
-use Rattle.model.specs.Stage.{enterPaths}
+use Rattle.model.specs.Stage.{enterPaths, noneEntered}
 use Rattle.registry.specs.Words.{registryOf}
 use Rattle.assumed.specs.Start.{pathsAt}
 use Rattle.assumed.proofs.Filling.{Filling, filling, filling-end, filling-few, first-there, filling-full, node-inside, filling-more}
@@ -12,7 +11,7 @@ use Rattle.assumed.proofs.enter_paths.Tie as tie
 
 abbrev Inv-loop : tie.InvT-loop
 Inv-loop s start count ws₀ optional₀ set₀ made₀ at₀ left₀ ws optional set made at left =
-    Filling (registryOf ws₀) (enterPaths (registryOf ws₀) [] (pathsAt s start count)) s ws optional (set .words) made at left
+    Filling (enterPaths (noneEntered (registryOf ws₀)) (pathsAt s start count)) s ws optional (set .words) made at left
 
 abbrev μ-loop : tie.MeasureT-loop
 μ-loop s start count ws₀ optional₀ set₀ made₀ at₀ left₀ ws optional set made at left = left
