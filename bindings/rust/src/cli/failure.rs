@@ -18,9 +18,9 @@ pub enum Failure {
     Form { place: String, why: String },
     /// The stage turned the job from this place back.
     Refused { place: String, why: Refusal },
-    /// The strict propagation has too many nodes for the job from this place.
+    /// The job from this place has too many nodes.
     #[cfg(feature = "library")]
-    RefusedStrictly { place: String, why: Refusal },
+    ManyNodes { place: String, nodes: super::many_nodes::TooMany },
     /// The second run of the propagation differs from the library's.
     #[cfg(feature = "explain")]
     Mismatch(scope_deps::explain::Mismatch),
@@ -53,9 +53,7 @@ impl fmt::Display for Failure {
             Self::Form { place, why } => write!(f, "{place}: {why}"),
             Self::Refused { place, why } => write!(f, "{place}: {why}"),
             #[cfg(feature = "library")]
-            Self::RefusedStrictly { place, why } => {
-                write!(f, "{place}: {why}, the strict one; without `--strict` there may be fewer")
-            }
+            Self::ManyNodes { place, nodes } => write!(f, "{place}: {}; {nodes}", Refusal::ManyNodes),
             #[cfg(feature = "explain")]
             Self::Mismatch(why) => write!(f, "{why}"),
             Self::BuiltWithout("library") => {

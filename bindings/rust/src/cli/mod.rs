@@ -6,6 +6,8 @@ pub mod failure;
 pub mod help;
 mod hex;
 pub mod input;
+#[cfg(feature = "library")]
+mod many_nodes;
 pub mod options;
 mod output;
 #[cfg(feature = "library")]

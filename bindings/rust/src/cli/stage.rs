@@ -2,6 +2,7 @@
 
 use super::failure::Failure;
 use super::input::Input;
+use super::many_nodes::TooMany;
 use super::options::{Command, Run};
 use scope_deps::{answer, raw, sheet, strict_answer, strict_sheet, Answer, Job, ManyNodes, Refusal, Sheet};
 
@@ -24,7 +25,7 @@ const STRICT: Operations = Operations {
 
 /// What the command makes of the job that was read.
 pub fn made(run: &Run, input: &Input, job: &Job) -> Result<Vec<u8>, Failure> {
-    let refused = |why: Refusal| refused(run, input, why);
+    let refused = |why: Refusal| refused(run, input, job, why);
     let stage = operations(run);
     match run.command {
         Command::Answer if run.bytes => (stage.answer_bytes)(job.as_bytes()).map_err(refused),
@@ -45,11 +46,11 @@ pub fn made(run: &Run, input: &Input, job: &Job) -> Result<Vec<u8>, Failure> {
     }
 }
 
-/// That the stage turned the job back: by which propagation, where that matters.
-fn refused(run: &Run, input: &Input, why: Refusal) -> Failure {
+/// That the stage turned the job back, with what is known of its nodes where they are too many.
+fn refused(run: &Run, input: &Input, job: &Job, why: Refusal) -> Failure {
     let place = input.place.clone();
     match why {
-        Refusal::ManyNodes if run.strict => Failure::RefusedStrictly { place, why },
+        Refusal::ManyNodes => Failure::ManyNodes { place, nodes: TooMany::new(job, run.strict) },
         why => Failure::Refused { place, why },
     }
 }
@@ -85,7 +86,7 @@ fn asked(
     job: &Job,
     make: impl Fn(&Run, &Job, &Sheet, &Answer) -> Result<String, Failure>,
 ) -> Result<Vec<u8>, Failure> {
-    let refused = |why: ManyNodes| refused(run, input, why.into());
+    let refused = |why: ManyNodes| refused(run, input, job, why.into());
     let stage = operations(run);
     let (sheet, answer) = ((stage.sheet)(job).map_err(refused)?, (stage.answer)(job).map_err(refused)?);
     make(run, job, &sheet, &answer).map(String::into_bytes)

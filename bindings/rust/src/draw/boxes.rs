@@ -114,7 +114,7 @@ impl Row {
         let pieces = match paths.iter().filter(|path| path.is_added).count() {
             0 => vec![("label", more)],
             // Not every program shows a usual blank between two pieces.
-            added => vec![("label", more + ",\u{a0}"), ("added", format!("{added} added"))],
+            added => vec![("label", more + ",\u{a0}"), ("added", format!("{added} of them added"))],
         };
         Self { label: "", pieces, full: shown::all(paths) }
     }

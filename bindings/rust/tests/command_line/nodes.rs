@@ -1,6 +1,6 @@
 //! What the tool says of the nodes before the first round, and of those that reduction added.
 
-use crate::text;
+use crate::{message, text};
 
 const JOB: &str = "name 1 athlete name .10 lastSession scope 1 block 0 assumes athlete
     block 1 after 0 assumes athlete?.lastSession candidate athlete.lastSession.11";
@@ -59,5 +59,53 @@ fn a_picture_has_them_under_its_title() {
             "{words:?}"
         );
         assert!(picture.contains("<tspan class=\"added\">+athlete.lastSession</tspan>"), "{words:?}");
+    }
+}
+
+/// Paths for one block, with 360 nodes before the first round, to which reduction adds 240.
+fn too_many() -> String {
+    (0..120).map(|variable| format!(" assumes {variable}, {variable}?.10?.11")).collect()
+}
+
+#[test]
+fn a_message_on_too_many_nodes_has_those_before_the_first_round() {
+    let refusal = "refusal 9, ManyNodes: the registry has more than 512 nodes when propagation ends";
+    let nodes = "360 of them before the first round, the others added by reduction";
+    let [plain, other] = ["", " after 0"].map(|after| format!("scope 0 block 0{after}{}", too_many()));
+    for command in ["answer", "sheet", "explain", "draw"] {
+        let ends = |words: &[&str], job: &str, hint: &str| {
+            let due = format!("scope-deps: standard input: {refusal}; {nodes}{hint}\n");
+            assert_eq!(message(&[&[command], words].concat(), job, 1), due);
+        };
+        // Without loops both propagations are the same.
+        ends(&[], &plain, "");
+        ends(&["--strict"], &plain, "");
+        ends(&[], &other, "; with `--strict` there may be fewer");
+        ends(&["--strict"], &other, "; without `--strict` there may be fewer");
+    }
+    assert!(message(&["sheet", "--bytes"], &plain, 1).contains(nodes));
+}
+
+/// Repeated paths and spans make no nodes; optional marks and kinds of properties do. Before the
+/// first round there are as many by either propagation, so there is no word on the other.
+#[test]
+fn the_nodes_before_the_first_round_may_be_too_many_themselves() {
+    let path =
+        |variable| format!(" assumes {variable}.10.11, {variable}@5.10@6, {variable}?.10, {variable}[10]");
+    let [of_0, of_1] = [0..60, 60..120].map(|variables| variables.map(path).collect::<String>());
+    let job = format!("scope 1 block 0{of_0} block 1 after 1, 0{of_1}");
+    for words in [&["sheet"][..], &["sheet", "--strict"]] {
+        let said = message(words, &job, 1);
+        assert!(said.ends_with("when propagation ends; 600 already before the first round\n"), "{said}");
+    }
+}
+
+#[test]
+fn a_loop_of_several_blocks_is_a_loop_and_a_diamond_is_none() {
+    let diamond = "block 1 after 0 block 2 after 0 block 3 after 1, 2";
+    let around = "block 1 after 0, 3 block 2 after 1 block 3 after 2";
+    for (blocks, has_loop) in [(diamond, false), (around, true)] {
+        let said = message(&["answer"], format!("scope 0 block 0{} {blocks}", too_many()), 1);
+        assert_eq!(said.contains("with `--strict` there may be fewer"), has_loop, "{said}");
     }
 }

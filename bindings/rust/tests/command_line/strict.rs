@@ -52,10 +52,9 @@ fn refusal_9_is_that_of_the_propagation_that_was_asked_for() {
     for command in ["answer", "sheet", "explain", "draw"] {
         assert!(!text(&[command], &job).is_empty());
         let said = message(&[command, "--strict"], &job, 1);
-        assert!(
-            said.contains("refusal 9, ManyNodes") && said.contains("the strict one; without `--strict`"),
-            "{said}"
-        );
+        assert!(said.contains("refusal 9, ManyNodes"), "{said}");
+        let nodes = "; 300 of them before the first round, the others added by reduction";
+        assert!(said.ends_with(&format!("{nodes}; without `--strict` there may be fewer\n")), "{said}");
     }
 }
 

@@ -81,8 +81,11 @@ fn of_many_some_are_named_and_a_box_without_room_counts_them() {
     assert_eq!(under_pointer.split(", ").count(), 120);
     let groups = picture.groups();
     let more = groups[0].lines.last().unwrap();
-    assert!(shown(more).starts_with("and ") && shown(more).ends_with(" more,\u{a0}120 added"), "{more}");
-    assert!(more.contains("<tspan class=\"added\">120 added</tspan>"), "{more}");
+    assert!(
+        shown(more).starts_with("and ") && shown(more).ends_with(" more,\u{a0}120 of them added"),
+        "{more}"
+    );
+    assert!(more.contains("<tspan class=\"added\">120 of them added</tspan>"), "{more}");
     assert_eq!(title(more).matches('+').count(), 120);
 }
 
