@@ -147,10 +147,12 @@ usage: scope-deps sheet [-o FILE] [--bytes] [--strict] [--from FORM] [--names FI
 Writes what propagation arrived at: the nodes of all paths, by number, and the paths that each block
 holds, that is those known in it to be neither null nor undefined.
 
-A path has a node, and so has each path that it starts with. Those of the assumed paths are there before
-the first round. The others are added by reduction: where a block has the base of a `?.`, the path with a
+Each assumed path has a node, and so has each path that it starts with; candidates have none. These are
+there before the first round. The others are added by reduction: where a block holds a path with a `?.`
+and holds the base of that `?.` too, as a path of its own (a longer path does not count), the path with a
 plain entry takes the place of the other, and has its nodes made where they are missing. The second line
-counts both, and each node that was added says so. 512 nodes are the most that a job can have.
+counts both, and each node that was added says so. 512 nodes are the most that a job can have; one with
+more is refused by 9, and the message tells how many there are before the first round.
 
   $ echo 'scope 0 block 0 assumes 1, 1?.10' | scope-deps sheet
   rounds 2, settled
@@ -227,8 +229,11 @@ which it takes them over from those after it.
   nodes: 2 before the first round, 1 added by reduction
       1.10 in round 1, forward walk: block 1 made 1?.10 into 1.10, since it had 1
 
+The path before `into` is one that this block or another assumes, or one that was added before. The block
+named is the one that holds it at that moment and reduces it.
+
   --all       every block that has such a base, every block at which it stopped, in sections with numbers
-              every step by which a path came to a block, and where each node was added
+              every step by which a path came to a block, and where each added node was added
   --strict    the answer by the strict propagation; `scope-deps help answer` says how that differs
 
 All this is from a second run of the propagation, with a trace. Where that does not end with what the
@@ -242,8 +247,10 @@ Draws a job, with its sheet and its answer, as one SVG file that a browser shows
 from the first down, arrows for control, those that close a loop dashed; in each block the paths that
 it assumes and those that it holds in the end; beside the scope block each candidate with what is
 returned of it and where it is cut. A block that holds what its only predecessor holds says so. Under
-the title stands how many nodes there were before the first round, and which ones reduction added; in
-the blocks a `+` stands before their paths.
+the title stands how many nodes there were before the first round, and how many reduction added. That
+line names those that were added, or some of them where they are many or long, and then all are there
+under the pointer. A `+` stands before the path of such a node in every block that holds it;
+`scope-deps explain --all` says which block added it.
 
 Under the pointer, a block's arrows are lit and the others dimmed; after a click they stay so. Paths for
 which a box has no more lines are there under the pointer. On a dark screen the picture is dark.
