@@ -229,8 +229,8 @@ which it takes them over from those after it.
   nodes: 2 before the first round, 1 added by reduction
       1.10 in round 1, forward walk: block 1 made 1?.10 into 1.10, since it had 1
 
-The path before `into` is one that this block or another assumes, or one that was added before. The block
-named is the one that holds it at that moment and reduces it.
+The path before `into` is one that this block or another assumes, or what reduction made of such a path
+before. The block named is the one that holds it at that moment and reduces it.
 
   --all       every block that has such a base, every block at which it stopped, in sections with numbers
               every step by which a path came to a block, and where each added node was added
