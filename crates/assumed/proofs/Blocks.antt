@@ -14,7 +14,7 @@ use Rattle.model.specs.Job.{Block, readBlock}
 use Rattle.model.specs.Sets.{NodeSet}
 use Rattle.model.specs.Registry.{nodeLimit, PropertyPathRegistry}
 use Rattle.model.specs.RegistryLaws.{Extends, extends-refl, extends-trans, extends-length}
-use Rattle.model.specs.Stage.{PathsEntered, Started, enterPaths, noneEntered, enterBlock, enterBlocks}
+use Rattle.model.specs.Stage.{PathsEntered, Started, enterPaths, noneEntered, enterBlock, enterBlocks, startOf}
 use Rattle.model.specs.PropagationLaws.{paths-longer}
 use Rattle.registry.specs.Words.{registryOf, Held}
 use Rattle.registry.proofs.View.{registry-length}
@@ -73,16 +73,16 @@ row-more entry exit b s x =
     ∙ ap (λ t. rowsOf entry b ++ (t ∷ [])) (ap (rowOf exit) (zero-add b) ∙ this)
 
 -- the first of the blocks that are left is entered, and its set stands last of those before
-one-more : (front more : List NodeSet) (made : ℕ) (e : PathsEntered) (reg : PropertyPathRegistry) (s : NodeSet) (new : ℕ) (bs cs : List Block)
-    → e ≡ record { registry = reg; set = s; made = new }
-    → more ≡ front ++ (s ∷ []) → bs ≡ cs → after front made (withFirst e (enterBlocks (e .registry) bs)) ≡ after more (made + new) (enterBlocks reg cs)
-one-more front more made e reg s new bs cs is stored same =
+one-more : (front more : List NodeSet) (made : ℕ) (e : PathsEntered) (reg : PropertyPathRegistry) (s : NodeSet) (madeHere : ℕ) (bs cs : List Block)
+    → e ≡ record { registry = reg; set = s; made = madeHere }
+    → more ≡ front ++ (s ∷ []) → bs ≡ cs → after front made (withFirst e (enterBlocks (e .registry) bs)) ≡ after more (made + madeHere) (enterBlocks reg cs)
+one-more front more made e reg s madeHere bs cs is stored same =
     let rest = enterBlocks reg bs in
-    let total : made + (new + rest .made) ≡ (made + new) + rest .made = omega arith in
+    let total : made + (madeHere + rest .made) ≡ (made + madeHere) + rest .made = omega arith in
     ap (λ (e : PathsEntered). after front made (withFirst e (enterBlocks (e .registry) bs))) is
     ∙ (λ i. record { registry = rest .registry; sets = sym (append-assoc front (s ∷ []) (rest .sets)) i; made = total i })
-    ∙ ap (λ (l : List NodeSet). after l (made + new) rest) (sym stored)
-    ∙ ap (λ bs. after more (made + new) (enterBlocks reg bs)) same
+    ∙ ap (λ (l : List NodeSet). after l (made + madeHere) rest) (sym stored)
+    ∙ ap (λ bs. after more (made + madeHere) (enterBlocks reg bs)) same
 
 -- The blocks that are left start, after the sets before them, what is wanted, and what was made for
 -- those before is among the nodes.
@@ -91,7 +91,7 @@ pub record Starting (bs : List Block) (n : ℕ) (ws os sets : List ℕ) (made b 
   pub among : made ≤ length (registryOf ws)
   pub lent : Lent sets
   pub below : b ≤ n
-  pub same : enterBlocks [] bs ≡ after (rowsOf sets b) made (enterBlocks (registryOf ws) (drop b bs))
+  pub same : startOf bs ≡ after (rowsOf sets b) made (enterBlocks (registryOf ws) (drop b bs))
 
 pub starting : (bs : List Block) (n : ℕ) (ws os sets : List ℕ) → Held ws os → registryOf ws ≡ [] → Lent sets → Starting bs n ws os sets 0 0
 unfolding rowsOf
@@ -117,7 +117,7 @@ module _ {s : List ℕ} {n : ℕ} {places : List ℕ} (job : PlacedJob s n place
   block-read b l = let t = block-there (job .job) (job .blocks) b l in record { value = t .0; next = t .1; read = t .2 }
 
   module _ {ws os sets : List ℕ} {made b : ℕ} (x : Starting (blocksOf s) n ws os sets made b) where
-    all-entered : n ≤ b → enterBlocks [] (blocksOf s) ≡ record { registry = registryOf ws; sets = rowsOf sets n; made = made }
+    all-entered : n ≤ b → startOf (blocksOf s) ≡ record { registry = registryOf ws; sets = rowsOf sets n; made = made }
     unfolding enterBlocks
     all-entered none =
         let all : b ≡ n = let l = x .below in omega arith in
@@ -127,17 +127,18 @@ module _ {s : List ℕ} {n : ℕ} {places : List ℕ} (job : PlacedJob s n place
         x .same ∙ ap (λ bs. after (rowsOf sets b) made (enterBlocks (registryOf ws) bs)) gone
         ∙ (λ i. record { registry = registryOf ws; sets = rows i; made = add-zero made i })
 
-    pub starting-end : n ≤ b → StartHeld (enterBlocks [] (blocksOf s)) n ws os sets × (made ≡ enterBlocks [] (blocksOf s) .made)
+    pub starting-end : n ≤ b → StartHeld (startOf (blocksOf s)) n ws os sets × (made ≡ startOf (blocksOf s) .made)
     starting-end none =
-        let is = all-entered none in
-        let counted = sym (ap (λ (st : Started). st .made) is) in
-        (record { held = x .held; lent = x .lent; same = is ∙ (λ i. record { registry = registryOf ws; sets = rowsOf sets n; made = counted i }) }, counted)
+        let is = all-entered none in (
+          record { held = x .held; lent = x .lent; registry = ap (λ (st : Started). st .registry) is; sets = ap (λ (st : Started). st .sets) is },
+          sym (ap (λ (st : Started). st .made) is),
+        )
 
     module _ (some : b < n) (r : EnteredSet) (us ps : List ℕ)
         (entered : Fills (enterPaths (noneEntered (registryOf ws)) (assumedAt s (getD places b 0))) r us ps) where
       -- the block that is entered, and what that does to the whole
       next-block : (a : Block)
-          × (enterBlocks [] (blocksOf s) ≡ after (rowsOf sets b) made (enterBlocks (registryOf ws) (a ∷ drop (suc b) (blocksOf s))))
+          × (startOf (blocksOf s) ≡ after (rowsOf sets b) made (enterBlocks (registryOf ws) (a ∷ drop (suc b) (blocksOf s))))
           × Fills (enterBlock (registryOf ws) a) r us ps
       next-block =
           let t = block-there (job .job) (job .blocks) b some in
@@ -149,7 +150,7 @@ module _ {s : List ℕ} {n : ℕ} {places : List ℕ} (job : PlacedJob s n place
                 (assumed-are s (getD places b 0) (t .2)) entered,
           )
 
-      pub starting-full : r .full ≡ true → nodeLimit < length (enterBlocks [] (blocksOf s) .registry)
+      pub starting-full : r .full ≡ true → nodeLimit < length (startOf (blocksOf s) .registry)
       unfolding enterBlocks
       starting-full e =
           let t = next-block in

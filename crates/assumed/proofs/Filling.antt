@@ -46,13 +46,13 @@ abbrev soFar : PropertyPathRegistry → NodeSet → ℕ → PathsEntered
 soFar reg s made = record { registry = reg; set = s; made = made }
 
 next-path : (reg more : PropertyPathRegistry) (s t : NodeSet) (made : ℕ) (es rest : List ReactiveScopeDependency) (c d : ReactiveScopeDependency)
-    (k : NodeId) (new : ℕ) → c ∷ rest ≡ es → c ≡ d
-    → getOrCreateProperty reg d ≡ record { registry = more; node = k; made = new } → t ≡ insert k s
-    → enterPaths (soFar reg s made) es ≡ enterPaths (soFar more t (made + new)) rest
-next-path reg more s t made es rest c d k new all same reached inserted =
+    (k : NodeId) (madeHere : ℕ) → c ∷ rest ≡ es → c ≡ d
+    → getOrCreateProperty reg d ≡ record { registry = more; node = k; made = madeHere } → t ≡ insert k s
+    → enterPaths (soFar reg s made) es ≡ enterPaths (soFar more t (made + madeHere)) rest
+next-path reg more s t made es rest c d k madeHere all same reached inserted =
     ap (enterPaths (soFar reg s made)) (sym all)
     ∙ ap (λ (at : Reached). enterPaths (soFar (at .registry) (insert (at .node) s) (made + at .made)) rest) (ap (getOrCreateProperty reg) same ∙ reached)
-    ∙ ap (λ u. enterPaths (soFar more u (made + new)) rest) (sym inserted)
+    ∙ ap (λ u. enterPaths (soFar more u (made + madeHere)) rest) (sym inserted)
 
 -- The paths that are left were read, entering them after those before gives what is wanted, and
 -- what was made for those before is among the nodes.
@@ -115,11 +115,11 @@ module _ {want : PathsEntered} {s ws os set : List ℕ} {made at left : ℕ} (x 
           let more = entered-full (readPath 4 PA s at) (getOrCreateProperty (registryOf ws)) us ps full (first .3) in
           rw (x .same, ← (first .5)) (omega (arith, more, longer))
 
-      module _ (k : NodeId) (new n : ℕ) (same : r ≡ path.At k new n) where
+      module _ (k : NodeId) (madeHere n : ℕ) (same : r ≡ path.At k madeHere n) where
         reached : (d : ReactiveScopeDependency) × (readPath 4 PA s at ≡ got d n) × Held us ps
-            × (getOrCreateProperty (registryOf ws) d ≡ record { registry = registryOf us; node = k; made = new })
+            × (getOrCreateProperty (registryOf ws) d ≡ record { registry = registryOf us; node = k; made = madeHere })
         reached =
-            entered-at (readPath 4 PA s at) (getOrCreateProperty (registryOf ws)) k new n us ps
+            entered-at (readPath 4 PA s at) (getOrCreateProperty (registryOf ws)) k madeHere n us ps
             (subst (λ q. Enters (readPath 4 PA s at) (getOrCreateProperty (registryOf ws)) q us ps) same entered)
 
         pub node-inside : k .0 < 512
@@ -131,14 +131,14 @@ module _ {want : PathsEntered} {s ws os set : List ℕ} {made at left : ℕ} (x 
             let room = reached .2 .sized .room in
             omega arith
 
-        among-more : made + new ≤ length (registryOf us)
+        among-more : made + madeHere ≤ length (registryOf us)
         among-more =
             let so-far = x .among in
             let one = subst (λ (y : Reached). length (y .registry) ≡ length (registryOf ws) + y .made) (reached .3)
             (property-longer (registryOf ws) (reached .0)) in
             omega arith
 
-        pub filling-more : (more : List ℕ) → membersOf more ≡ insert k (membersOf set) → Filling want s us ps more (made + new) n (left - 1)
+        pub filling-more : (more : List ℕ) → membersOf more ≡ insert k (membersOf set) → Filling want s us ps more (made + madeHere) n (left - 1)
         filling-more more inserted =
             let there : got (reached .0) n ≡ got (first .0) (first .1) = sym (reached .1) ∙ first .3 in
             let d-same : first .0 ≡ reached .0 = cc in
@@ -151,6 +151,6 @@ module _ {want : PathsEntered} {s ws os set : List ℕ} {made at left : ℕ} (x 
               read = subst (λ m. readMany (left - 1) (readPath 4 PA) s m ≡ got (first .2) (x .end)) n-same (first .4);
               same =
                   x .same
-                  ∙ next-path (registryOf ws) (registryOf us) (membersOf set) (membersOf more) made (x .rest) (first .2) (first .0) (reached .0) k new
+                  ∙ next-path (registryOf ws) (registryOf us) (membersOf set) (membersOf more) made (x .rest) (first .2) (first .0) (reached .0) k madeHere
                   (first .5) d-same (reached .3) inserted;
             }

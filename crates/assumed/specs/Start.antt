@@ -40,10 +40,11 @@ abbrev pub Fills : stage.PathsEntered → EnteredSet → List ℕ → List ℕ �
 Fills want r ws os = FillsBy (r .full) want r ws os
 
 -- The words hold the registry, and the first n rows the sets, with which propagation starts.
-pub record StartHeld (want : stage.Started) (n : ℕ) (ws os sets : List ℕ) : Type 0 where
+pub record StartHeld (want : stage.Started) (n : ℕ) (ws os rows : List ℕ) : Type 0 where
   pub held : Held ws os
-  pub lent : Lent sets
-  pub same : want ≡ record { registry = registryOf ws; sets = rowsOf sets n; made = want .made }
+  pub lent : Lent rows
+  pub registry : want .registry ≡ registryOf ws
+  pub sets : want .sets ≡ rowsOf rows n
 
 -- "All assumed paths are entered first, in job order": that, with as many nodes made for them, or
 -- that the registry has no room.

@@ -1,13 +1,12 @@
 // All assumed paths of a job entered into the registry, straight from its bytes, and each block's
 // set of them stored in its row.
-ghost use mathlib.Core.List.{[]};
 ghost use Prim.Native.Nat.{_≤_};
 ghost use Rattle.rows.specs.Rows.{Lent};
 ghost use Rattle.registry.specs.Words.{registryOf, Held, HoldsNone};
 ghost use Rattle.model.specs.ReadingBytes.{readMany};
 ghost use Rattle.model.specs.Job.{PA, readPath, readBlock};
 ghost use Rattle.model.specs.Answer.{spanWidth};
-ghost use Rattle.model.specs.Stage.{enterPaths, noneEntered, enterBlocks};
+ghost use Rattle.model.specs.Stage.{enterPaths, noneEntered, startOf};
 ghost use Rattle.job.specs.Kept.{blocksOf, PlacedJob};
 ghost use Rattle.job.specs.Passing.{IsRead};
 ghost use Rattle.assumed.specs.Start.{pathsAt, assumedAt, Fills, Starts};
@@ -42,7 +41,7 @@ fn enter_paths(
     let mut left = count;
     while 0 < left {
         let entered = paths::enter_path(s, at, ws, optional);
-        let EnteredPath::At(node, new, next) = entered else {
+        let EnteredPath::At(node, made_here, next) = entered else {
             return EnteredSet {
                 set,
                 made,
@@ -50,7 +49,7 @@ fn enter_paths(
             };
         };
         set = set.insert(node);
-        made = made + new;
+        made = made + made_here;
         at = next;
         left = left - 1;
     }
@@ -102,7 +101,7 @@ pub fn enter_blocks(
     sets: &mut [u64; 1024],
 ) -> BlocksEntered
     requires { ⌜ PlacedJob (now s) blocks (now places) × (blocks ≤ 128) × HoldsNone (now ws) (now optional) × Lent (now sets) ⌝ }
-    ensures { λ r. ⌜ Starts (enterBlocks [] (blocksOf (now (s .entry)))) blocks r (now (ws .exit)) (now (optional .exit))
+    ensures { λ r. ⌜ Starts (startOf (blocksOf (now (s .entry)))) blocks r (now (ws .exit)) (now (optional .exit))
         (now (sets .exit)) ⌝ }
 {
     let mut made = 0;

@@ -16,7 +16,7 @@ use Rattle.model.specs.Lists.{anyOf}
 use Rattle.model.specs.RoundsLaws.{rounds-most}
 use Rattle.model.specs.Reduction.{reduceMaybeOptionalChains}
 use Rattle.model.specs.Propagation.{JoiningRule, hasChanged, roundStart, round, propagateWith, propagateNonNull}
-use Rattle.model.specs.Stage.{graphOf, enterBlocks, propagated}
+use Rattle.model.specs.Stage.{graphOf, startOf, propagated}
 use Rattle.model.specs.Tests.{by-cond, never, test-passes, and-first, and-second}
 use Rattle.model.specs.ListLaws.{All, all-map, all-both, all-getD}
 use Rattle.model.specs.ReadingBytes.{
@@ -397,7 +397,7 @@ returned-few hs cs = no-more (λ d c. prefixOf d c) (deriveMinimalDependencies h
 pub rounds-fit : (rule : JoiningRule) (j : Job) → propagated rule (j .blocks) .rounds < 256
 unfolding propagated propagateNonNull propagateWith
 rounds-fit rule j =
-    let start = enterBlocks [] (j .blocks) in
+    let start = startOf (j .blocks) in
     let most = rounds-most hasChanged (round reduceMaybeOptionalChains rule (graphOf (j .blocks))) 100 zero
     (roundStart (start .registry) (start .sets)) in
     omega arith

@@ -4,7 +4,7 @@
 use Prim.Native.Nat.{ℕ, _≤_}
 use native.Mathlib.Omega.{arith}
 use mathlib.Core.Path.{_≡_, refl}
-use mathlib.Core.List.{List, []}
+use mathlib.Core.List.{List}
 use lib.ListN.{length}
 use lib.Dec.{ltb}
 use Rattle.entries.specs.declared.Refusal.{Refusal}
@@ -15,7 +15,7 @@ use Rattle.model.specs.Rounds.{Rounds}
 use Rattle.model.specs.Propagation.{Work, JoiningRule}
 use Rattle.model.specs.ReadingBytes.{Read, got, refused}
 use Rattle.model.specs.Job.{Job, hasRepeat, hasUnknown, readRecords, acceptIds, readJob}
-use Rattle.model.specs.Stage.{Started, enterBlocks, propagated, hoistablePaths, returnedPaths}
+use Rattle.model.specs.Stage.{Started, startOf, propagated, hoistablePaths, returnedPaths}
 use Rattle.model.specs.Answer.{
   Verdict,
   writes,
@@ -53,7 +53,7 @@ module _ (rule : JoiningRule) (bytes : Job → Started → Rounds Work → List 
     pub j : Job
     pub end : ℕ
     pub reads : x ≡ got j end
-    pub written : out ≡ bytes j (enterBlocks [] (j .blocks)) (propagated rule (j .blocks))
+    pub written : out ≡ bytes j (startOf (j .blocks)) (propagated rule (j .blocks))
 
   -- where the verdict on what was read is to write, a job was read, and its bytes are written
   verdict-job : (x : Read Job) (out : List ℕ) → onJob rule bytes x ≡ writes out → ReadAndWritten x out

@@ -35,7 +35,7 @@ use Rattle.model.specs.ReadingBytes.{
   readFlag,
 }
 use Rattle.model.specs.Job.{Block, Job, markOf, HD, readPath, readJob}
-use Rattle.model.specs.Stage.{Started, enterBlocks, propagated, returnedPaths}
+use Rattle.model.specs.Stage.{Started, enterBlocks, startOf, propagated, returnedPaths}
 
 -- Bytes.
 
@@ -165,20 +165,24 @@ setBytes [] sets = []
 setBytes (b ∷ bs) [] = []
 setBytes (b ∷ bs) (s ∷ sets) = u16 SE ++ u32 (b .id .0) ++ rowBytes s 0 64 ++ setBytes bs sets
 
--- "The sheet is SH, nodes u16, blocks u16, rounds u8, settled u8; per node ..; per block .." "The
--- sheet's head gains a u16 at its end: nodes present before the first round" (E4): those of the
--- registry with which propagation starts.
+-- "SH, nodes u16, blocks u16, rounds u8, settled u8". "The sheet's head gains a u16 at its end:
+-- nodes present before the first round" (E4).
+abbrev pub sheetHead : ℕ → ℕ → ℕ → Bool → ℕ → List ℕ
+sheetHead nodes blocks rounds settled nodesBefore = u16 SH ++ u16 nodes ++ u16 blocks ++ u8 rounds ++ u8 (flag settled) ++ u16 nodesBefore
+
+-- "The sheet is SH, ..; per node ..; per block ..". The nodes before the first round are those with
+-- which propagation starts.
 unfoldable pub sheetBytes : ℕ → Job → Started → Rounds Work → List ℕ
 unfolding numberBytes nodeBytes setBytes
 sheetBytes spanBytes job start p =
     let w = p .work in
-    u16 SH ++ u16 (length (w .registry)) ++ u16 (length (job .blocks)) ++ u8 (p .rounds) ++ u8 (flag (p .settled))
-    ++ u16 (length (start .registry)) ++ concatMap (nodeBytes spanBytes) (w .registry) ++ setBytes (job .blocks) (w .sets)
+    sheetHead (length (w .registry)) (length (job .blocks)) (p .rounds) (p .settled) (length (start .registry))
+    ++ concatMap (nodeBytes spanBytes) (w .registry) ++ setBytes (job .blocks) (w .sets)
 
 -- The two operations.
 
--- what is written of a job: its spans in so many bytes, the job, what entering its assumed paths
--- left, and its propagation from there
+-- how an operation makes its bytes: of the width of spans, the job, the start of its propagation,
+-- and what that came to
 abbrev pub Writing : Type 0
 Writing = ℕ → Job → Started → Rounds Work → List ℕ
 
@@ -204,7 +208,7 @@ withinNodes p bytes = cond (ltb nodeLimit (length (p .work .registry))) (turnsBa
 -- A job that was read is propagated, 9 is looked at, and the bytes are written; 3 to 8 stay what
 -- they are.
 abbrev pub onJob : JoiningRule → (Job → Started → Rounds Work → List ℕ) → Read Job → Verdict
-onJob rule bytes (got job next) = let p = propagated rule (job .blocks) in withinNodes p (bytes job (enterBlocks [] (job .blocks)) p)
+onJob rule bytes (got job next) = let p = propagated rule (job .blocks) in withinNodes p (bytes job (startOf (job .blocks)) p)
 onJob rule bytes (refused r) = turnsBack r
 
 -- 1: "Shorter than 24,576 bytes."

@@ -1,6 +1,7 @@
 -- Along a job's propagation the registry stays sound and each set is an ascending set of its nodes,
--- so each reduction ends by a pass that changed nothing; no step makes the registry shorter; and a
--- block that has joined has a reduced set from then on.
+-- so each reduction ends by a pass that changed nothing; no step makes the registry shorter, and
+-- nothing but a reduction makes it longer; a block that has joined has a reduced set from then on.
+-- What is said to have been made as paths are entered is how much longer the registry is.
 use Prim.Native.Nat.{ℕ, zero, suc, _+_, _≤_, _<_}
 use native.Mathlib.Nat.{le-refl, le-trans, not-suc-le-zero}
 use native.Mathlib.Omega.{arith}
@@ -36,7 +37,18 @@ use Rattle.model.specs.Propagation.{
   propagateNonNull,
 }
 use Rattle.model.specs.Job.{Block}
-use Rattle.model.specs.Stage.{PathsEntered, enterPath, enterPaths, noneEntered, enterBlock, Started, enterBlocks, graphOf, propagated}
+use Rattle.model.specs.Stage.{
+  PathsEntered,
+  enterPath,
+  enterPaths,
+  noneEntered,
+  enterBlock,
+  Started,
+  enterBlocks,
+  startOf,
+  graphOf,
+  propagated,
+}
 use Rattle.model.specs.ListLaws.{All, all-map, all-select, all-getD, all-set, set-here, all-mapped}
 use Rattle.model.specs.SetLaws.{insert-from, select-from, union-from, insert-all, union-all}
 use Rattle.model.specs.RegistryLaws.{
@@ -159,38 +171,52 @@ module _ (neighbours : List ℕ) (b : ℕ) (w : Work) (p : ProperWork w) where
 
 -- what holds between the work before and after each join, and does not look at `changed`, holds
 -- between that before and after all rounds
-module _ (R : Work → Work → Type 0) (order : Preorder R)
-    (joins : (neighbours : List ℕ) (b : ℕ) (w : Work) → R w (joinWith reduceMaybeOptionalChains neighbours b w))
+module _ (v : Reducer) (R : Work → Work → Type 0) (order : Preorder R)
+    (joins : (neighbours : List ℕ) (b : ℕ) (w : Work) → R w (joinWith v neighbours b w))
     (starts : (w : Work) → R w (roundStart (w .registry) (w .sets))) where
   walk-joins : (rule : JoiningRule) (near : ℕ → List ℕ) (n : ℕ) (bs : List ℕ) (w : Work) → R w
-      (walk n near (join reduceMaybeOptionalChains rule near) bs w)
+      (walk n near (join v rule near) bs w)
   unfolding join
-  walk-joins rule near n bs w = walk-does R order near (join reduceMaybeOptionalChains rule near)
+  walk-joins rule near n bs w = walk-does R order near (join v rule near)
       (λ b ms u. joins (rule ms (near b)) b u) n bs w
 
-  round-does : (rule : JoiningRule) (g : Graph) (w : Work) → R w (round reduceMaybeOptionalChains rule g w)
+  round-does : (rule : JoiningRule) (g : Graph) (w : Work) → R w (round v rule g w)
   unfolding round forward backward
   round-does rule g w =
       let start = roundStart (w .registry) (w .sets) in
-      let mid = forward reduceMaybeOptionalChains rule g start in
+      let mid = forward v rule g start in
       order .after w start _ (starts w)
       (order .after start mid _ (walk-joins rule (g .predecessors) (g .size) (jobOrder (g .size)) start)
       (walk-joins rule (g .successors) (g .size) (reverseJobOrder (g .size)) mid))
 
   pub propagation-does : (rule : JoiningRule) (g : Graph) (reg : PropertyPathRegistry) (sets : List NodeSet) → R
-      (roundStart reg sets) (propagateNonNull rule g reg sets .work)
-  unfolding propagateNonNull propagateWith
-  propagation-does rule g reg sets = rounds-do hasChanged (round reduceMaybeOptionalChains rule g) R order
+      (roundStart reg sets) (propagateWith v rule g reg sets .work)
+  unfolding propagateWith
+  propagation-does rule g reg sets = rounds-do hasChanged (round v rule g) R order
       (round-does rule g) 100 zero (roundStart reg sets)
 
 -- Propagation only adds nodes, so a registry that has passed the limit of refusal 9 stays beyond
 -- it.
 pub propagation-extends : (rule : JoiningRule) (g : Graph) (reg : PropertyPathRegistry) (sets : List NodeSet) → Extends reg
     (propagateNonNull rule g reg sets .work .registry)
+unfolding propagateNonNull
 propagation-extends =
-    propagation-does (λ u w. Extends (u .registry) (w .registry))
+    propagation-does reduceMaybeOptionalChains (λ u w. Extends (u .registry) (w .registry))
     (record { none = λ w. extends-refl (w .registry); after = λ u v w a b. extends-trans a b })
     join-extends (λ w. extends-refl (w .registry))
+
+-- And it adds them by reduction alone ("how many nodes reduction adds", E4): with a reducer that
+-- makes none, there are none but those that were there.
+pub only-reduction-adds : (v : Reducer) → ((reg : PropertyPathRegistry) (s : NodeSet) → v reg s .registry ≡ reg)
+    → (rule : JoiningRule) (g : Graph) (reg : PropertyPathRegistry) (sets : List NodeSet)
+    → propagateWith v rule g reg sets .work .registry ≡ reg
+unfolding joinWith
+only-reduction-adds v none =
+    propagation-does v (λ u w. w .registry ≡ u .registry) (record { none = λ w. refl; after = λ u v w a b. b ∙ a })
+    joins (λ w. refl)
+  where
+    joins : (neighbours : List ℕ) (b : ℕ) (w : Work) → joinWith v neighbours b w .registry ≡ w .registry
+    joins neighbours b w = none (w .registry) (joinedSet neighbours b w)
 
 abbrev KeepsProper : Work → Work → Type 0
 KeepsProper u w = ProperWork u → ProperWork w
@@ -203,7 +229,9 @@ starts-proper w p = record { sound = p .sound; members = p .members }
 
 pub propagation-proper : (rule : JoiningRule) (g : Graph) (reg : PropertyPathRegistry) (sets : List NodeSet) → ProperWork
     (roundStart reg sets) → ProperWork (propagateNonNull rule g reg sets .work)
-propagation-proper rule g reg sets p = propagation-does KeepsProper keeps-order join-proper starts-proper rule g reg sets p
+unfolding propagateNonNull
+propagation-proper rule g reg sets p =
+    propagation-does reduceMaybeOptionalChains KeepsProper keeps-order join-proper starts-proper rule g reg sets p
 
 -- Propagation with another reduction.
 
@@ -233,8 +261,8 @@ module _ (v : Reducer) (repeats : Repeats v) (rule : JoiningRule) where
       let start = roundStart (w .registry) (w .sets) in
       let mid = forward reduceMaybeOptionalChains rule g start in
       walk-proper-same (g .successors) (g .size) (reverseJobOrder (g .size)) mid
-      (walk-joins KeepsProper keeps-order join-proper starts-proper rule (g .predecessors) (g .size) (jobOrder (g .size)) start
-      (starts-proper w p))
+      (walk-joins reduceMaybeOptionalChains KeepsProper keeps-order join-proper starts-proper rule (g .predecessors) (g .size)
+      (jobOrder (g .size)) start (starts-proper w p))
       ∙ ap (backward v rule g) (walk-proper-same (g .predecessors) (g .size) (jobOrder (g .size)) start (starts-proper w p))
 
   -- Any reduction that repeats passes until one changes nothing gives the same propagation: how
@@ -244,7 +272,8 @@ module _ (v : Reducer) (repeats : Repeats v) (rule : JoiningRule) where
   unfolding propagateNonNull propagateWith
   propagation-only g reg sets p =
       rounds-same ProperWork hasChanged (round reduceMaybeOptionalChains rule g) (round v rule g)
-      (λ w q. round-does KeepsProper keeps-order join-proper starts-proper rule g w q) (round-same g) 100 zero (roundStart reg sets) p
+      (λ w q. round-does reduceMaybeOptionalChains KeepsProper keeps-order join-proper starts-proper rule g w q) (round-same g)
+      100 zero (roundStart reg sets) p
 
 -- The start.
 
@@ -310,21 +339,21 @@ blocks-longer reg (b ∷ bs) =
 
 -- A job's propagation.
 
-pub start-proper : (bs : List Block) → ProperWork (roundStart (enterBlocks [] bs .registry) (enterBlocks [] bs .sets))
+pub start-proper : (bs : List Block) → ProperWork (roundStart (startOf bs .registry) (startOf bs .sets))
 start-proper bs = let begun = blocks-begun [] bs sound-empty in record { sound = begun .sound; members = begun .members }
 
 pub propagated-proper : (rule : JoiningRule) (bs : List Block) → ProperWork (propagated rule bs .work)
 unfolding propagated
-propagated-proper rule bs = propagation-proper rule (graphOf bs) (enterBlocks [] bs .registry) (enterBlocks [] bs .sets) (start-proper bs)
+propagated-proper rule bs = propagation-proper rule (graphOf bs) (startOf bs .registry) (startOf bs .sets) (start-proper bs)
 
 -- The nodes present before the first round keep their numbers; those made later stand behind them.
-pub propagated-extends : (rule : JoiningRule) (bs : List Block) → Extends (enterBlocks [] bs .registry) (propagated rule bs .work .registry)
+pub propagated-extends : (rule : JoiningRule) (bs : List Block) → Extends (startOf bs .registry) (propagated rule bs .work .registry)
 unfolding propagated
-propagated-extends rule bs = propagation-extends rule (graphOf bs) (enterBlocks [] bs .registry) (enterBlocks [] bs .sets)
+propagated-extends rule bs = propagation-extends rule (graphOf bs) (startOf bs .registry) (startOf bs .sets)
 
 -- the same with any reduction that repeats passes until one changes nothing
 pub propagated-only : (v : Reducer) → Repeats v → (rule : JoiningRule) (bs : List Block)
-    → propagated rule bs ≡ propagateWith v rule (graphOf bs) (enterBlocks [] bs .registry) (enterBlocks [] bs .sets)
+    → propagated rule bs ≡ propagateWith v rule (graphOf bs) (startOf bs .registry) (startOf bs .sets)
 unfolding propagated
-propagated-only v r rule bs = propagation-only v r rule (graphOf bs) (enterBlocks [] bs .registry) (enterBlocks [] bs .sets)
+propagated-only v r rule bs = propagation-only v r rule (graphOf bs) (startOf bs .registry) (startOf bs .sets)
     (start-proper bs)

@@ -1,4 +1,4 @@
--- Document 02, E4 (where nodes come from), computed: what is told to be made, the nodes before the
+-- Document 02, E4 (where nodes come from), computed: whether a node was made, the nodes before the
 -- first round and at the end, and sheets byte by byte.
 use Prim.Native.Nat.{ℕ}
 use mathlib.Core.Path.{_≡_, refl}
@@ -20,11 +20,11 @@ use Rattle.model.specs.Sets.{NodeSet}
 use Rattle.model.specs.Reduction.{reducedMark}
 use Rattle.model.specs.Propagation.{JoiningRule, doneNeighbours}
 use Rattle.model.specs.Job.{Block}
-use Rattle.model.specs.Stage.{enterPaths, noneEntered, enterBlocks, propagated}
+use Rattle.model.specs.Stage.{enterPaths, noneEntered, enterBlocks, startOf, propagated}
 use Rattle.model.specs.Answer.{leastBuffer, writes, sheetOf}
 use Rattle.model.specs.Strict.{strictNeighbours}
 use Rattle.model.specs.Examples.{optional, plain, one, block}
-use Rattle.model.specs.ThinExamples as bytes
+use Rattle.model.specs.ThinExamples as thinExamples
 
 -- "Whether the node was made", for a root, a child, a whole path, and a path that a reduction walks
 -- again.
@@ -96,7 +96,7 @@ again-makes-none = refl
 -- so many before, which entering made, and so many at the end
 abbrev NodesBeforeAndAfter : JoiningRule → List Block → ℕ → ℕ → Type 0
 NodesBeforeAndAfter rule blocks before after =
-    let start = enterBlocks [] blocks in
+    let start = startOf blocks in
     (length (start .registry) ≡ before) × (start .made ≡ before) × (length (propagated rule blocks .work .registry) ≡ after)
 
 -- the smallest: 1 and 1?.10
@@ -127,7 +127,7 @@ none-added-by-strict = (refl, refl, refl)
 
 -- the sheet of document 01's job in hex: one node, there before the first round
 pub example-sheet :
-    sheetOf bytes.thin (replicate leastBuffer 0)
+    sheetOf thinExamples.thin (replicate leastBuffer 0)
     ≡ writes (
     0x53 ∷ 0x48 ∷ 1 ∷ 0 ∷ 1 ∷ 0 ∷ 1 ∷ 1 ∷ 1 ∷ 0 ∷
     0x4E ∷ 0x4F ∷ 255 ∷ 255 ∷ 1 ∷ 0 ∷ 0 ∷ 0 ∷ replicate 10 0 ++ (0 ∷ 0 ∷ 0 ∷ 0 ∷ 1 ∷

@@ -98,12 +98,16 @@ enterBlocks reg (b ∷ bs) =
     let rest = enterBlocks (e .registry) bs in
     record { registry = rest .registry; sets = e .set ∷ rest .sets; made = e .made + rest .made }
 
+-- With what a job's propagation starts: its paths are entered where no node is yet.
+abbrev pub startOf : List Block → Started
+startOf bs = enterBlocks [] bs
+
 -- The whole.
 
--- the blocks propagated, under a joining rule
+-- the blocks propagated from their start, under a joining rule
 unfoldable pub propagated : JoiningRule → List Block → Rounds Work
 unfolding enterBlocks graphOf propagateNonNull
-propagated rule bs = let start = enterBlocks [] bs in propagateNonNull rule (graphOf bs) (start .registry) (start .sets)
+propagated rule bs = let start = startOf bs in propagateNonNull rule (graphOf bs) (start .registry) (start .sets)
 
 -- the paths of the scope block's set, ascending
 unfoldable pub hoistablePaths : Job → Work → List ReactiveScopeDependency

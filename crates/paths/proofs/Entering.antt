@@ -142,9 +142,9 @@ module _ {A : Type 0} {whole : Read A} {reach : A → Reached} {s ws os : List �
           (enters-full (readMany (left - 1) (readEntry 4) s next) (λ es. walkFrom ownMark (afterMaking made child) es) us ps rest-there
           (λ es. let longer = extends-length (walk-extends ownMark (afterMaking made child) es) in omega arith))
 
-      pub entering-more : (vs qs : List ℕ) (k : NodeId) (new : ℕ) → Made (registryOf ws) child vs qs k new
-          → Entering whole reach s vs qs k (made + new) next (left - 1)
-      entering-more vs qs k new m = record {
+      pub entering-more : (vs qs : List ℕ) (k : NodeId) (madeHere : ℕ) → Made (registryOf ws) child vs qs k madeHere
+          → Entering whole reach s vs qs k (made + madeHere) next (left - 1)
+      entering-more vs qs k madeHere m = record {
         held = m .held;
         inside = m .inside;
         among = let few = x .among in let size = registry-length ws in let longer = m .longer in omega arith;

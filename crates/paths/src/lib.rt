@@ -23,7 +23,7 @@ pub enum EnteredPath {
     Full,
 }
 
-// From a node on by `count` entries, where so many nodes were made before.
+// From a node on by `count` entries, with `made_before` nodes made before them.
 fn enter_entries(
     s: &[u8],
     start: usize,
@@ -31,28 +31,28 @@ fn enter_entries(
     ws: &mut [u64; 1665],
     optional: &mut [u64; 8],
     from: NodeId,
-    earlier: usize,
+    made_before: usize,
 ) -> EnteredPath
-    requires { ⌜ Held (now ws) (now optional) × (from .0 < countIn (now ws)) × (earlier ≤ countIn (now ws))
+    requires { ⌜ Held (now ws) (now optional) × (from .0 < countIn (now ws)) × («made_before» ≤ countIn (now ws))
         × IsRead (readMany count (readEntry spanWidth) (now s) start) ⌝ }
     ensures { λ r. ⌜ Enters (readMany count (readEntry spanWidth) (now (s .entry)) start)
-        (walkOwn (registryOf (now (ws .entry))) from earlier) r (now (ws .exit)) (now (optional .exit)) ⌝ }
+        (walkOwn (registryOf (now (ws .entry))) from «made_before») r (now (ws .exit)) (now (optional .exit)) ⌝ }
 {
     let mut at = start;
     let mut left = count;
     let mut node = from;
-    let mut made = earlier;
+    let mut made = made_before;
     while 0 < left {
         let field = job::entry_at(s, at);
         let ReadEntry::Value(entry, next) = field else {
             return EnteredPath::Full;
         };
         let child = registry::get_or_create_property_entry(ws, optional, node, entry);
-        let NodeEntered::At(reached, new) = child else {
+        let NodeEntered::At(reached, made_here) = child else {
             return EnteredPath::Full;
         };
         node = reached;
-        made = made + new;
+        made = made + made_here;
         at = next;
         left = left - 1;
     }

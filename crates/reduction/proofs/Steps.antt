@@ -103,11 +103,11 @@ module _ (mark : NodeId → DependencyPathEntry → Bool) (reg : PropertyPathReg
   step-full before full = subst (λ (y : Reached). nodeLimit < length (y .registry)) (sym (stepped-is before)) full
 
   -- the child is found or made
-  module _ (ws : List ℕ) (r : NodeId) (new : ℕ) (is : childOfReached ≡ record { registry = registryOf ws; node = r; made = new }) where
-    pub step-made : (before : ℕ) → stepped before ≡ record { registry = registryOf ws; node = r; made = before + new }
+  module _ (ws : List ℕ) (r : NodeId) (madeHere : ℕ) (is : childOfReached ≡ record { registry = registryOf ws; node = r; made = madeHere }) where
+    pub step-made : (before : ℕ) → stepped before ≡ record { registry = registryOf ws; node = r; made = before + madeHere }
     step-made before = stepped-is before ∙ ap (afterMaking before) is
 
-    pub step-fits : (before : ℕ) → before ≤ length reg → before + new ≤ countIn ws
+    pub step-fits : (before : ℕ) → before ≤ length reg → before + madeHere ≤ countIn ws
     step-fits before few =
         let longer = subst (λ (y : Reached). length (y .registry) ≡ length reg + y .made) is
         (makes-longer (isChildBy q (withOptional e o)) (childNode q (fullPathOf reg q) (withOptional e o)) reg .0) in

@@ -40,8 +40,8 @@ fn reduced_mark(set: NodeBits, k: NodeId, e: DependencyPathEntry) -> bool
     if e.optional { !set.contains(k) } else { false }
 }
 
-// From q on by the entry e, under its mark there, where so many nodes were made before. Node k is
-// the child of p by e: where q is p and the mark stays, there is nothing to look for or to make.
+// From q on by the entry e, under its mark there, with `made_before` nodes made before it. Node k
+// is the child of p by e: where q is p and the mark stays, there is nothing to look for or to make.
 fn step(
     ws: &mut [u64; 1665],
     optional: &mut [u64; 8],
@@ -50,12 +50,13 @@ fn step(
     p: NodeId,
     e: DependencyPathEntry,
     q: NodeId,
-    earlier: usize,
+    made_before: usize,
 ) -> NodeEntered
     requires { ⌜ Held (now ws) (now optional) × (q .0 < countIn (now ws)) × ChildAt (registryOf (now ws)) p e k
-        × (earlier ≤ countIn (now ws)) ⌝ }
+        × («made_before» ≤ countIn (now ws)) ⌝ }
     ensures { λ r. ⌜ Arrives (stepFrom (reducedMark (membersOf (set .words)))
-        (record { registry = registryOf (now (ws .entry)); node = q; made = earlier }) e) r (now (ws .exit)) (now (optional .exit)) ⌝ }
+        (record { registry = registryOf (now (ws .entry)); node = q; made = «made_before» }) e) r
+        (now (ws .exit)) (now (optional .exit)) ⌝ }
 {
     let property = e.property;
     let marked = e.optional;
@@ -63,7 +64,7 @@ fn step(
     let kept = reduced_mark(set, q, e);
     if q.0 == p.0 {
         if kept == marked {
-            return NodeEntered::At(k, earlier);
+            return NodeEntered::At(k, made_before);
         }
     }
     let child = get_or_create_property_entry(
@@ -76,10 +77,10 @@ fn step(
             span,
         },
     );
-    let NodeEntered::At(reached, new) = child else {
+    let NodeEntered::At(reached, made_here) = child else {
         return NodeEntered::Full;
     };
-    let made = earlier + new;
+    let made = made_before + made_here;
     NodeEntered::At(reached, made)
 }
 

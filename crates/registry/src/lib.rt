@@ -286,9 +286,9 @@ fn find_or_make(ws: &mut [u64; 1665], optional: &mut [u64; 8], n: Node) -> NodeE
     }
     if end < Node::LIMIT {
         push(ws, n);
-        let made = NodeId(end);
-        note(optional, n, made);
-        NodeEntered::At(made, 1)
+        let node = NodeId(end);
+        note(optional, n, node);
+        NodeEntered::At(node, 1)
     } else {
         NodeEntered::Full
     }

@@ -22,6 +22,7 @@ use Rattle.model.specs.Stage.{
   noneEntered,
   enterBlock,
   enterBlocks,
+  startOf,
   propagated,
   hoistablePaths,
 }
@@ -71,7 +72,7 @@ module _ {X : Type 0} (S : Store X) where
     pub hoistable-by : Keeps → All (NonNull S) (hoistablePaths j (propagated rule (j .blocks) .work))
     unfolding propagated hoistablePaths
     hoistable-by keeps =
-        let start = enterBlocks [] (j .blocks) in
+        let start = startOf (j .blocks) in
         let w = propagated rule (j .blocks) .work in
         let place = placeOf (j .blocks) (j .scope) in
         let end = keeps (start .registry) (start .sets) (record {

@@ -12,7 +12,7 @@ use Rattle.model.specs.Reduction.{reduceMaybeOptionalChains}
 use Rattle.model.specs.Propagation.{Work, doneNeighbours, propagateNonNull}
 use Rattle.model.specs.ReadingBytes.{Read, got, refused}
 use Rattle.model.specs.Job.{Block, Job, HD, readJob}
-use Rattle.model.specs.Stage.{graphOf, enterBlocks, propagated}
+use Rattle.model.specs.Stage.{graphOf, startOf, propagated}
 use Rattle.model.specs.Answer.{
   withinLengths,
   withinNodes,
@@ -53,7 +53,7 @@ propagated-same bs ok free =
     rules-agree reduceMaybeOptionalChains strictNeighbours doneNeighbours both-join-all (graphOf bs)
     (record { inGraph = predecessors-inside bs ok; noLoop = no-loop-back bs ok free })
     (record { inGraph = successors-inside bs ok; noLoop = no-loop-onward bs ok free })
-    (enterBlocks [] bs .registry) (enterBlocks [] bs .sets)
+    (startOf bs .registry) (startOf bs .sets)
 
 -- The verdicts, for any mark of the header, any width of a span and whatever is written.
 pub strict-verdict : (head spanBytes : ℕ) (bytes : Writing) (job out : List ℕ)
@@ -67,7 +67,7 @@ strict-verdict head spanBytes bytes job out free =
         → HoldsIfRead (λ (j : Job). ProperBlocks (j .blocks)) x
         → onJob strictNeighbours (bytes spanBytes) x ≡ onJob doneNeighbours (bytes spanBytes) x
     go (got j end) free ok =
-        ap (λ (p : Rounds Work). withinNodes p (bytes spanBytes j (enterBlocks [] (j .blocks)) p))
+        ap (λ (p : Rounds Work). withinNodes p (bytes spanBytes j (startOf (j .blocks)) p))
         (propagated-same (j .blocks) ok free)
     go (refused r) free ok = refl
 

@@ -11,7 +11,7 @@ use Rattle.model.specs.Rounds.{Rounds}
 use Rattle.model.specs.Propagation.{Work}
 use Rattle.model.specs.Stage.{Started}
 use Rattle.model.specs.Sets.{NodeSet}
-use Rattle.model.specs.Answer.{u8, u16, u32, flag, SH, SE, rowBytes, spanWidth, sheetBytes}
+use Rattle.model.specs.Answer.{u16, u32, SE, rowBytes, spanWidth, sheetBytes}
 use Rattle.rows.specs.Rows.{rowOf, rowsOf}
 use Rattle.registry.specs.Words.{registryOf}
 use Rattle.writer.specs.Writes.{Writes}
@@ -20,11 +20,6 @@ use Rattle.sheet_bytes.specs.declared.PathRoot.{PathRoot}
 -- what a path has of its root
 abbrev pub rootOf : ReactiveScopeDependency → PathRoot
 rootOf d = record { identifier = d .identifier; reactive = d .reactive }
-
--- "SH, nodes u16, blocks u16, rounds u8, settled u8", and "a u16 at its end: nodes present before
--- the first round" (E4)
-abbrev pub headBytes : ℕ → ℕ → ℕ → Bool → ℕ → List ℕ
-headBytes nodes blocks rounds settled nodesBefore = u16 SH ++ u16 nodes ++ u16 blocks ++ u8 rounds ++ u8 (flag settled) ++ u16 nodesBefore
 
 -- "Per block .. SE, id u32, 64 bytes where node k is bit k mod 8 of byte k div 8"
 abbrev pub setRecord : BlockId → NodeSet → List ℕ
@@ -46,7 +41,7 @@ pub record HoldsPropagated (ws rows numbers : List ℕ) (n ran : ℕ) (last : Bo
   pub sets : p .work .sets ≡ rowsOf rows n
   pub rounds : p .rounds ≡ ran
   pub settled : p .settled ≡ last
-  pub present : length (start .registry) ≡ nodesBefore
+  pub before : length (start .registry) ≡ nodesBefore
 
 -- The sheet of that job stands in the buffer from its start on.
 abbrev pub WritesSheet : List ℕ → List ℕ → List ℕ → ℕ → ℕ → Bool → ℕ → List ℕ → List ℕ → ℕ → Type 0

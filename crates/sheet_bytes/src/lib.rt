@@ -6,12 +6,12 @@ ghost use lib.ListN.{length};
 ghost use Rattle.model.specs.Registry.{fullPathOf};
 ghost use Rattle.model.specs.RegistryLaws.{nodeAt};
 ghost use Rattle.model.specs.Lists.{concatMap};
-ghost use Rattle.model.specs.Answer.{parentNumber, originBytes, nodeBytes, rowBytes, leastBuffer, spanWidth};
+ghost use Rattle.model.specs.Answer.{parentNumber, originBytes, nodeBytes, rowBytes, sheetHead, leastBuffer, spanWidth};
 ghost use Rattle.rows.specs.Rows.{rowOf};
 ghost use Rattle.registry.specs.Nodes.{originOf};
 ghost use Rattle.registry.specs.Words.{countIn, registryOf, HoldsRegistry};
 ghost use Rattle.writer.specs.Writes.{Writes};
-ghost use Rattle.sheet_bytes.specs.Sheet.{rootOf, headBytes, setRecord, setRecords, WritesSheet};
+ghost use Rattle.sheet_bytes.specs.Sheet.{rootOf, setRecord, setRecords, WritesSheet};
 use entries::BlockId;
 use entries::IdentifierId;
 use entries::NodeId;
@@ -163,17 +163,18 @@ fn put_head(
     blocks: usize,
     rounds: u8,
     settled: bool,
-    present: usize,
+    nodes_before: usize,
 ) -> usize
     requires { ⌜ 10 ≤ length (now out) ⌝ }
-    ensures { λ r. ⌜ Writes (now (out .entry)) (now (out .exit)) 0 (headBytes nodes blocks rounds settled present) r ⌝ }
+    ensures { λ r. ⌜ Writes (now (out .entry)) (now (out .exit)) 0 (sheetHead nodes blocks rounds settled «nodes_before») r ⌝ }
 {
+    let settled_value = flag(settled);
     let nodes_at = put_number(out, 0, 2, SH);
     let blocks_at = put_number(out, nodes_at, 2, nodes as u64);
     let rounds_at = put_number(out, blocks_at, 2, blocks as u64);
     let settled_at = put_number(out, rounds_at, 1, rounds as u64);
-    let present_at = put_number(out, settled_at, 1, flag(settled));
-    put_number(out, present_at, 2, present as u64)
+    let before_at = put_number(out, settled_at, 1, settled_value);
+    put_number(out, before_at, 2, nodes_before as u64)
 }
 
 // The whole sheet, from the buffer's start on.
@@ -184,14 +185,21 @@ pub fn put_sheet(
     blocks: usize,
     rounds: u8,
     settled: bool,
-    present: usize,
+    nodes_before: usize,
     out: &mut [u8],
 ) -> usize
     requires { ⌜ HoldsRegistry (now ws) × (blocks ≤ 128) × (leastBuffer ≤ length (now out)) ⌝ }
-    ensures { λ r. ⌜ WritesSheet (now (ws .entry)) (now (sets .entry)) (now (ids .entry)) blocks rounds settled present
+    ensures { λ r. ⌜ WritesSheet (now (ws .entry)) (now (sets .entry)) (now (ids .entry)) blocks rounds settled «nodes_before»
         (now (out .entry)) (now (out .exit)) r ⌝ }
 {
-    let nodes_at = put_head(out, registry::count(ws), blocks, rounds, settled, present);
+    let nodes_at = put_head(
+        out,
+        registry::count(ws),
+        blocks,
+        rounds,
+        settled,
+        nodes_before,
+    );
     let blocks_at = put_nodes(ws, out, nodes_at);
     put_blocks(sets, ids, blocks, out, blocks_at)
 }

@@ -5,7 +5,7 @@ use native.Mathlib.Omega.{arith}
 use native.Mathlib.Nat.{zero-add}
 use mathlib.Core.Path.{_≡_, refl, sym, ap, subst, _∙_}
 use mathlib.Core.Bool.{true, false, cond}
-use mathlib.Core.List.{List, [], _++_}
+use mathlib.Core.List.{List, _++_}
 use lib.ListN.{length, drop}
 use lib.Seq.{sets, sets-eq}
 use lib.Dec.{ltb}
@@ -17,7 +17,7 @@ use Rattle.model.specs.Registry.{nodeLimit}
 use Rattle.model.specs.Rounds.{Rounds}
 use Rattle.model.specs.Propagation.{Work, JoiningRule, doneNeighbours}
 use Rattle.model.specs.Job.{HD, Job, readJob}
-use Rattle.model.specs.Stage.{enterBlocks, propagated}
+use Rattle.model.specs.Stage.{startOf, propagated}
 use Rattle.model.specs.Answer.{
   Verdict,
   writes,
@@ -64,7 +64,7 @@ module _ (rule : JoiningRule) (op : Operation) (s : List ℕ) (j : Job) (end : �
   p = propagated rule (j .blocks)
 
   abbrev bytes : List ℕ
-  bytes = operationBytes op spanWidth j (enterBlocks [] (j .blocks)) p
+  bytes = operationBytes op spanWidth j (startOf (j .blocks)) p
 
   read-verdict : jobVerdict rule op s ≡ withinNodes p bytes
   unfolding jobVerdict

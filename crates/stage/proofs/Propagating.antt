@@ -15,7 +15,7 @@ use Rattle.model.specs.Rounds.{Rounds}
 use Rattle.model.specs.Propagation.{Work, Graph, JoiningRule, propagateNonNull, roundStart}
 use Rattle.model.specs.PropagationLaws.{propagated-extends, blocks-longer, start-proper}
 use Rattle.model.specs.Job.{Block}
-use Rattle.model.specs.Stage.{Started, graphOf, enterBlocks, propagated}
+use Rattle.model.specs.Stage.{Started, graphOf, startOf, propagated}
 use Rattle.rows.specs.Rows.{rowsOf}
 use Rattle.registry.specs.Words.{registryOf}
 use Rattle.job.specs.Kept.{blocksOf}
@@ -32,11 +32,11 @@ use Rattle.propagation.specs.declared.Propagated.{Propagated}
 use Rattle.propagation.specs.declared.Propagated.the-variants.{Full}
 
 -- a registry that has passed the limit before propagation stays beyond it
-pub full-start : (rule : JoiningRule) (bs : List Block) → nodeLimit < length (enterBlocks [] bs .registry) → nodeLimit < length
+pub full-start : (rule : JoiningRule) (bs : List Block) → nodeLimit < length (startOf bs .registry) → nodeLimit < length
     (propagated rule bs .work .registry)
 full-start rule bs h = let longer = extends-length (propagated-extends rule bs) in omega arith
 
-module _ {bs : List Block} {n : ℕ} {ws os sets g : List ℕ} (count : length bs ≡ n) (x : StartHeld (enterBlocks [] bs) n ws os sets) (y : HoldsGraph bs g) where
+module _ {bs : List Block} {n : ℕ} {ws os sets g : List ℕ} (count : length bs ≡ n) (x : StartHeld (startOf bs) n ws os sets) (y : HoldsGraph bs g) where
   size-same : sizeIn g ≡ n
   size-same = y .size ∙ count
 
@@ -47,7 +47,8 @@ module _ {bs : List Block} {n : ℕ} {ws os sets g : List ℕ} (count : length b
     stands = subst (λ m. RowsStand m sets ws os) (sym size-same) (record {
       lent = x .lent;
       held = x .held;
-      members = subst (λ (st : Started). All (Members (st .registry)) (st .sets)) (x .same) (start-proper bs .members);
+      members = subst (λ (ss : List NodeSet). All (Members (registryOf ws)) ss) (x .sets)
+          (subst (λ (reg : PropertyPathRegistry). All (Members reg) (startOf bs .sets)) (x .registry) (start-proper bs .members));
     });
   }
 
@@ -65,7 +66,8 @@ module _ {bs : List Block} {n : ℕ} {ws os sets g : List ℕ} (count : length b
   want-same rule =
       ap (λ m. propagateNonNull rule (graphIn g) (registryOf ws) (rowsOf sets m)) size-same
       ∙ propagation-agrees rule agrees (registryOf ws) (rowsOf sets n)
-      ∙ ap (λ (st : Started). propagateNonNull rule (graphOf bs) (st .registry) (st .sets)) (sym (x .same))
+      ∙ ap (λ (reg : PropertyPathRegistry). propagateNonNull rule (graphOf bs) reg (rowsOf sets n)) (sym (x .registry))
+      ∙ ap (λ (ss : List NodeSet). propagateNonNull rule (graphOf bs) (startOf bs .registry) ss) (sym (x .sets))
 
   pub propagates : (rule : JoiningRule) (r : Propagated) (sets′ ws′ os′ : List ℕ) → Propagates
       (propagateNonNull rule (graphIn g) (registryOf ws) (rowsOf sets (sizeIn g))) (sizeIn g) r sets′ ws′ os′
@@ -92,9 +94,9 @@ module _ {s ids places : List ℕ} {n : ℕ} (noted : NotedJob s ids places n) w
   job-propagated rule r sets ws os = subst (λ (bs : List Block). Propagates (propagated rule bs) n r sets ws os) (blocks-read (noted .job) (noted .blocks))
 
   -- what entering made is what is there before the first round
-  pub job-entered : (made : ℕ) → made ≡ enterBlocks [] (blocksOf s) .made → length (enterBlocks [] (noted .job .blocks) .registry) ≡ made
+  pub job-entered : (made : ℕ) → made ≡ startOf (blocksOf s) .made → length (startOf (noted .job .blocks) .registry) ≡ made
   job-entered made e =
       let bs = noted .job .blocks in
-      let same = ap (λ (bs : List Block). enterBlocks [] bs .made) (blocks-read (noted .job) (noted .blocks)) in
-      let all : length (enterBlocks [] bs .registry) ≡ 0 + enterBlocks [] bs .made = blocks-longer [] bs in
+      let same = ap (λ (bs : List Block). startOf bs .made) (blocks-read (noted .job) (noted .blocks)) in
+      let all : length (startOf bs .registry) ≡ 0 + startOf bs .made = blocks-longer [] bs in
       omega arith

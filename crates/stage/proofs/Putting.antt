@@ -19,8 +19,8 @@ use Rattle.model.specs.Rounds.{Rounds}
 use Rattle.model.specs.Propagation.{Work, setOf}
 use Rattle.model.specs.PropagationLaws.{members-empty}
 use Rattle.model.specs.Tree.{deriveMinimalDependencies}
-use Rattle.model.specs.Stage.{Started, enterBlocks, placeOf, hoistablePaths, returnedPaths}
-use Rattle.model.specs.Answer.{u8, u16, flag, AN, DE, pathBytes, answerBytes, nodeBytes, setBytes, sheetBytes, spanWidth, leastBuffer}
+use Rattle.model.specs.Stage.{Started, placeOf, hoistablePaths, returnedPaths}
+use Rattle.model.specs.Answer.{u8, u16, flag, AN, DE, pathBytes, answerBytes, nodeBytes, setBytes, sheetHead, sheetBytes, spanWidth, leastBuffer}
 use Rattle.rows.specs.Rows.{rowOf, rowsOf}
 use Rattle.rows.proofs.Rows.{row-at}
 use Rattle.registry.specs.Words.{registryOf}
@@ -37,7 +37,7 @@ use Rattle.propagation.specs.declared.RoundsRun.{RoundsRun}
 use Rattle.propagation.specs.Joins.{workOf}
 use Rattle.propagation.specs.Propagates.{roundsOf}
 use Rattle.answer_bytes.specs.Answers.{answerOver, WritesAnswer}
-use Rattle.sheet_bytes.specs.Sheet.{headBytes, setRecord, WritesSheet}
+use Rattle.sheet_bytes.specs.Sheet.{setRecord, WritesSheet}
 use Rattle.sheet_bytes.proofs.Nodes.{nodes-length}
 use Rattle.sheet_bytes.proofs.Blocks.{block-length}
 use Rattle.sheet_bytes.proofs.Whole.{head-length}
@@ -70,7 +70,7 @@ sheet-fits : (j : Job) (start : Started) (p : Rounds Work) (before : List ℕ) �
     → length (sheetBytes spanWidth j start p) ≤ length before
 unfolding sheetBytes
 sheet-fits j start p before nodes blocks wide =
-    let head = headBytes (length (p .work .registry)) (length (j .blocks)) (p .rounds) (p .settled) (length (start .registry)) in
+    let head = sheetHead (length (p .work .registry)) (length (j .blocks)) (p .rounds) (p .settled) (length (start .registry)) in
     let reg = concatMap (nodeBytes 4) (p .work .registry) in
     let rows = setBytes (j .blocks) (p .work .sets) in
     omega (
@@ -124,7 +124,7 @@ module _ {s ids places : List ℕ} {head : JobHead} (acc : AcceptedJob s ids pla
         → WritesAnswer s (head .«candidates_at») (head .candidates) (registryOf ws) set (run .rounds) (run .settled) before after next
         → PutsAnswer s head sets ws run before after next
     unfolding answerBytes returnedPaths hoistablePaths workOf
-    puts-answer set e run before after next w nodesBefore j end reads size p same =
+    puts-answer set e run before after next w nodesBefore j end reads start size p same =
         let j-same : j ≡ job = (let b = sym reads ∙ acc .noted .blocks .reads in cc) in
         let a = job-accepted job (acc .noted .blocks) in
         let h = acc .keeps in
@@ -144,8 +144,7 @@ module _ {s ids places : List ℕ} {head : JobHead} (acc : AcceptedJob s ids pla
       → leastBuffer ≤ length before → WritesSheet ws sets ids n (run .rounds) (run .settled) nodesBefore before after next
       → PutsJob Sheet s head sets ws nodesBefore run before after next
   unfolding workOf
-  puts-sheet sets ws stands nodesBefore run before after next wide w j end reads present p same =
-      let start = enterBlocks [] (j .blocks) in
+  puts-sheet sets ws stands nodesBefore run before after next wide w j end reads start size-before p same =
       let j-same : j ≡ job = (let b = sym reads ∙ acc .noted .blocks .reads in cc) in
       let count : length (j .blocks) ≡ n = ap (λ (k : Job). length (k .blocks)) j-same ∙ acc .noted .blocks .count in
       let registry : p .work .registry ≡ registryOf ws = ap (λ (q : Rounds Work). q .work .registry) same in
@@ -159,7 +158,7 @@ module _ {s ids places : List ℕ} {head : JobHead} (acc : AcceptedJob s ids pla
           sets = ap (λ (q : Rounds Work). q .work .sets) same;
           rounds = ap (λ (q : Rounds Work). q .rounds) same;
           settled = ap (λ (q : Rounds Work). q .settled) same;
-          present = present;
+          before = size-before;
         }),
         sheet-fits j start p before (omega arith) (omega arith) wide,
       )

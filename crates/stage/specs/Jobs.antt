@@ -1,7 +1,7 @@
 -- The operations on a job, and what their parts leave in the lent words and in the buffer.
 use Prim.Native.Nat.{ℕ, _^_, _≤_, _<_}
 use mathlib.Core.Path.{_≡_}
-use mathlib.Core.List.{List, [], map}
+use mathlib.Core.List.{List, map}
 use lib.ListN.{length, take}
 use lib.IntN.{ℤ, pos, negℤ}
 use Rattle.entries.specs.Refusals.{refusalNumber}
@@ -12,7 +12,7 @@ use Rattle.model.specs.RegistryLaws.{Sound}
 use Rattle.model.specs.ReductionLaws.{Members}
 use Rattle.model.specs.Rounds.{Rounds}
 use Rattle.model.specs.Propagation.{Work, JoiningRule}
-use Rattle.model.specs.Stage.{enterBlocks, propagated}
+use Rattle.model.specs.Stage.{Started, propagated}
 use Rattle.model.specs.Answer.{Verdict, writes, turnsBack, onJob, Writing, verdict, spanWidth, answerWriting, sheetBytes, bufferAfter}
 use Rattle.rows.specs.Rows.{rowsOf}
 use Rattle.registry.specs.Words.{registryOf, Sized}
@@ -82,15 +82,14 @@ pub record Standing (n : ℕ) (sets ws : List ℕ) : Type 0 where
 abbrev pub PropagatesJob : JoiningRule → List ℕ → ℕ → Propagated → List ℕ → List ℕ → List ℕ → Type 0
 PropagatesJob rule s n r sets ws os = Propagates (propagated rule (blocksOf s)) n r sets ws os
 
--- The operation's bytes of the job that is read, where so many nodes were there before the first
--- round and propagation left these words after this run, stand in the buffer from its first byte
--- on, and have their room there.
+-- The operation's bytes of the job that is read, from a start with so many nodes, where propagation
+-- left these words after this run, stand in the buffer from its first byte on, and have their room
+-- there.
 abbrev pub PutsJob : Operation → List ℕ → JobHead → List ℕ → List ℕ → ℕ → RoundsRun → List ℕ → List ℕ → ℕ → Type 0
 PutsJob op s head sets ws nodesBefore run before after next =
-    (j : Job) (end : ℕ) → readJob HD spanWidth s ≡ got j end → length (enterBlocks [] (j .blocks) .registry) ≡ nodesBefore
+    (j : Job) (end : ℕ) → readJob HD spanWidth s ≡ got j end → (start : Started) → length (start .registry) ≡ nodesBefore
     → (p : Rounds Work) → p ≡ roundsOf (head .blocks) sets ws run
-    → (let bytes = operationBytes op spanWidth j (enterBlocks [] (j .blocks)) p in
-    Writes before after 0 bytes next × (length bytes ≤ length before))
+    → (let bytes = operationBytes op spanWidth j start p in Writes before after 0 bytes next × (length bytes ≤ length before))
 
 -- The answer's bytes, whatever the start: the answer tells nothing of it.
 abbrev pub PutsAnswer : List ℕ → JobHead → List ℕ → List ℕ → RoundsRun → List ℕ → List ℕ → ℕ → Type 0

@@ -1,13 +1,12 @@
 // The operations on a job's bytes: its answer and its sheet, by the existing propagation or by the
 // strict one, and its thin job, written into an out buffer, or the refusal.
 ghost use mathlib.Core.Path.{_≡_};
-ghost use mathlib.Core.List.{[]};
 ghost use Prim.Native.Nat.{_≤_, _<_};
 ghost use lib.ListN.{length};
 ghost use Rattle.model.specs.Answer.{leastBuffer, answerOf, sheetOf, bufferAfter, numberReturned};
 ghost use Rattle.model.specs.Thin.{thinOf};
 ghost use Rattle.model.specs.Strict.{strictAnswerOf, strictSheetOf};
-ghost use Rattle.model.specs.Stage.{enterBlocks};
+ghost use Rattle.model.specs.Stage.{startOf};
 ghost use Rattle.job.specs.Kept.{blocksOf};
 ghost use Rattle.assumed.specs.Start.{StartHeld};
 ghost use Rattle.edges.specs.Fills.{NotedJob};
@@ -56,7 +55,7 @@ fn propagate(
     sets: &mut [u64; 1024],
 ) -> Propagated
     requires { ⌜ NotedJob (now s) (now ids) (now places) blocks
-        × StartHeld (enterBlocks [] (blocksOf (now s))) blocks (now ws) (now optional) (now sets) ⌝ }
+        × StartHeld (startOf (blocksOf (now s))) blocks (now ws) (now optional) (now sets) ⌝ }
     ensures { λ r. ⌜ PropagatesJob (ruleOf joining) (now (s .entry)) blocks r (now (sets .exit)) (now (ws .exit)) (now (optional .exit)) ⌝ }
 {
     let mut graph = [0u8; 10497];
@@ -104,13 +103,13 @@ fn put(
     head: JobHead,
     ws: &[u64; 1665],
     sets: &[u64; 1024],
-    present: usize,
+    nodes_before: usize,
     run: RoundsRun,
     out: &mut [u8],
 ) -> usize
     requires { ⌜ AcceptedJob (now s) (now ids) (now places) head × Standing (head .blocks) (now sets) (now ws) × (run .rounds < 256)
         × (leastBuffer ≤ length (now out)) ⌝ }
-    ensures { λ r. ⌜ PutsJob operation (now (s .entry)) head (now (sets .entry)) (now (ws .entry)) present run (now (out .entry))
+    ensures { λ r. ⌜ PutsJob operation (now (s .entry)) head (now (sets .entry)) (now (ws .entry)) «nodes_before» run (now (out .entry))
         (now (out .exit)) r ⌝ }
 {
     match operation {
@@ -122,7 +121,7 @@ fn put(
             head.blocks,
             run.rounds as u8,
             run.settled,
-            present,
+            nodes_before,
             out,
         ),
     }

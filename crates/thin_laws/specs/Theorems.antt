@@ -18,7 +18,7 @@ use Rattle.model.specs.Rounds.{Rounds}
 use Rattle.model.specs.Propagation.{Work, JoiningRule, doneNeighbours}
 use Rattle.model.specs.Job.{Job, HD, readJob}
 use Rattle.model.specs.JobBytes.{jobBytes}
-use Rattle.model.specs.Stage.{Started, enterBlocks, propagated}
+use Rattle.model.specs.Stage.{Started, startOf, propagated}
 use Rattle.model.specs.Answer.{
   Verdict,
   writes,
@@ -135,10 +135,10 @@ module _ (head w : ℕ) (m : head < 256 ^ 2) (job o t : List ℕ) (bytes : All (
       let short = within .short in
       let on : onJob rule (writing w) (readJob head w t) ≡ onJob rule (writing w) (readJob head w job)
       = ap (onJob rule (writing w)) reads-thin
-      ∙ ap (λ (q : Rounds Work). withinNodes q (writing w (thinned j) (enterBlocks [] (thinned j .blocks)) q))
+      ∙ ap (λ (q : Rounds Work). withinNodes q (writing w (thinned j) (startOf (thinned j .blocks)) q))
       (propagated-thinned rule (j .blocks))
       ∙ ap (λ (start : Started). withinNodes p (writing w (thinned j) start p)) (blocks-thinned [] (j .blocks))
-      ∙ ap (withinNodes p) (same j (enterBlocks [] (j .blocks)) p) ∙ ap (onJob rule (writing w)) (sym (written .reads)) in
+      ∙ ap (withinNodes p) (same j (startOf (j .blocks)) p) ∙ ap (onJob rule (writing w)) (sym (written .reads)) in
       rw (ltb-not-less longestJob (length t) (omega (arith, thin-no-longer)), ltb-not-less longestJob (length job) short)
       (ap (λ (v : Verdict). cond (ltb (length out) leastBuffer) (turnsBack ShortBuffer) v) on)
 
@@ -172,7 +172,7 @@ module _ (head w : ℕ) (rule : JoiningRule) (writing : Writing) (r : Refusal) w
   on-turned-back other true read e = e
   on-turned-back other false (got j end) e =
       let p = propagated rule (j .blocks) in
-      absurd (other (turned-nodes p (writing w j (enterBlocks [] (j .blocks)) p) e))
+      absurd (other (turned-nodes p (writing w j (startOf (j .blocks)) p) e))
   on-turned-back other false (refused x) e = e
 
   module _ (job o out : List ℕ) (wide : leastThinBuffer ≤ length o) (roomy : leastBuffer ≤ length out) where

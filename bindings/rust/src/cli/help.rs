@@ -147,10 +147,11 @@ usage: scope-deps sheet [-o FILE] [--bytes] [--strict] [--from FORM] [--names FI
 Writes what propagation arrived at: the nodes of all paths, by number, and the paths that each block
 holds, that is those known in it to be neither null nor undefined.
 
-Each assumed path has a node, and so has each path that it starts with; candidates have none. These are
-there before the first round. The others are added by reduction: where a block holds a path with a `?.`
-and holds the base of that `?.` too, as a path of its own (a longer path does not count), the path with a
-plain entry takes the place of the other, and has its nodes made where they are missing. The second line
+Each path that is assumed, or that an assumed one starts with, has one node, however often it is there;
+candidates have none. These nodes are there before the first round. The others are added by reduction. It
+goes along a path that a block holds, entry by entry, and makes a `?.` plain where the block holds the path
+before it, with what is plain by then, as a path of its own; that it holds a longer one does not count. The
+new path takes the place of the other, and has its nodes made where they are missing. The second line
 counts both, and each node that was added says so. 512 nodes are the most that a job can have; one with
 more is refused by 9, and the message tells how many there are before the first round.
 

@@ -12,11 +12,11 @@ use Rattle.paths.proofs.enter_entries.Statement.{statement}
 use Rattle.paths.proofs.enter_entries.Tie as tie
 
 abbrev Inv-loop : tie.InvT-loop
-Inv-loop s start count ws₀ optional₀ earlier at₀ left₀ node₀ made₀ ws optional at left node made =
+Inv-loop s start count ws₀ optional₀ madeBefore at₀ left₀ node₀ made₀ ws optional at left node made =
     Entering (readMany count (readEntry 4) s start) (walkOwn (registryOf ws₀) node₀ made₀) s ws optional node made at left
 
 abbrev μ-loop : tie.MeasureT-loop
-μ-loop s start count ws₀ optional₀ earlier at₀ left₀ node₀ made₀ ws optional at left node made = left
+μ-loop s start count ws₀ optional₀ madeBefore at₀ left₀ node₀ made₀ ws optional at left node made = left
 
 loop-holds : tie.Need-loop-holds Inv-loop μ-loop
 loop-holds c = let p = c .before .pre in record { held = p .0; inside = p .1; among = p .2; there = p .3; on = λ r us ps h. h }

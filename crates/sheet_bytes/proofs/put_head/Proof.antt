@@ -14,7 +14,7 @@ use Rattle.sheet_bytes.proofs.put_head.Lts as lts
 use Rattle.sheet_bytes.proofs.put_head.Tie as tie
 
 abbrev claims : lts.Claims
-claims = (put-number-reads.Asked, put-number-reads.Learnt, flag-reads.Asked, flag-reads.Learnt)
+claims = (flag-reads.Asked, flag-reads.Learnt, put-number-reads.Asked, put-number-reads.Learnt)
 
 -- the room behind each number
 
@@ -31,19 +31,19 @@ room-4 : (l : lts.After-put-number4 claims reads.Pre reads.Post) → l .put-numb
 room-4 l = room-after 1 3 (l .put-number4 .ensures) (number-length _ _) (omega (arith, room-3 (l .before .before .before .before)))
 
 room-5 : (l : lts.After-put-number5 claims reads.Pre reads.Post) → l .put-number5 .result + 2 ≤ length (l .put-number5 .last .0)
-room-5 l = room-after 1 2 (l .put-number5 .ensures) (number-length _ _) (omega (arith, room-4 (l .before .before .before .before .before)))
+room-5 l = room-after 1 2 (l .put-number5 .ensures) (number-length _ _) (omega (arith, room-4 (l .before .before .before .before)))
 
 returns : tie.Need-returns
 returns c =
     let six = c .before .before in
     let five = six .before .before .before .before in
-    let four = five .before .before .before .before .before in
+    let four = five .before .before .before .before in
     let three = four .before .before .before .before in
     let two = three .before .before .before .before in
     let one = two .before .before .before .before in
     let front = writes-then (writes-then (writes-then (one .put-number .ensures) (two .put-number2 .ensures)) (three .put-number3 .ensures))
     (four .put-number4 .ensures) in
-    let settled = writes-as (ap (numberBytes 1) (five .before .flag .ensures .0)) (five .put-number5 .ensures) in
+    let settled = writes-as (ap (numberBytes 1) (one .before .before .flag .ensures .0)) (five .put-number5 .ensures) in
     writes-then (writes-then front settled) (six .put-number6 .ensures)
 
 pub put-head-spec : {M : Type 1} → statement M
@@ -51,11 +51,11 @@ put-head-spec =
     tie.close
     (tie.spec
     (λ c κs. search needs)
+    (λ c κs. search needs)
     (λ c κs. let room = room-1 (c .before .before .before) in omega (arith, room))
     (λ c κs. let room = room-2 (c .before .before .before) in omega (arith, room))
     (λ c κs. let room = room-3 (c .before .before .before) in omega (arith, room))
-    (λ c κs. search needs)
-    (λ c κs. let room = room-4 (c .before .before .before .before) in omega (arith, room))
+    (λ c κs. let room = room-4 (c .before .before .before) in omega (arith, room))
     (λ c κs. room-5 (c .before .before .before))
     (λ c. search needs)
     returns)

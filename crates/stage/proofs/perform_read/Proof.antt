@@ -7,7 +7,7 @@ use mathlib.Core.List.{[]}
 use lib.ListN.{length-replicate}
 use denote.Ref.{now}
 use borrow.Author.Needs.{needs}
-use Rattle.model.specs.Stage.{propagated}
+use Rattle.model.specs.Stage.{startOf, propagated}
 use Rattle.laws.specs.Fits.{rounds-fit}
 use Rattle.registry.proofs.Noted.{zeros-hold-none}
 use Rattle.propagation.specs.Rules.{ruleOf}
@@ -83,7 +83,8 @@ returns-3 c =
     let rule = ruleOf (a .args .joining) in
     let held = propagated-ran _ _ (x .result) _ _ _ (job-propagated noted rule (x .result) _ _ _ (x .ensures)) _ (k .propagated .given .1) in
     let entered = entered-all _ _ _ _ _ _ (e .enter-blocks .ensures) _ (t .entered .given .1) .1 in
-    let put = w .put .ensures (noted .job) (noted .blocks .end) (noted .blocks .reads) (job-entered noted _ entered)
+    let put = w .put .ensures (noted .job) (noted .blocks .end) (noted .blocks .reads) (startOf (noted .job .blocks))
+    (job-entered noted _ entered)
     (propagated rule (noted .job .blocks)) (held .same) in
     stands-written (room-written rule (a .args .operation) (now (a .args .s)) (noted .job) (noted .blocks .end) (noted .blocks .reads) held)
     (put .0) (put .1)

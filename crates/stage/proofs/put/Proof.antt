@@ -13,8 +13,8 @@ returns c =
     let p = c .before .before in
     let t = p .before .before in
     let a = t .before .before .before .before .args in
-    subst (λ op. PutsJob op (now (a .s)) (a .head) (now (a .sets)) (now (a .ws)) (a .present) (a .run) (now (a .out))
-    (p .put-answer .last .1 .1 .1 .1 .1 .1 .1 .0) (p .put-answer .result)) (sym (t .enum-told .given .1)) (p .put-answer .ensures (a .present))
+    subst (λ op. PutsJob op (now (a .s)) (a .head) (now (a .sets)) (now (a .ws)) (a .nodes-before) (a .run) (now (a .out))
+    (p .put-answer .last .1 .1 .1 .1 .1 .1 .1 .0) (p .put-answer .result)) (sym (t .enum-told .given .1)) (p .put-answer .ensures (a .nodes-before))
 
 returns-2 : tie.Need-returns-2
 returns-2 c =
@@ -22,9 +22,9 @@ returns-2 c =
     let t = p .before .before .before in
     let start = t .before .before .before .before in
     let a = start .args in
-    subst (λ op. PutsJob op (now (a .s)) (a .head) (now (a .sets)) (now (a .ws)) (a .present) (a .run) (now (a .out))
+    subst (λ op. PutsJob op (now (a .s)) (a .head) (now (a .sets)) (now (a .ws)) (a .nodes-before) (a .run) (now (a .out))
     (p .put-sheet .last .1 .1 .1 .1 .1 .1 .1 .0) (p .put-sheet .result)) (sym (t .enum-told2 .given .1))
-    (puts-sheet (start .pre .0) (now (a .sets)) (now (a .ws)) (start .pre .1) (a .present) (a .run) _ _ _ (start .pre .3) (p .put-sheet .ensures))
+    (puts-sheet (start .pre .0) (now (a .sets)) (now (a .ws)) (start .pre .1) (a .nodes-before) (a .run) _ _ _ (start .pre .3) (p .put-sheet .ensures))
 
 put-sheet-requires : tie.Need-put-sheet-requires
 put-sheet-requires c κs =
