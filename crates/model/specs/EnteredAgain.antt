@@ -1,5 +1,6 @@
--- A path that is entered a second time, with others in between, leads to the same node and changes
--- neither the registry nor a set with that node. Spans and reactive of the second may differ.
+-- A path that is entered a second time, with others in between, leads to the same node, makes none,
+-- and changes neither the registry nor a set with that node. Spans and reactive of the second may
+-- differ.
 use Prim.Native.Nat.{ℕ, _+_}
 use native.Mathlib.Omega.{arith}
 use native.Mathlib.Nat.{add-zero}
