@@ -67,10 +67,10 @@ int64_t scope_deps_sheet(const uint8_t *job, size_t job_len, uint8_t *out, size_
 
 /*
  * Writes the answer of `job` by the strict propagation, on the same terms. A block then takes
- * paths over from the blocks before it, or after it, only where it has one and all of them are
- * finished. So no returned path throws where the job has loops, either, on any finite run from a
- * block with no predecessor, by way of the scope block, to a block with no successor, where what
- * the run's blocks assume is there. Where the job has no loops the bytes are those of
+ * paths over from the blocks before it, or after it, only where there are such and all of them
+ * are finished. So no returned path throws where the job has loops, either, on any finite run
+ * from a block with no predecessor, by way of the scope block, to a block with no successor,
+ * where what the run's blocks assume is there. Where the job has no loops the bytes are those of
  * scope_deps_answer. With loops a returned path may be shorter, or where optional chains are
  * assumed longer.
  *

@@ -284,11 +284,19 @@ mod with_the_rust {
         assert_eq!(nodes_of("made-in-two-rounds"), both(two, two));
         let refused = "512 before the first round and 513 at the end; reduction made 1, 0 of them in the first \
                        round; refused by 9";
-        let none =
-            "512 before the first round and 512 at the end; reduction made 0, 0 of them in the first round";
+        let none = "512 before the first round and 512 at the end; reduction made 0";
         assert_eq!(nodes_of("513-nodes-in-the-last-round"), both(refused, none));
-        assert_eq!(run(&["nodes"], b"").stdout, b"refused by 3, and nothing is entered\n");
-        assert_eq!(run(&["nodes"], &[0; 100_000]).stdout, b"refused by 2, and nothing is entered\n");
+    }
+
+    #[test]
+    fn a_job_whose_nodes_cannot_be_counted_gets_a_message() {
+        for (job, number) in [(&b""[..], 3), (b"scope 0 block 0", 4), (&[0; 100_000], 2)] {
+            let output = run(&["nodes"], job);
+            assert_eq!((output.status.code(), output.stdout.is_empty()), (Some(1), true));
+            let message = String::from_utf8(output.stderr).unwrap();
+            assert!(message.contains(&format!("refused by {number}, ")), "{message}");
+            assert!(message.contains("`bin/scope-deps encode`"), "{message}");
+        }
     }
 
     #[test]

@@ -2,10 +2,11 @@
 
 use crate::builder::JobBuilder;
 use crate::bytes;
-use crate::ids::BlockId;
+use crate::ids::{BlockId, IdentifierId};
 use crate::names::Names;
-use crate::path::Path;
+use crate::path::{Path, Property};
 use crate::refusal::Refusal;
+use std::collections::HashSet;
 use std::fmt;
 use std::hash::{Hash, Hasher};
 
@@ -114,6 +115,31 @@ impl Job {
     #[must_use]
     pub fn as_bytes(&self) -> &[u8] {
         &self.bytes
+    }
+
+    /// How many nodes the job has before the first round: one for each path that is assumed, or
+    /// that an assumed one starts with, however often it is there. With more than 512 the stage
+    /// refuses the job by 9, [`Refusal::ManyNodes`]; to fewer reduction may add others.
+    ///
+    /// [`Sheet::nodes_before_rounds`](crate::Sheet::nodes_before_rounds) is the same number; this
+    /// one is there for a job that has no sheet, too.
+    ///
+    /// ```
+    /// use scope_deps::Job;
+    ///
+    /// let job: Job = "scope 7 block 7 assumes 1, 1?.10.11, 1?.10".parse()?;
+    /// assert_eq!(job.nodes_before_rounds(), 3);
+    /// # Ok::<(), Box<dyn std::error::Error>>(())
+    /// ```
+    #[must_use]
+    pub fn nodes_before_rounds(&self) -> usize {
+        let mut nodes: HashSet<(IdentifierId, Vec<(bool, Property)>)> = HashSet::new();
+        for path in self.blocks.iter().flat_map(Block::assumed) {
+            let entries: Vec<_> =
+                path.entries().iter().map(|entry| (entry.optional, entry.property)).collect();
+            nodes.extend((0..=entries.len()).map(|count| (path.identifier(), entries[..count].to_vec())));
+        }
+        nodes.len()
     }
 
     /// A copy of the job's bytes.

@@ -89,6 +89,9 @@ fn reduction_adds_two_nodes_for_the_chain_and_none_for_the_plain_path() {
     let counts = |job: &Job| sheet(job).map(|sheet| (sheet.nodes_before_rounds(), sheet.nodes().len()));
     assert_eq!((counts(&chain), counts(&plain)), (Ok((4, 6)), Ok((3, 3))));
     assert_eq!(answer(&chain), answer(&plain));
+    let (readme, made_plain) = (read(repository("README.md")), sheet(&plain).unwrap().to_string());
+    let command = "examples/added-nodes.job | bin/scope-deps sheet | sed -n 2p\n    ";
+    assert!(readme.contains(&format!("{command}{}\n", made_plain.lines().nth(1).unwrap())));
     let explanation = explain(&chain, &sheet(&chain).unwrap(), &answer(&chain).unwrap()).unwrap();
     let blocks: Vec<u32> = explanation.added.iter().map(|added| added.block.0).collect();
     assert_eq!(blocks, [1, 2]);
@@ -96,7 +99,7 @@ fn reduction_adds_two_nodes_for_the_chain_and_none_for_the_plain_path() {
     let end: Vec<&str> = all.lines().rev().take(3).collect();
     let shown: String = end.iter().rev().map(|line| format!("    {line}\n")).collect();
     let command = "    $ bin/scope-deps explain --all examples/added-nodes.job | tail -n 3\n";
-    assert!(read(repository("README.md")).contains(&format!("{command}{shown}")), "{shown}");
+    assert!(readme.contains(&format!("{command}{shown}")), "{shown}");
 }
 
 /// The indented parts of a document that start a job.

@@ -27,7 +27,7 @@ fn explained_text(job: &str) -> Explanation {
 
 /// What is said before the last part, which is on the nodes (`tests/added_nodes`).
 fn before_nodes(said: &str) -> String {
-    let (said, nodes) = said.rsplit_once("\nnodes: ").unwrap_or_else(|| panic!("no nodes: {said}"));
+    let (said, nodes) = said.rsplit_once("\nnodes ").unwrap_or_else(|| panic!("no nodes: {said}"));
     assert!(nodes.contains(" before the first round, ") && !nodes.contains("\n\n"), "{nodes}");
     said.to_string()
 }

@@ -86,9 +86,12 @@ usage: compare/oracle nodes < JOB
 Runs the Rust on the job on standard input and prints `nodes.len()` of its registry before the first round, when
 all assumed paths are entered, and at the end, and how many nodes reduction made, in all and in the first round.
 The second line has the same by the strict propagation. The counts before the first round are those of the sheets.
-A job that 9 refuses is counted all the same; of one that is refused by 1 to 8 nothing is entered.
+A job that 9 refuses is counted all the same; of one that 1 to 8 refuse there is nothing to count, and the exit
+status is 1.
 
-  $ bin/scope-deps encode examples/optional-chain.job | compare/oracle nodes
+  $ bin/scope-deps encode examples/added-nodes.job | compare/oracle nodes
+  existing propagation: nodes.len() is 4 before the first round and 6 at the end; reduction made 2, 2 of them in the first round
+  strict propagation: nodes.len() is 4 before the first round and 6 at the end; reduction made 2, 2 of them in the first round
 ";
 
 const CHECK: &str = "\

@@ -1,6 +1,6 @@
 //! `nodes`: how many nodes a job has before the first round and at the end.
 
-use super::failure::Failure;
+use super::failure::{Failure, failed};
 use super::one_job::read;
 use super::open;
 use super::output::say;
@@ -20,7 +20,11 @@ pub fn run() -> Result<(), Failure> {
             }
             // The reader refuses the job, whatever the propagation.
             Both { answer, .. } => {
-                return say!("refused by {}, and nothing is entered", answer.err().unwrap_or(0));
+                return Err(failed(format!(
+                    "the job is refused by {}, so no path of it has a node; a job as text goes through \
+                     `bin/scope-deps encode` first",
+                    answer.err().unwrap_or(0)
+                )));
             }
         }
     }
@@ -28,12 +32,10 @@ pub fn run() -> Result<(), Failure> {
 }
 
 fn text(counts: &Counts) -> String {
-    format!(
-        "nodes.len() is {} before the first round and {} at the end; reduction made {}, {} of them in the \
-         first round",
-        counts.nodes_before,
-        counts.nodes,
-        counts.made(),
-        counts.made_in_first()
-    )
+    let (before, end) = (counts.nodes_before, counts.nodes);
+    let made = match (counts.made(), counts.made_in_first()) {
+        (0, _) => "0".to_string(),
+        (made, first) => format!("{made}, {first} of them in the first round"),
+    };
+    format!("nodes.len() is {before} before the first round and {end} at the end; reduction made {made}")
 }

@@ -41,7 +41,7 @@ of property 10 of it?
       .11   is cut: 1.10 is not known to be there in block 7
             no block assumes 1.10
 
-  nodes: 1 before the first round, none added by reduction
+  nodes 1: 1 before the first round, 0 added by reduction
 
 The exit status is 0 on success, 1 where the job is refused or cannot be read or written, and 2 where
 the command line makes no sense. Messages go to standard error.
@@ -150,10 +150,11 @@ holds, that is those known in it to be neither null nor undefined.
 Each path that is assumed, or that an assumed one starts with, has one node, however often it is there;
 candidates have none. These nodes are there before the first round. The others are added by reduction. It
 goes along a path that a block holds, entry by entry, and makes a `?.` plain where the block holds the path
-before it, with what is plain by then, as a path of its own; that it holds a longer one does not count. The
-new path takes the place of the other, and has its nodes made where they are missing. The second line
-counts both, and each node that was added says so. 512 nodes are the most that a job can have; one with
-more is refused by 9, and the message tells how many there are before the first round.
+before it, with what is plain by then, as a path of its own: where it holds 1 and 1?.10, this becomes 1.10,
+and where it holds 1.11 and 1?.10, it does not. The new path takes the place of the other, and its nodes are
+made where they are missing. The second line counts both, and each node that was added says so. 512 nodes
+are the most that a job can have; one with more is refused by 9, and the message tells how many there are
+before the first round.
 
   $ echo 'scope 0 block 0 assumes 1, 1?.10' | scope-deps sheet
   rounds 2, settled
@@ -206,7 +207,7 @@ over where one would be left out, and that is a reason for a cut, too.
       .11  is cut: 1.10 is not known to be there in block 2
            block 1 assumes 1.10, but control can also come to block 2 from block 0, which does not have it
 
-  nodes: 2 before the first round, none added by reduction
+  nodes 2: 2 before the first round, 0 added by reduction
 
   $ echo 'scope 1 block 0 assumes 1 block 1 after 1, 0 candidate 1.10' | scope-deps explain --strict
   strict propagation: a block takes paths over from the blocks before it, or after it, only where all of these are finished
@@ -216,22 +217,19 @@ over where one would be left out, and that is a reason for a cut, too.
       .10  is cut: 1 is not known to be there in block 1
            block 0 assumes 1, but block 1 takes nothing over from the blocks before it, since it is itself one of them and not finished
 
-  nodes: 1 before the first round, none added by reduction
+  nodes 1: 1 before the first round, 0 added by reduction
 
 The end says how many nodes there were before the first round, and how many reduction added, with the
 paths of these, or the first three where there are more than four; `scope-deps help sheet` says what
-nodes are. With `--all` it has all of them, and the round and the block in which each was added. A round
-is a walk forward, in which each block takes paths over from the blocks before it, and one backward, in
-which it takes them over from those after it.
+nodes are. With `--all` it has all of them, the round and the block in which each was added, and from which
+assumed path it comes. A round is a walk forward, in which each block takes paths over from the blocks
+before it, and one backward, in which it takes them over from those after it.
 
   $ echo 'scope 1 block 0 assumes 1 block 1 after 0 assumes 1?.10' | scope-deps explain --all
   the job has no candidate, so no path is returned
 
-  nodes: 2 before the first round, 1 added by reduction
-      1.10 in round 1, forward walk: block 1 made 1?.10 into 1.10, since it had 1
-
-The path before `into` is one that this block or another assumes, or what reduction made of such a path
-before. The block named is the one that holds it at that moment and reduces it.
+  nodes 3: 2 before the first round, 1 added by reduction
+      1.10 in round 1, forward walk: block 1 made 1?.10, which it assumes, into 1.10, since it had 1
 
   --all       every block that has such a base, every block at which it stopped, in sections with numbers
               every step by which a path came to a block, and where each added node was added
@@ -250,8 +248,8 @@ it assumes and those that it holds in the end; beside the scope block each candi
 returned of it and where it is cut. A block that holds what its only predecessor holds says so. Under
 the title stands how many nodes there were before the first round, and how many reduction added. That
 line names those that were added, or some of them where they are many or long, and then all are there
-under the pointer. A `+` stands before the path of such a node in every block that holds it;
-`scope-deps explain --all` says which block added it.
+under the pointer. The box of the block that added such a node has its path under `adds`, and a `+`
+stands before that path wherever a box names it.
 
 Under the pointer, a block's arrows are lit and the others dimmed; after a click they stay so. Paths for
 which a box has no more lines are there under the pointer. On a dark screen the picture is dark.

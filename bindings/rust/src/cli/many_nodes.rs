@@ -1,19 +1,30 @@
 //! What the tool says of a job with too many nodes, which has no sheet that would say it.
 
-use scope_deps::{limits, BlockId, IdentifierId, Job, Property};
+use scope_deps::{limits, BlockId, Job};
 use std::collections::HashSet;
 use std::fmt;
 
 /// What is known of the nodes of a job that was refused by 9.
 pub struct TooMany {
     before_rounds: usize,
-    strict: bool,
-    has_loop: bool,
+    /// Where the two propagations can differ: the other one.
+    other: Option<Other>,
+}
+
+struct Other {
+    is_strict: bool,
+    refuses: bool,
 }
 
 impl TooMany {
-    pub fn new(job: &Job, strict: bool) -> Self {
-        Self { before_rounds: before_rounds(job), strict, has_loop: has_loop(job) }
+    /// Of a job that was refused by the strict propagation or by the existing one; `other_refuses`
+    /// asks the other.
+    pub fn new(job: &Job, strict: bool, other_refuses: impl FnOnce() -> bool) -> Self {
+        let before_rounds = job.nodes_before_rounds();
+        // Without loops both propagations are the same, and so they are before the first round.
+        let can_differ = before_rounds <= limits::NODES && has_loop(job);
+        let other = can_differ.then(|| Other { is_strict: !strict, refuses: other_refuses() });
+        Self { before_rounds, other }
     }
 }
 
@@ -23,24 +34,15 @@ impl fmt::Display for TooMany {
         if before > limits::NODES {
             return write!(f, "{before} already before the first round");
         }
-        write!(f, "{before} of them before the first round, the others added by reduction")?;
-        // Without loops both propagations are the same.
-        match (self.has_loop, self.strict) {
-            (false, _) => Ok(()),
-            (true, false) => write!(f, "; with `--strict` there may be fewer"),
-            (true, true) => write!(f, "; without `--strict` there may be fewer"),
-        }
+        let least = limits::NODES + 1 - before;
+        write!(f, "{before} of them before the first round, {least} or more added by reduction")?;
+        let Some(Other { is_strict, refuses }) = &self.other else {
+            return Ok(());
+        };
+        let with = if *is_strict { "with" } else { "without" };
+        let refused = if *refuses { "refused, too" } else { "not refused" };
+        write!(f, "; {with} `--strict` it is {refused}")
     }
-}
-
-/// How many nodes the assumed paths alone have: one for each path with which one of them starts.
-fn before_rounds(job: &Job) -> usize {
-    let mut nodes: HashSet<(IdentifierId, Vec<(bool, Property)>)> = HashSet::new();
-    for path in job.blocks().iter().flat_map(|block| block.assumed()) {
-        let entries: Vec<_> = path.entries().iter().map(|entry| (entry.optional, entry.property)).collect();
-        nodes.extend((0..=entries.len()).map(|count| (path.identifier(), entries[..count].to_vec())));
-    }
-    nodes.len()
 }
 
 /// Whether control can come back to a block: blocks are left when all those without a predecessor

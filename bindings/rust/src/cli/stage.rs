@@ -26,7 +26,7 @@ const STRICT: Operations = Operations {
 /// What the command makes of the job that was read.
 pub fn made(run: &Run, input: &Input, job: &Job) -> Result<Vec<u8>, Failure> {
     let refused = |why: Refusal| refused(run, input, job, why);
-    let stage = operations(run);
+    let stage = operations(run.strict);
     match run.command {
         Command::Answer if run.bytes => (stage.answer_bytes)(job.as_bytes()).map_err(refused),
         Command::Sheet if run.bytes => (stage.sheet_bytes)(job.as_bytes()).map_err(refused),
@@ -49,15 +49,18 @@ pub fn made(run: &Run, input: &Input, job: &Job) -> Result<Vec<u8>, Failure> {
 /// That the stage turned the job back, with what is known of its nodes where they are too many.
 fn refused(run: &Run, input: &Input, job: &Job, why: Refusal) -> Failure {
     let place = input.place.clone();
+    let other_refuses = || (operations(!run.strict).answer)(job).is_err();
     match why {
-        Refusal::ManyNodes => Failure::ManyNodes { place, nodes: TooMany::new(job, run.strict) },
+        Refusal::ManyNodes => {
+            Failure::ManyNodes { place, nodes: TooMany::new(job, run.strict, other_refuses) }
+        }
         why => Failure::Refused { place, why },
     }
 }
 
-/// Those of the propagation that was asked for.
-fn operations(run: &Run) -> Operations {
-    if run.strict {
+/// Those of the one propagation or the other.
+fn operations(strict: bool) -> Operations {
+    if strict {
         STRICT
     } else {
         EXISTING
@@ -87,7 +90,7 @@ fn asked(
     make: impl Fn(&Run, &Job, &Sheet, &Answer) -> Result<String, Failure>,
 ) -> Result<Vec<u8>, Failure> {
     let refused = |why: ManyNodes| refused(run, input, job, why.into());
-    let stage = operations(run);
+    let stage = operations(run.strict);
     let (sheet, answer) = ((stage.sheet)(job).map_err(refused)?, (stage.answer)(job).map_err(refused)?);
     make(run, job, &sheet, &answer).map(String::into_bytes)
 }

@@ -1,8 +1,10 @@
-//! The box of a block: its id, the paths that it assumes, and those that it holds in the end.
+//! The box of a block: its id, the paths that it assumes, those that it holds in the end, and those
+//! whose nodes reduction added there.
 
 use super::place::Extent;
 use super::shown::{self, Item, Piece};
 use super::svg::{width, Svg, SMALL};
+use crate::explain::Explanation;
 use crate::ids::BlockId;
 use crate::job::{Block, Job};
 use crate::sheet::{NodeSet, Sheet};
@@ -40,6 +42,7 @@ impl BlockBox {
         job: &Job,
         block: &Block,
         sheet: &Sheet,
+        explanation: &Explanation,
         drawn: usize,
         is_drawn: impl Fn(BlockId) -> bool,
     ) -> Self {
@@ -51,8 +54,16 @@ impl BlockBox {
             Some(id) => vec![Row::note("holds", format!("the same as block {id}"), shown::all(&held))],
             None => rows("holds", &held, most),
         };
-        let of_assumed = if assumed.is_empty() { Vec::new() } else { rows("assumes", &assumed, most) };
-        let rows: Vec<Row> = of_assumed.into_iter().chain(of_held).collect();
+        let of_others = |label, paths: &[Item]| {
+            if paths.is_empty() {
+                Vec::new()
+            } else {
+                rows(label, paths, most)
+            }
+        };
+        let (of_assumed, of_added) =
+            (of_others("assumes", &assumed), of_others("adds", &added(block, explanation)));
+        let rows: Vec<Row> = of_assumed.into_iter().chain(of_held).chain(of_added).collect();
         let widest = rows.iter().map(Row::width).fold(width(&head, SMALL), f64::max);
         let height = 2.0 * PADDING + LINE * (1 + rows.len()) as f64 - 4.0;
         let is_own_predecessor = block.predecessors().contains(&block.id());
@@ -100,6 +111,12 @@ fn held(job: &Job, block: &Block, sheet: &Sheet) -> Vec<Item> {
         (path, false) => Item::new(&path, job.names(), ""),
     };
     nodes.map(item).collect()
+}
+
+/// The paths whose nodes reduction added in a block.
+fn added(block: &Block, explanation: &Explanation) -> Vec<Item> {
+    let here = explanation.added.iter().filter(|added| added.block == block.id());
+    here.flat_map(|added| &added.nodes).map(|(_, path)| Item::added(path, &explanation.names)).collect()
 }
 
 impl Row {

@@ -17,7 +17,8 @@ const LINES: [Line; 4] = [
 ];
 
 /// Only where the picture has such a path.
-const ADDED: Line = &[("added", "+1.10"), ("label", ": added by reduction, where a ?. became plain")];
+const ADDED: Line =
+    &[("added", "adds +1.10"), ("label", ": added there by reduction, where a ?. became plain")];
 
 /// The lines below the first, which has the arrows.
 fn lines(has_added: bool) -> impl Iterator<Item = Line> {

@@ -1,10 +1,11 @@
 //! A picture of a job with its sheet and its answer.
 //!
 //! The blocks stand in layers, from the first down. Arrows are control, dashed where they close a
-//! loop. Each block has the paths that it assumes and those that it holds in the end, where those
-//! whose node reduction added have a mark. Beside the scope block stands each candidate, with what
-//! is returned of it and where it is cut. Under the title stands how many nodes there were before
-//! the first round, and which ones reduction added.
+//! loop. Each block has the paths that it assumes, those that it holds in the end, and those whose
+//! nodes reduction added there; a path whose node was added has a mark. Beside the scope block
+//! stands each candidate, with what is returned of it and where it is cut. Under the title stands
+//! how many nodes there are, how many of them before the first round, and which ones reduction
+//! added.
 //!
 //! A block under the pointer lights its arrows and dims the others, and on a dark screen the
 //! picture is dark: both by the style sheet in the file, without a script. [`draw_focused`] leaves
@@ -121,7 +122,7 @@ struct Picture<'a> {
 
 impl Picture<'_> {
     fn drawn(&self, explanation: &Explanation) -> String {
-        let (boxes, panel) = (self.boxes(), Panel::new(explanation));
+        let (boxes, panel) = (self.boxes(explanation), Panel::new(explanation));
         let gaps: Vec<Gap> = self.view.gaps.iter().map(|&count| Gap::new(count)).collect();
         let extents = self.extents(&boxes, &gaps, &panel);
         let names = boxes.iter().map(BlockBox::name).chain(gaps.iter().map(Gap::name)).collect();
@@ -154,11 +155,12 @@ impl Picture<'_> {
         self.job.blocks()[self.view.blocks[number]].id() == self.job.scope()
     }
 
-    fn boxes(&self) -> Vec<BlockBox> {
+    fn boxes(&self, explanation: &Explanation) -> Vec<BlockBox> {
         let blocks = self.view.blocks.iter().map(|&place| &self.job.blocks()[place]);
         let is_drawn = |id| blocks.clone().any(|block| block.id() == id);
         let many = self.view.blocks.len();
-        blocks.clone().map(|block| BlockBox::new(self.job, block, self.sheet, many, is_drawn)).collect()
+        let of_block = |block| BlockBox::new(self.job, block, self.sheet, explanation, many, is_drawn);
+        blocks.clone().map(of_block).collect()
     }
 
     /// How much room each block and gap takes, the scope block with the panel beside it.
@@ -181,18 +183,20 @@ impl Picture<'_> {
         svg.texts(0.0, 42.0 - TITLE, &[("label", &nodes.text)], &nodes.full);
         let heads = svg::width(&title, svg::LARGE).max(svg::width(&nodes.text, svg::SMALL));
         let width = placed.width.max(legend::WIDTH).max(heads);
-        legend::draw(placed.height + ABOVE_LEGEND, self.has_added(), &mut svg);
-        let height = placed.height + TITLE + ABOVE_LEGEND + legend::height(self.has_added());
+        let has_added = self.has_added(explanation);
+        legend::draw(placed.height + ABOVE_LEGEND, has_added, &mut svg);
+        let height = placed.height + TITLE + ABOVE_LEGEND + legend::height(has_added);
         let style = style::style(self.view.blocks.iter().copied());
         let size = [width + 2.0 * MARGIN, height + 2.0 * MARGIN];
         svg.file(&style, &title, size, [MARGIN, MARGIN + TITLE])
     }
 
-    /// Whether a block that is drawn holds a path whose node reduction added.
-    fn has_added(&self) -> bool {
-        let blocks = self.view.blocks.iter().map(|&place| self.job.blocks()[place].id());
-        let mut held = blocks.filter_map(|id| self.sheet.set(id)).flat_map(NodeSet::iter);
+    /// Whether a block that is drawn adds a path's node by reduction, or holds such a path.
+    fn has_added(&self, explanation: &Explanation) -> bool {
+        let mut blocks = self.view.blocks.iter().map(|&place| self.job.blocks()[place].id());
+        let mut held = blocks.clone().filter_map(|id| self.sheet.set(id)).flat_map(NodeSet::iter);
         held.any(|node| self.sheet.is_added(node))
+            || blocks.any(|id| explanation.added.iter().any(|added| added.block == id))
     }
 
     fn title(&self, propagation: Propagation) -> String {

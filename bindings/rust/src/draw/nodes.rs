@@ -2,7 +2,8 @@
 //! reduction added.
 
 use super::shown::parts;
-use crate::explain::{node_counts, some_listed, Explanation};
+use crate::explain::{some_listed, Explanation};
+use crate::notation::show::node_counts;
 
 /// The most characters that the paths in the line take. They do not make the picture wide.
 const LONGEST: usize = 60;

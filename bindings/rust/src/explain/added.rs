@@ -1,5 +1,7 @@
-//! The nodes that reduction added, and where.
+//! The nodes that reduction added, where, and for which assumed paths.
 
+use super::bases::on_the_way;
+use super::steps::{How, Steps};
 use crate::ids::{BlockId, NodeId};
 use crate::job::Job;
 use crate::path::Path;
@@ -23,14 +25,27 @@ pub struct Added {
     pub to: Path,
     /// The paths of the block that made entries plain.
     pub bases: Vec<Path>,
+    /// The assumed paths that the replaced one comes from: itself, or such as reduction made into
+    /// it. There is at least one.
+    pub origins: Vec<Origin>,
     /// The number of the visit in [`Replay::visits`].
     pub visit: usize,
     /// The place in [`crate::replay::Visit::replaced`].
     pub place: usize,
 }
 
+/// An assumed path, and blocks that assume it.
+#[derive(Clone, Debug, PartialEq, Eq, Hash)]
+pub struct Origin {
+    /// The path.
+    pub path: Path,
+    /// The blocks, ascending. There is at least one.
+    pub blocks: Vec<BlockId>,
+}
+
 /// All that reduction added, in the order in which it did, which is that of the nodes' numbers.
 pub(super) fn added(job: &Job, replay: &Replay) -> Vec<Added> {
+    let mut steps = Steps::new(job, replay);
     let mut found = Vec::new();
     for (visit, event) in replay.visits().iter().enumerate() {
         let replaced = event.replaced.iter().enumerate();
@@ -43,9 +58,28 @@ pub(super) fn added(job: &Job, replay: &Replay) -> Vec<Added> {
             from: replay.path(replaced.from),
             to: replay.path(replaced.to),
             bases: replaced.bases.iter().map(|&base| replay.path(base)).collect(),
+            origins: origins(&mut steps, visit, place),
             visit,
             place,
         }));
     }
+    found
+}
+
+/// Where the path that was replaced comes from.
+fn origins(steps: &mut Steps, visit: usize, place: usize) -> Vec<Origin> {
+    let step = steps.replaced(visit, place);
+    let mut found: Vec<Origin> = Vec::new();
+    for step in on_the_way(&steps.found, step).into_iter().map(|step| &steps.found[step]) {
+        if step.how != How::Assumed {
+            continue;
+        }
+        match found.iter_mut().find(|origin| origin.path.same_entries(&step.path)) {
+            Some(origin) => origin.blocks.push(step.block),
+            None => found.push(Origin { path: step.path.clone(), blocks: vec![step.block] }),
+        }
+    }
+    found.iter_mut().for_each(|origin| origin.blocks.sort());
+    found.sort_by_key(|origin| origin.blocks[0]);
     found
 }

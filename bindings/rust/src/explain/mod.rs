@@ -24,15 +24,15 @@
 //!          block 1 assumes 1.10, but control can also come to block 2 from block 0, \
 //!          which does not have it
 //!
-//! nodes: 2 before the first round, none added by reduction
+//! nodes 2: 2 before the first round, 0 added by reduction
 //! ");
 //! # Ok::<(), Box<dyn std::error::Error>>(())
 //! ```
 //!
 //! At its end stands how many nodes there were before the first round, and which ones reduction
 //! added. [`Explanation::in_full`] shows all that is known, with every step by which a path came to
-//! a block, and with the round and the block in which each node was added. For sheet and answer by
-//! the strict propagation there is [`explain_strict`].
+//! a block, and with the round and the block in which each node was added, and from which assumed
+//! path it comes. For sheet and answer by the strict propagation there is [`explain_strict`].
 
 mod added;
 mod arrivals;
@@ -45,14 +45,14 @@ mod stops;
 mod text;
 mod unknown;
 
-pub use added::Added;
+pub use added::{Added, Origin};
 pub use bases::{Base, Known, LeftOut};
 pub use matter::blocks_that_matter;
 pub use steps::{How, Step};
 pub use stops::{Holder, Stop, Way, Why};
-pub use text::InFull;
 #[cfg(feature = "draw")]
-pub(crate) use text::{node_counts, some_listed};
+pub(crate) use text::some_listed;
+pub use text::InFull;
 pub use unknown::{Before, Elsewhere, Unknown};
 
 use crate::answer::Answer;
@@ -188,7 +188,7 @@ pub fn explain(job: &Job, sheet: &Sheet, answer: &Answer) -> Result<Explanation,
 ///          block 0 assumes 1, but block 1 takes nothing over from the blocks before it, \
 ///          since it is itself one of them and not finished
 ///
-/// nodes: 1 before the first round, none added by reduction
+/// nodes 1: 1 before the first round, 0 added by reduction
 /// ");
 /// # Ok::<(), Box<dyn std::error::Error>>(())
 /// ```

@@ -103,6 +103,14 @@ impl<'a> Steps<'a> {
         step
     }
 
+    /// How the block came to have what was replaced.
+    pub(super) fn replaced(&mut self, visit: usize, place: usize) -> usize {
+        let event = &self.replay.visits()[visit];
+        let step = self.had(event.block, event.replaced[place].from, Some((visit, place + 1)));
+        self.fill();
+        step
+    }
+
     /// That the block assumes it.
     pub(super) fn assumed(&mut self, block: usize, node: NodeId) -> usize {
         let step = self.place_of((block, node, None));

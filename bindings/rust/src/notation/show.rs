@@ -53,9 +53,7 @@ impl fmt::Display for WithNames<'_, Sheet> {
     fn fmt(&self, f: &mut fmt::Formatter<'_>) -> fmt::Result {
         let (sheet, names) = (self.shown, self.names);
         writeln!(f, "{}", rounds(sheet.rounds(), sheet.is_settled()))?;
-        let [all, before, added] =
-            [sheet.nodes().len(), sheet.nodes_before_rounds(), sheet.added_nodes().len()];
-        writeln!(f, "nodes {all}: {before} before the first round, {added} added by reduction")?;
+        writeln!(f, "{}", node_counts(sheet.nodes_before_rounds(), sheet.added_nodes().len()))?;
         for (node, _) in sheet.nodes() {
             let mark = if sheet.is_added(node) { ", added by reduction" } else { "" };
             writeln!(f, "node {node} {}{mark}", sheet.path(node).with_names(names))?;
@@ -72,6 +70,12 @@ impl fmt::Display for WithNames<'_, Sheet> {
 
 pub(crate) fn rounds(rounds: u8, settled: bool) -> String {
     format!("rounds {rounds}, {}", if settled { "settled" } else { "not settled" })
+}
+
+/// How many nodes there are: in all, before the first round, and added after that.
+pub(crate) fn node_counts(before_rounds: usize, added: usize) -> String {
+    let all = before_rounds + added;
+    format!("nodes {all}: {before_rounds} before the first round, {added} added by reduction")
 }
 
 /// The items with commas between them.

@@ -109,6 +109,7 @@ fn before_the_first_round_there_are_the_assumed_paths_and_what_they_start_with()
     let mut added = [0, 0];
     for job in jobs(41, 4_000) {
         let entered = entered(&job);
+        assert_eq!(job.nodes_before_rounds(), entered.len(), "{job}");
         for (count, sheet) in added.iter_mut().zip([sheet(&job), strict_sheet(&job)]) {
             let Ok(sheet) = sheet else { continue };
             assert_eq!(sheet.nodes_before_rounds(), entered.len(), "{job}");

@@ -26,17 +26,18 @@ block 1 holds athlete, athlete.lastSession
 
 #[test]
 fn an_explanation_ends_with_them() {
-    let short = "\n\nnodes: 2 before the first round, 1 added by reduction: athlete.lastSession\n";
+    let short = "\n\nnodes 3: 2 before the first round, 1 added by reduction: athlete.lastSession\n";
     assert!(text(&["explain"], JOB).ends_with(short));
-    let full = "\n\nnodes: 2 before the first round, 1 added by reduction\n    \
+    let full = "\n\nnodes 3: 2 before the first round, 1 added by reduction\n    \
                 athlete.lastSession in round 1, forward walk: \
-                block 1 made athlete?.lastSession into athlete.lastSession, since it had athlete\n";
+                block 1 made athlete?.lastSession, which it assumes, into athlete.lastSession, since it had \
+                athlete\n";
     assert!(text(&["explain", "--all"], JOB).ends_with(full));
 }
 
 #[test]
 fn so_it_does_where_none_was_added_and_by_the_strict_propagation() {
-    let none = "\n\nnodes: 1 before the first round, none added by reduction\n";
+    let none = "\n\nnodes 1: 1 before the first round, 0 added by reduction\n";
     let job = "scope 1 block 0 assumes 1 block 1 after 1, 0 candidate 1.10";
     for words in [&["explain", "--strict"][..], &["explain", "--strict", "--all"]] {
         assert!(text(words, job).ends_with(none), "{words:?}");
@@ -45,8 +46,9 @@ fn so_it_does_where_none_was_added_and_by_the_strict_propagation() {
     assert!(text(&["explain"], job).contains(&format!("{none}\n")));
     let job = "scope 1 block 0 assumes 1 block 1 after 1, 0 assumes 1?.10";
     let there = text(&["explain", "--strict", "--all"], job);
-    assert!(there
-        .contains("\n    1.10 in round 1, backward walk: block 0 made 1?.10 into 1.10, since it had 1\n"));
+    let line = "\n    1.10 in round 1, backward walk: block 0 made 1?.10 into 1.10, since it had 1; \
+                1?.10 comes from block 1, which assumes it\n";
+    assert!(there.contains(line), "{there}");
     assert!(text(&["sheet", "--strict"], job).contains("\nnode 2 1.10, added by reduction\n"));
 }
 
@@ -55,7 +57,8 @@ fn a_picture_has_them_under_its_title() {
     for words in [&["draw"][..], &["draw", "--focus"], &["draw", "--strict"]] {
         let picture = text(words, JOB);
         assert!(
-            picture.contains(">nodes: 2 before the first round, 1 added by reduction: athlete.lastSession<"),
+            picture
+                .contains(">nodes 3: 2 before the first round, 1 added by reduction: athlete.lastSession<"),
             "{words:?}"
         );
         assert!(picture.contains("<tspan class=\"added\">+athlete.lastSession</tspan>"), "{words:?}");
@@ -70,7 +73,7 @@ fn too_many() -> String {
 #[test]
 fn a_message_on_too_many_nodes_has_those_before_the_first_round() {
     let refusal = "refusal 9, ManyNodes: the registry has more than 512 nodes when propagation ends";
-    let nodes = "360 of them before the first round, the others added by reduction";
+    let nodes = "360 of them before the first round, 153 or more added by reduction";
     let [plain, other] = ["", " after 0"].map(|after| format!("scope 0 block 0{after}{}", too_many()));
     for command in ["answer", "sheet", "explain", "draw"] {
         let ends = |words: &[&str], job: &str, hint: &str| {
@@ -80,10 +83,37 @@ fn a_message_on_too_many_nodes_has_those_before_the_first_round() {
         // Without loops both propagations are the same.
         ends(&[], &plain, "");
         ends(&["--strict"], &plain, "");
-        ends(&[], &other, "; with `--strict` there may be fewer");
-        ends(&["--strict"], &other, "; without `--strict` there may be fewer");
+        ends(&[], &other, "; with `--strict` it is refused, too");
+        ends(&["--strict"], &other, "; without `--strict` it is refused, too");
     }
     assert!(message(&["sheet", "--bytes"], &plain, 1).contains(nodes));
+}
+
+/// The blocks, and others that assume so many variables and stand alone.
+fn filled(blocks: &str, variables: u32) -> String {
+    let block = |first| {
+        let paths =
+            (first..variables.min(first + 200)).map(|variable| format!(" assumes {}", 100 + variable));
+        format!(" block {}{}", 1000 + first, paths.collect::<String>())
+    };
+    format!("scope 1 {blocks}{}", (0..variables).step_by(200).map(block).collect::<String>())
+}
+
+/// In the first job reduction adds a node by the existing propagation alone, in the second two by
+/// that and three by the strict one.
+#[test]
+fn a_message_on_too_many_nodes_says_whether_the_other_propagation_refuses_the_job() {
+    let existing = "block 0 assumes 1 block 1 after 1, 0 assumes 1?.10 block 2 after 0";
+    let strict = "block 0 assumes 1 block 1 after 1, 0 assumes 1?.10, 1?.10?.10";
+    let [more, less] = [filled(existing, 510), filled(strict, 507)];
+    let said = message(&["sheet"], &more, 1);
+    let hint = "512 of them before the first round, 1 or more added by reduction; with `--strict` it is not refused\n";
+    assert!(said.ends_with(hint), "{said}");
+    assert!(text(&["sheet", "--strict"], &more).contains("\nnodes 512: 512 before the first round, 0 added"));
+    let said = message(&["sheet", "--strict"], &less, 1);
+    let hint = "510 of them before the first round, 3 or more added by reduction; without `--strict` it is not refused\n";
+    assert!(said.ends_with(hint), "{said}");
+    assert!(text(&["sheet"], &less).contains("\nnodes 512: 510 before the first round, 2 added"));
 }
 
 /// Repeated paths and spans make no nodes; optional marks and kinds of properties do. Before the
@@ -106,6 +136,6 @@ fn a_loop_of_several_blocks_is_a_loop_and_a_diamond_is_none() {
     let around = "block 1 after 0, 3 block 2 after 1 block 3 after 2";
     for (blocks, has_loop) in [(diamond, false), (around, true)] {
         let said = message(&["answer"], format!("scope 0 block 0{} {blocks}", too_many()), 1);
-        assert_eq!(said.contains("with `--strict` there may be fewer"), has_loop, "{said}");
+        assert_eq!(said.contains("with `--strict` it is refused, too"), has_loop, "{said}");
     }
 }

@@ -1,6 +1,6 @@
 //! Sentences on the nodes: how many, which ones were added, and where.
 
-use crate::parse::{block, holes, path, paths};
+use crate::parse::{block, blocks, holes, path, paths};
 use crate::world::{show, World};
 use scope_deps::replay::Side;
 use scope_deps::Path;
@@ -8,9 +8,8 @@ use scope_deps::Path;
 /// Checks the last part of an explanation, and names the kind of each of its sentences.
 pub fn check_nodes(world: &World, lines: &[&str], in_full: bool) -> Vec<&'static str> {
     let added: Vec<Path> = world.sheet.added_nodes().map(|(node, _)| world.sheet.path(node)).collect();
-    let count = if added.is_empty() { "none".to_string() } else { added.len().to_string() };
-    let before = world.sheet.nodes_before_rounds();
-    let counts = format!("nodes: {before} before the first round, {count} added by reduction");
+    let (all, before) = (world.sheet.nodes().len(), world.sheet.nodes_before_rounds());
+    let counts = format!("nodes {all}: {before} before the first round, {} added by reduction", added.len());
     if in_full {
         assert_eq!(lines[0], counts);
         let each = lines[1..].iter().flat_map(|line| check_added(world, line));
@@ -38,8 +37,12 @@ fn check_some(named: &str, added: &[Path]) {
 
 /// The paths that a sentence says were added, by a replacement that there was.
 fn check_added(world: &World, line: &str) -> Vec<Path> {
+    let (line, origins) = match line.split_once("; ") {
+        Some((line, origins)) => (line.to_string(), Some(origins)),
+        None => (line.replacen(", which it assumes, into ", " into ", 1), None),
+    };
     let pattern = "    {} in round {}, {} walk: {} made {} into {}, since it had {}";
-    let found = holes(pattern, line).unwrap_or_else(|| panic!("not on nodes: {line}"));
+    let found = holes(pattern, &line).unwrap_or_else(|| panic!("not on nodes: {line}"));
     let (added, round, at) = (paths(found[0]), found[1].parse::<u8>().unwrap(), block(found[3]));
     let side = match found[2] {
         "forward" => Side::Predecessors,
@@ -61,5 +64,26 @@ fn check_added(world: &World, line: &str) -> Vec<Path> {
             && same(&replaced.added, &added)
     });
     assert!(is_told, "{line}");
+    match origins {
+        Some(origins) => check_origins(world, &from, origins),
+        None => assert!(world.assumes(at, &from), "{line}"),
+    }
     added
+}
+
+/// `1?.10 comes from block 0, which assumes it, and blocks 1 and 2, which assume 1?.10?.11`: blocks
+/// assume such paths, and these have the names of the first and are optional wherever it is.
+fn check_origins(world: &World, from: &Path, said: &str) {
+    let found = holes("{} comes from {}", said).unwrap_or_else(|| panic!("no origin: {said}"));
+    assert!(path(found[0]).same_entries(from), "{said}");
+    for origin in found[1].split(", and ") {
+        let of_one = holes("{}, which assumes {}", origin);
+        let told = of_one.or_else(|| holes("{}, which assume {}", origin));
+        let told = told.unwrap_or_else(|| panic!("no origin: {origin}"));
+        let assumed = if told[1] == "it" { from.clone() } else { path(told[1]) };
+        assert_eq!(told[1] == "it", assumed.same_entries(from), "{said}");
+        assert!(blocks(told[0]).iter().all(|&block| world.assumes(block, &assumed)), "{said}");
+        let mut entries = assumed.entries().iter().zip(from.entries());
+        assert!(assumed.same_names(from) && entries.all(|(was, is)| was.optional || !is.optional), "{said}");
+    }
 }

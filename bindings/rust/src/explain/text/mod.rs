@@ -11,11 +11,11 @@ use crate::path::{Entry, Path};
 use crate::replay::Propagation;
 use known::known;
 use sections::Sections;
+#[cfg(feature = "draw")]
+pub(crate) use show::some_listed;
 use show::{show_entry, show_path};
 use std::fmt;
 use unknown::unknown;
-#[cfg(feature = "draw")]
-pub(crate) use {nodes::counts as node_counts, show::some_listed};
 
 /// What stands before all else where the propagation is the strict one.
 const STRICT: &str = "strict propagation: a block takes paths over from the blocks before it, or after it, \
@@ -45,7 +45,7 @@ impl Explanation {
     ///     block 0 assumes 1
     ///     block 1 took 1 over from block 0, the only block that control comes from
     ///
-    /// nodes: 1 before the first round, none added by reduction
+    /// nodes 1: 1 before the first round, 0 added by reduction
     /// ");
     /// # Ok::<(), Box<dyn std::error::Error>>(())
     /// ```

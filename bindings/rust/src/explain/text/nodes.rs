@@ -1,21 +1,16 @@
 //! How many nodes there were before the first round, and which ones reduction added, in words.
 
-use super::show::{listed, show_block, some_listed, MOST};
+use super::show::{for_count, listed, show_block, show_blocks, some_listed, MOST};
 use super::Text;
-use crate::explain::Added;
+use crate::explain::{Added, Origin};
+use crate::notation::show::node_counts;
 use crate::path::Path;
 use crate::replay::Side;
-
-/// How many: before the first round, and added.
-pub(crate) fn counts(before_rounds: usize, added: usize) -> String {
-    let added = if added == 0 { "none".to_string() } else { added.to_string() };
-    format!("nodes: {before_rounds} before the first round, {added} added by reduction")
-}
 
 /// How many, and some of those that were added.
 pub(super) fn in_short(text: &Text) -> String {
     let added = paths(text, text.explanation.added_paths());
-    let counts = counts(text.explanation.nodes_before_rounds, added.len());
+    let counts = node_counts(text.explanation.nodes_before_rounds, added.len());
     if added.is_empty() {
         counts
     } else {
@@ -26,7 +21,7 @@ pub(super) fn in_short(text: &Text) -> String {
 /// How many, and a line for each path that was replaced so that nodes were added.
 pub(super) fn in_full(text: &Text) -> Vec<String> {
     let explanation = text.explanation;
-    let counts = counts(explanation.nodes_before_rounds, explanation.added_paths().count());
+    let counts = node_counts(explanation.nodes_before_rounds, explanation.added_paths().count());
     std::iter::once(counts).chain(explanation.added.iter().map(|added| line(text, added))).collect()
 }
 
@@ -37,9 +32,26 @@ fn line(text: &Text, added: &Added) -> String {
     };
     let nodes = listed(&paths(text, added.nodes.iter().map(|(_, path)| path)));
     let (block, from, to) = (show_block(added.block), text.path(&added.from), text.path(&added.to));
-    let had = listed(&paths(text, &added.bases));
-    let Added { round, .. } = added;
-    format!("    {nodes} in round {round}, {walk} walk: {block} made {from} into {to}, since it had {had}")
+    let (Added { round, .. }, had) = (added, listed(&paths(text, &added.bases)));
+    let (own, origins) = match &added.origins[..] {
+        [origin] if origin.path.same_entries(&added.from) && origin.blocks == [added.block] => {
+            (", which it assumes,", String::new())
+        }
+        origins => ("", format!("; {from} comes from {}", listed_origins(text, &added.from, origins))),
+    };
+    format!(
+        "    {nodes} in round {round}, {walk} walk: {block} made {from}{own} into {to}, since it had {had}{origins}"
+    )
+}
+
+/// The blocks that assume a path, or such as reduction made into it.
+fn listed_origins(text: &Text, path: &Path, origins: &[Origin]) -> String {
+    let origins = origins.iter().map(|origin| {
+        let assume = for_count(origin.blocks.len(), "assumes", "assume");
+        let what = if origin.path.same_entries(path) { "it".to_string() } else { text.path(&origin.path) };
+        format!("{}, which {assume} {what}", show_blocks(&origin.blocks))
+    });
+    origins.collect::<Vec<_>>().join(", and ")
 }
 
 fn paths<'p>(text: &Text, paths: impl IntoIterator<Item = &'p Path>) -> Vec<String> {
