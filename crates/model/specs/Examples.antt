@@ -1,10 +1,10 @@
 -- Document 01, "Proved examples": T1 to T8, R1, R2, P1, P2, P3 and the bytes case of "Answer and
 -- sheet" as one list, proved by computation; and beside the list, what its examples leave open.
 use Prim.Native.Nat.{ℕ, zero, _+_, _≤_}
-use mathlib.Core.Path.{_≡_, refl, ap, _∙_}
+use mathlib.Core.Path.{_≡_, refl, sym, ap, _∙_}
 use mathlib.Core.Bool.{Bool, true, false, cond, true≢false}
 use mathlib.Core.List.{List, [], _∷_, map}
-use lib.ListN.{length, drop}
+use lib.ListN.{length, drop, getD, List·getD-map}
 use lib.Dec.{T, ltb, ltb→lt}
 use native.Mathlib.Omega.{arith}
 use Rattle.entries.specs.declared.BlockId.{BlockId}
@@ -12,12 +12,13 @@ use Rattle.entries.specs.declared.PropertyLiteral.the-variants.{String}
 use Rattle.entries.specs.declared.DependencyPathEntry.{DependencyPathEntry}
 use Rattle.entries.specs.Path.{ReactiveScopeDependency}
 use Rattle.model.specs.Sets.{NodeSet}
-use Rattle.model.specs.Registry.{fullPathOf, getOrCreateProperty}
+use Rattle.model.specs.Registry.{PropertyPathNode, rootNode, fullPathOf, getOrCreateProperty}
 use Rattle.model.specs.Reduction.{Reduced, reduceMaybeOptionalChains}
 use Rattle.model.specs.Tree.{deriveMinimalDependencies}
 use Rattle.model.specs.Job.{Block}
 use Rattle.model.specs.Stage.{PathsEntered, enterPaths, noneEntered, propagated}
-use Rattle.model.specs.Propagation.{JoiningRule, doneNeighbours}
+use Rattle.model.specs.Rounds.{Rounds}
+use Rattle.model.specs.Propagation.{Work, JoiningRule, doneNeighbours}
 use Rattle.model.specs.Answer.{leastBuffer, Verdict, writes, answerOf}
 
 -- What an example says.
@@ -239,11 +240,43 @@ entered-in-job-order = (refl, refl, refl)
 -- Rounds and the orders of a walk.
 
 -- A block that assumes 1 and 1?.10 ends with {1, 1.10} after 2 rounds: the first changed the set,
--- though not its size.
+-- though not its size. To compute the path of a single node takes a long time here, and to compute
+-- those of all nodes does not; so the set is computed by its nodes' numbers.
+
+abbrev changing : Rounds Work
+changing = propagated doneNeighbours (block 7 [] (one [] ∷ one (optional 10 ∷ []) ∷ []) ∷ [])
+
+abbrev changedPaths : List ReactiveScopeDependency
+changedPaths = one [] ∷ one (optional 10 ∷ []) ∷ one (plain 10 ∷ []) ∷ []
+
+changed-nodes : map (λ (n : PropertyPathNode). n .fullPath) (changing .work .registry) ≡ changedPaths
+unfolding propagated doneNeighbours
+changed-nodes = refl
+
+changed-set : changing .work .sets ≡ (record { 0 = 0 } ∷ record { 0 = 2 } ∷ []) ∷ []
+unfolding propagated doneNeighbours
+changed-set = refl
+
+changed-rounds : (changing .rounds ≡ 2) × (changing .settled ≡ true)
+unfolding propagated doneNeighbours
+changed-rounds = (refl, refl)
+
+-- what `fullPathOf` has for no node
+abbrev noNode : PropertyPathNode
+noNode = rootNode (record { 0 = zero }) false zero
+
+changed-path : (k : ℕ) → fullPathOf (changing .work .registry) (record { 0 = k }) ≡ getD changedPaths k (noNode .fullPath)
+changed-path k =
+    sym (List·getD-map (λ (n : PropertyPathNode). n .fullPath) (changing .work .registry) k noNode)
+    ∙ ap (λ paths. getD paths k (noNode .fullPath)) changed-nodes
+
 pub changed-by-set :
     ExampleHolds (propagation (block 7 [] (one [] ∷ one (optional 10 ∷ []) ∷ []) ∷ []) ((one [] ∷ one (plain 10 ∷ []) ∷ []) ∷ []) 2)
-unfolding propagated doneNeighbours
-changed-by-set = (refl, refl, refl)
+changed-by-set = (
+  ap (map (map (fullPathOf (changing .work .registry)))) changed-set ∙ (λ i. (changed-path 0 i ∷ changed-path 2 i ∷ []) ∷ []),
+  changed-rounds .0,
+  changed-rounds .1,
+)
 
 -- 0 (after 1), 1 (after 0) assumes 5: in both, 2 rounds. "Forward takes blocks in job order": 0 is
 -- visited first, and 1 is Done when 0 is joined.

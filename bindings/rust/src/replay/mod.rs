@@ -1,7 +1,7 @@
 //! The propagation of a job done again, with a trace of what happened.
 //!
 //! The library says what each block holds in the end, and not how that came about. This module
-//! takes document 01's steps once more, in a small plain program, and notes each visit: which
+//! takes the specification's steps once more, in a small plain program, and notes each visit: which
 //! neighbours were joined, which were passed over because they or others were being visited, which
 //! paths came in, which were replaced, and which nodes were added for that. Nothing of it goes into
 //! an answer or a sheet. [`explain`](mod@crate::explain) compares the sheet that comes out with the
