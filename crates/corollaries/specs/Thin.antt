@@ -3,18 +3,18 @@
 -- and sheets, and their own thin job. The theorems over the definitions are those of the crate
 -- `thin_laws`.
 use Prim.Native.Nat.{ℕ, _≤_, _<_}
-use mathlib.Core.Path.{_≡_, sym, ap, subst}
+use mathlib.Core.Path.{_≡_}
 use mathlib.Core.List.{List}
 use lib.ListN.{length, take, replicate}
 use lib.IntN.{pos}
 use Rattle.model.specs.ListLaws.{All}
-use Rattle.model.specs.Answer.{writes, answerOf, sheetOf, programOutput, numberReturned, bufferAfter}
+use Rattle.model.specs.Answer.{writes, answerOf, sheetOf, numberReturned, bufferAfter}
 use Rattle.model.specs.Strict.{strictAnswerOf, strictSheetOf}
 use Rattle.model.specs.Thin.{leastThinBuffer, thinOf, thinProgram}
 use Rattle.thin_laws.specs.Theorems.{thin-same, thin-again}
 use Rattle.stage.specs.declared.Outcome.the-variants.{Written}
 use Rattle.stage.specs.Jobs.{Meets}
-use Rattle.corollaries.specs.Leaves.{left-first, length-written, number-written}
+use Rattle.corollaries.specs.Leaves.{outcome-holds, number-holds, output-holds}
 
 -- "The thin job has the same answer and sheet bytes, or the same refusal 9, as the original.
 -- Thinning a thin job yields its own bytes." By the strict propagation too.
@@ -36,23 +36,19 @@ thin-job-of job out t bytes e = record {
 }
 
 module _ (job before after : List ℕ) (n : ℕ) (bytes : All (λ b. b < 256) job) where
-  by-verdict : (written : List ℕ) × (thinOf job before ≡ writes written) × (n ≡ length written)
-      → after ≡ bufferAfter (thinOf job before) before → ThinJobOf job (take n after)
-  by-verdict w b =
-      subst (ThinJobOf job) (sym (left-first (thinOf job before) before after n w b)) (thin-job-of job before (w .0) bytes (w .1))
-
   -- of what `thin` leaves
   pub thin-leaves : Meets (thinOf job before) (Written n) before after → ThinJobOf job (take n after)
-  thin-leaves m = by-verdict (length-written (thinOf job before) n (m .outcome)) (m .buffer)
+  thin-leaves = outcome-holds (ThinJobOf job) (thinOf job before) (λ t. thin-job-of job before t bytes) before after n
 
   -- of what `scope_deps_thin` leaves, where it returns n
   pub scope-deps-thin-leaves : pos n ≡ numberReturned (thinOf job before) → after ≡ bufferAfter (thinOf job before) before
       → ThinJobOf job (take n after)
-  scope-deps-thin-leaves r b = by-verdict (number-written (thinOf job before) n r) b
+  scope-deps-thin-leaves = number-holds (ThinJobOf job) (thinOf job before) (λ t. thin-job-of job before t bytes) before after n
 
 -- of what program `thin` writes, where it is no refusal
 pub thin-program-writes : (job written : List ℕ) → All (λ b. b < 256) job → thinOf job (replicate leastThinBuffer 0) ≡ writes written
     → ThinJobOf job (thinProgram job)
 unfolding thinProgram
-thin-program-writes job written bytes e = subst (ThinJobOf job) (sym (ap programOutput e))
-    (thin-job-of job (replicate leastThinBuffer 0) written bytes e)
+thin-program-writes job written bytes =
+    output-holds (ThinJobOf job) (thinOf job (replicate leastThinBuffer 0))
+    (λ t. thin-job-of job (replicate leastThinBuffer 0) t bytes) written

@@ -18,3 +18,4 @@ pub mod JobBack
 pub mod Fits
 pub mod Written
 pub mod Verdicts
+pub mod SheetNodes

@@ -1,6 +1,6 @@
 -- What an operation has done that writes: it has read a job, whose blocks refusals 7 and 8 let
--- pass, and written that job's bytes; and an answer so written reads back to the job's returned
--- paths.
+-- pass and whose nodes 9, and written that job's bytes; and an answer so written reads back to the
+-- job's returned paths.
 use Prim.Native.Nat.{ℕ, _≤_}
 use native.Mathlib.Omega.{arith}
 use mathlib.Core.Path.{_≡_, refl}
@@ -8,7 +8,7 @@ use mathlib.Core.List.{List}
 use lib.ListN.{length}
 use lib.Dec.{ltb}
 use Rattle.entries.specs.declared.Refusal.{Refusal}
-use Rattle.model.specs.Tests.{by-cond, decide}
+use Rattle.model.specs.Tests.{by-cond, decide, ltb-false}
 use Rattle.model.specs.ListLaws.{All}
 use Rattle.model.specs.Registry.{nodeLimit}
 use Rattle.model.specs.Rounds.{Rounds}
@@ -48,11 +48,12 @@ different : (r : Refusal) (bytes : List ℕ) → turnsBack r ≡ writes bytes �
 different r bytes e = let z : _≡_ {A = ℕ} 0 1 = cc in omega arith
 
 module _ (rule : JoiningRule) (bytes : Job → Started → Rounds Work → List ℕ) where
-  -- a job was read, and what is written are its bytes
+  -- a job was read, its nodes are within the limit, and what is written are its bytes
   pub record ReadAndWritten (x : Read Job) (out : List ℕ) : Type 0 where
     pub j : Job
     pub end : ℕ
     pub reads : x ≡ got j end
+    pub within : length (propagated rule (j .blocks) .work .registry) ≤ nodeLimit
     pub written : out ≡ bytes j (startOf (j .blocks)) (propagated rule (j .blocks))
 
   -- where the verdict on what was read is to write, a job was read, and its bytes are written
@@ -61,7 +62,7 @@ module _ (rule : JoiningRule) (bytes : Job → Started → Rounds Work → List 
   verdict-job (got j end) out e =
       let p = propagated rule (j .blocks) in
       decide (ltb nodeLimit (length (p .work .registry))) (λ t. absurd (different _ out (rw t at e)))
-      (λ t. let e′ = rw t at e in record { j = j; end = end; reads = refl; written = cc })
+      (λ t. let e′ = rw t at e in record { j = j; end = end; reads = refl; within = ltb-false nodeLimit (length (p .work .registry)) t; written = cc })
 
 lengths-written : (least most : ℕ) (job out bytes : List ℕ) (rest : Verdict) → withinLengths least most job out rest ≡ writes bytes
     → rest ≡ writes bytes

@@ -7,7 +7,7 @@ use native.Mathlib.Nat.{le-refl, le-trans, not-suc-le-zero}
 use native.Mathlib.Omega.{arith}
 use mathlib.Core.Path.{_≡_, refl, sym, ap, subst, _∙_}
 use mathlib.Core.Bool.{Bool, true, false, _||_, not}
-use mathlib.Core.List.{List, [], _∷_, map, foldl}
+use mathlib.Core.List.{List, [], _∷_, _++_, map, foldl}
 use lib.ListN.{length, getD, set, length-set}
 use lib.Seq.{getD-set-other}
 use lib.Dec.{eqb}
@@ -205,18 +205,35 @@ propagation-extends =
     (record { none = λ w. extends-refl (w .registry); after = λ u v w a b. extends-trans a b })
     join-extends (λ w. extends-refl (w .registry))
 
--- And it adds them by reduction alone ("how many nodes reduction adds", E4): with a reducer that
--- makes none, there are none but those that were there.
-pub only-reduction-adds : (v : Reducer) → ((reg : PropertyPathRegistry) (s : NodeSet) → v reg s .registry ≡ reg)
-    → (rule : JoiningRule) (g : Graph) (reg : PropertyPathRegistry) (sets : List NodeSet)
-    → propagateWith v rule g reg sets .work .registry ≡ reg
+-- a registry after the reductions of sets, one after the other
+abbrev pub afterReductions : Reducer → PropertyPathRegistry → List NodeSet → PropertyPathRegistry
+afterReductions v reg [] = reg
+afterReductions v reg (s ∷ ss) = afterReductions v (v reg s .registry) ss
+
+-- the registry is that before, after reductions alone
+abbrev pub OnlyReduced : Reducer → PropertyPathRegistry → PropertyPathRegistry → Type 0
+OnlyReduced v before after = (sets : List NodeSet) × (after ≡ afterReductions v before sets)
+
+reductions-append : (v : Reducer) (reg : PropertyPathRegistry) (ss ts : List NodeSet)
+    → afterReductions v reg (ss ++ ts) ≡ afterReductions v (afterReductions v reg ss) ts
+reductions-append v reg [] ts = refl
+reductions-append v reg (s ∷ ss) ts = reductions-append v (v reg s .registry) ss ts
+
+-- And it adds them by reduction alone ("how many nodes reduction adds", E4): whatever the reducer,
+-- the registry at the end is that of the start after some reductions.
+pub only-reduction-adds : (v : Reducer) (rule : JoiningRule) (g : Graph) (reg : PropertyPathRegistry) (sets : List NodeSet)
+    → OnlyReduced v reg (propagateWith v rule g reg sets .work .registry)
 unfolding joinWith
-only-reduction-adds v none =
-    propagation-does v (λ u w. w .registry ≡ u .registry) (record { none = λ w. refl; after = λ u v w a b. b ∙ a })
-    joins (λ w. refl)
+only-reduction-adds v =
+    propagation-does v (λ u w. OnlyReduced v (u .registry) (w .registry))
+    (record { none = λ w. ([], refl); after = λ t u w a b. after (t .registry) (u .registry) (w .registry) a b })
+    (λ neighbours b w. (joinedSet neighbours b w ∷ [], refl)) (λ w. ([], refl))
   where
-    joins : (neighbours : List ℕ) (b : ℕ) (w : Work) → joinWith v neighbours b w .registry ≡ w .registry
-    joins neighbours b w = none (w .registry) (joinedSet neighbours b w)
+    after : (t u w : PropertyPathRegistry) → OnlyReduced v t u → OnlyReduced v u w → OnlyReduced v t w
+    after t u w a b = (
+      a .0 ++ b .0,
+      b .1 ∙ ap (λ r. afterReductions v r (b .0)) (a .1) ∙ sym (reductions-append v t (a .0) (b .0)),
+    )
 
 abbrev KeepsProper : Work → Work → Type 0
 KeepsProper u w = ProperWork u → ProperWork w
@@ -350,6 +367,13 @@ propagated-proper rule bs = propagation-proper rule (graphOf bs) (startOf bs .re
 pub propagated-extends : (rule : JoiningRule) (bs : List Block) → Extends (startOf bs .registry) (propagated rule bs .work .registry)
 unfolding propagated
 propagated-extends rule bs = propagation-extends rule (graphOf bs) (startOf bs .registry) (startOf bs .sets)
+
+-- And these were made by reductions, one after the other, of some sets, and by nothing else.
+pub propagated-reduces : (rule : JoiningRule) (bs : List Block)
+    → OnlyReduced reduceMaybeOptionalChains (startOf bs .registry) (propagated rule bs .work .registry)
+unfolding propagated propagateNonNull
+propagated-reduces rule bs = only-reduction-adds reduceMaybeOptionalChains rule (graphOf bs) (startOf bs .registry)
+    (startOf bs .sets)
 
 -- the same with any reduction that repeats passes until one changes nothing
 pub propagated-only : (v : Reducer) → Repeats v → (rule : JoiningRule) (bs : List Block)
