@@ -237,7 +237,7 @@ fn the_assumed_paths_nodes_come_first_and_the_others_are_of_reduction() {
     }
 }
 
-/// A visit that leaves a set as it was makes no node: what joins is reduced to what is there.
+/// It is seen, and not proved: a visit that leaves a set as it was seems to make no node.
 #[test]
 fn a_last_round_that_changes_nothing_makes_no_node() {
     let mut unsettled = 0;

@@ -119,7 +119,7 @@ impl Job {
 
     /// How many nodes the job has before the first round: one for each path that is assumed, or
     /// that an assumed one starts with, however often it is there. With more than 512 the stage
-    /// refuses the job by 9, [`Refusal::ManyNodes`]; to fewer reduction may add others.
+    /// refuses the job by 9, [`ManyNodes`](crate::ManyNodes); to fewer reduction may add others.
     ///
     /// [`Sheet::nodes_before_rounds`](crate::Sheet::nodes_before_rounds) is the same number; this
     /// one is there for a job that has no sheet, too.

@@ -55,7 +55,7 @@ impl Stage {
     ///
     /// # Panics
     ///
-    /// Where the library that is linked is another than the stage's.
+    /// Where the library that is linked is another than the stage's of this version.
     pub fn answer(&mut self, job: &Job) -> Result<&Answer, ManyNodes> {
         self.answer_by(interface::answer, job)
     }
@@ -68,7 +68,7 @@ impl Stage {
     ///
     /// # Panics
     ///
-    /// Where the library that is linked is another than the stage's.
+    /// Where the library that is linked is another than the stage's of this version.
     pub fn sheet(&mut self, job: &Job) -> Result<&Sheet, ManyNodes> {
         self.sheet_by(interface::sheet, job)
     }
@@ -82,7 +82,7 @@ impl Stage {
     ///
     /// # Panics
     ///
-    /// Where the library that is linked is another than the stage's.
+    /// Where the library that is linked is another than the stage's of this version.
     pub fn strict_answer(&mut self, job: &Job) -> Result<&Answer, ManyNodes> {
         self.answer_by(interface::strict_answer, job)
     }
@@ -95,22 +95,20 @@ impl Stage {
     ///
     /// # Panics
     ///
-    /// Where the library that is linked is another than the stage's.
+    /// Where the library that is linked is another than the stage's of this version.
     pub fn strict_sheet(&mut self, job: &Job) -> Result<&Sheet, ManyNodes> {
         self.sheet_by(interface::strict_sheet, job)
     }
 
     fn answer_by(&mut self, operation: Operation, job: &Job) -> Result<&Answer, ManyNodes> {
         let written = only_many_nodes(operation(job.as_bytes(), &mut self.out))?;
-        self.answer
-            .read(&self.out[..written], &mut self.spare)
-            .expect("the stage writes answers of its format");
+        of_this_version("an answer", self.answer.read(&self.out[..written], &mut self.spare));
         Ok(&self.answer)
     }
 
     fn sheet_by(&mut self, operation: Operation, job: &Job) -> Result<&Sheet, ManyNodes> {
         let written = only_many_nodes(operation(job.as_bytes(), &mut self.out))?;
-        self.sheet.read(&self.out[..written]).expect("the stage writes sheets of its format");
+        of_this_version("a sheet", self.sheet.read(&self.out[..written]));
         Ok(&self.sheet)
     }
 
@@ -119,7 +117,7 @@ impl Stage {
     ///
     /// # Panics
     ///
-    /// Where the library that is linked is another than the stage's.
+    /// Where the library that is linked is another than the stage's of this version.
     ///
     /// ```
     /// use scope_deps::{Job, Stage};
@@ -200,6 +198,16 @@ impl fmt::Debug for Stage {
     }
 }
 
+/// What was read of bytes that the stage wrote. One of another version may write other bytes.
+fn of_this_version<T, E: fmt::Display>(what: &str, read: Result<T, E>) -> T {
+    read.unwrap_or_else(|fault| {
+        panic!(
+            "the library that is linked is not of this version, and has to be made anew: \
+             it wrote {what} that is not of the format here ({fault})"
+        )
+    })
+}
+
 /// What the stage returned for a job that was built: a length, or refusal 9.
 fn only_many_nodes(returned: Result<usize, u8>) -> Result<usize, ManyNodes> {
     returned.map_err(|number| {
@@ -224,7 +232,7 @@ impl Job {
     ///
     /// # Panics
     ///
-    /// Where the library that is linked is another than the stage's.
+    /// Where the library that is linked is another than the stage's of this version.
     ///
     /// ```
     /// use scope_deps::{answer, Job};
@@ -248,7 +256,7 @@ impl Job {
     pub fn thin(&self) -> Job {
         let mut out = vec![0; limits::THIN_BYTES];
         let written = never_refused(interface::thin(self.as_bytes(), &mut out));
-        let thin = Job::from_bytes(&out[..written]).expect("the stage writes jobs of its format");
+        let thin = of_this_version("a job", Job::from_bytes(&out[..written]));
         thin.named(self.names().clone())
     }
 }
@@ -264,7 +272,7 @@ impl Job {
 ///
 /// # Panics
 ///
-/// Where the library that is linked is another than the stage's.
+/// Where the library that is linked is another than the stage's of this version.
 ///
 /// ```
 /// use scope_deps::{answer, Job};
@@ -289,7 +297,7 @@ pub fn answer(job: &Job) -> Result<Answer, ManyNodes> {
 ///
 /// # Panics
 ///
-/// Where the library that is linked is another than the stage's.
+/// Where the library that is linked is another than the stage's of this version.
 ///
 /// ```
 /// use scope_deps::{sheet, BlockId, Job};
@@ -320,7 +328,7 @@ pub fn sheet(job: &Job) -> Result<Sheet, ManyNodes> {
 ///
 /// # Panics
 ///
-/// Where the library that is linked is another than the stage's.
+/// Where the library that is linked is another than the stage's of this version.
 ///
 /// ```
 /// use scope_deps::{answer, strict_answer, Job};
@@ -344,7 +352,7 @@ pub fn strict_answer(job: &Job) -> Result<Answer, ManyNodes> {
 ///
 /// # Panics
 ///
-/// Where the library that is linked is another than the stage's.
+/// Where the library that is linked is another than the stage's of this version.
 ///
 /// ```
 /// use scope_deps::{strict_sheet, Job};
@@ -365,11 +373,11 @@ pub fn strict_sheet(job: &Job) -> Result<Sheet, ManyNodes> {
 fn answer_by(operation: Operation, job: &Job) -> Result<Answer, ManyNodes> {
     let mut out = vec![0; limits::OUT_BYTES];
     let written = only_many_nodes(operation(job.as_bytes(), &mut out))?;
-    Ok(Answer::from_bytes(&out[..written]).expect("the stage writes answers of its format"))
+    Ok(of_this_version("an answer", Answer::from_bytes(&out[..written])))
 }
 
 fn sheet_by(operation: Operation, job: &Job) -> Result<Sheet, ManyNodes> {
     let mut out = vec![0; limits::OUT_BYTES];
     let written = only_many_nodes(operation(job.as_bytes(), &mut out))?;
-    Ok(Sheet::from_bytes(&out[..written]).expect("the stage writes sheets of its format"))
+    Ok(of_this_version("a sheet", Sheet::from_bytes(&out[..written])))
 }

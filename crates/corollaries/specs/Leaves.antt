@@ -1,5 +1,5 @@
--- What an operation leaves at the buffer's start, where it writes: the bytes of its verdict. So what
--- holds of the bytes of a verdict holds of the bytes that functions and programs leave.
+-- What an operation leaves at the buffer's start, where it writes: the bytes of its verdict. So
+-- what holds of the bytes of a verdict holds of the bytes that functions and programs leave.
 use Prim.Native.Nat.{ℕ, zero, suc, _<_}
 use native.Mathlib.Omega.{arith}
 use mathlib.Core.Path.{_≡_, refl, sym, ap, subst, _∙_}

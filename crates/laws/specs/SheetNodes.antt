@@ -1,6 +1,6 @@
--- Document 02, E4: what a sheet that is written tells of its nodes. The two numbers of its head read
--- back to those at the end and those before the first round; these keep their places, and the
--- others come from reductions alone.
+-- Document 02, E4: what a sheet that is written tells of its nodes. Two numbers of its head read
+-- back to how many there are at the end and before the first round; the latter keep their numbers,
+-- and the others come from reductions alone.
 use Prim.Native.Nat.{ℕ, _≤_}
 use native.Mathlib.Omega.{arith}
 use mathlib.Core.Path.{_≡_, ap, _∙_}
@@ -31,7 +31,7 @@ pub record TellsNodes (head spanBytes : ℕ) (rule : JoiningRule) (job sheet : L
   -- these come first among the nodes, as they were; the others reduction added
   pub first : Extends (startOf (j .blocks) .registry) (propagated rule (j .blocks) .work .registry)
   pub others : OnlyReduced reduceMaybeOptionalChains (startOf (j .blocks) .registry) (propagated rule (j .blocks) .work .registry)
-  pub fewer : length (startOf (j .blocks) .registry) ≤ length (propagated rule (j .blocks) .work .registry)
+  pub no-more : length (startOf (j .blocks) .registry) ≤ length (propagated rule (j .blocks) .work .registry)
   pub within : length (propagated rule (j .blocks) .work .registry) ≤ nodeLimit
 
 pub sheet-tells-nodes : (head spanBytes : ℕ) (rule : JoiningRule) (job out sheet : List ℕ)
@@ -49,7 +49,7 @@ sheet-tells-nodes head spanBytes rule job out sheet e = go (verdict-written head
         let run = numberBytes 1 (p .rounds) ++ numberBytes 1 (flag (p .settled)) in
         let rest = concatMap (nodeBytes spanBytes) (p .work .registry) ++ setBytes (r .j .blocks) (p .work .sets) in
         let first = propagated-extends rule (r .j .blocks) in
-        let fewer = extends-length first in
+        let no-more = extends-length first in
         let within = r .within in
         record {
           j = r .j;
@@ -61,6 +61,6 @@ sheet-tells-nodes head spanBytes rule job out sheet e = go (verdict-written head
               ∙ number-back 2 m (omega arith) .back (numberBytes 2 SH ++ (numberBytes 2 n ++ (blocks ++ run))) rest;
           first = first;
           others = propagated-reduces rule (r .j .blocks);
-          fewer = fewer;
+          no-more = no-more;
           within = within;
         }

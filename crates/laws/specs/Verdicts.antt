@@ -62,7 +62,10 @@ module _ (rule : JoiningRule) (bytes : Job → Started → Rounds Work → List 
   verdict-job (got j end) out e =
       let p = propagated rule (j .blocks) in
       decide (ltb nodeLimit (length (p .work .registry))) (λ t. absurd (different _ out (rw t at e)))
-      (λ t. let e′ = rw t at e in record { j = j; end = end; reads = refl; within = ltb-false nodeLimit (length (p .work .registry)) t; written = cc })
+      (λ t.
+      let e′ = rw t at e in
+      let few = ltb-false nodeLimit (length (p .work .registry)) t in
+      record { j = j; end = end; reads = refl; within = few; written = cc })
 
 lengths-written : (least most : ℕ) (job out bytes : List ℕ) (rest : Verdict) → withinLengths least most job out rest ≡ writes bytes
     → rest ≡ writes bytes

@@ -154,7 +154,7 @@ before it, with what is plain by then, as a path of its own: where it holds 1 an
 and where it holds 1.11 and 1?.10, it does not. The new path takes the place of the other, and its nodes are
 made where they are missing. The second line counts both, and each node that was added says so. 512 nodes
 are the most that a job can have; one with more is refused by 9, and the message tells how many there are
-before the first round.
+before the first round, and so how many at least were added.
 
   $ echo 'scope 0 block 0 assumes 1, 1?.10' | scope-deps sheet
   rounds 2, settled
@@ -222,7 +222,8 @@ over where one would be left out, and that is a reason for a cut, too.
 The end says how many nodes there were before the first round, and how many reduction added, with the
 paths of these, or the first three where there are more than four; `scope-deps help sheet` says what
 nodes are. With `--all` it has all of them, the round and the block in which each was added, and from which
-assumed path it comes. A round is a walk forward, in which each block takes paths over from the blocks
+assumed path it comes. That is one place and one way; without them the node may still be added, in another
+block or by another way. A round is a walk forward, in which each block takes paths over from the blocks
 before it, and one backward, in which it takes them over from those after it.
 
   $ echo 'scope 1 block 0 assumes 1 block 1 after 0 assumes 1?.10' | scope-deps explain --all
@@ -249,7 +250,7 @@ returned of it and where it is cut. A block that holds what its only predecessor
 the title stands how many nodes there were before the first round, and how many reduction added. That
 line names those that were added, or some of them where they are many or long, and then all are there
 under the pointer. The box of the block that added such a node has its path under `adds`, and a `+`
-stands before that path wherever a box names it.
+stands before that path wherever a box names it. Where that block is not drawn, the line says so.
 
 Under the pointer, a block's arrows are lit and the others dimmed; after a click they stay so. Paths for
 which a box has no more lines are there under the pointer. On a dark screen the picture is dark.

@@ -35,7 +35,7 @@ impl fmt::Display for TooMany {
             return write!(f, "{before} already before the first round");
         }
         let least = limits::NODES + 1 - before;
-        write!(f, "{before} of them before the first round, {least} or more added by reduction")?;
+        write!(f, "{before} of them before the first round, so that reduction added {least} or more")?;
         let Some(Other { is_strict, refuses }) = &self.other else {
             return Ok(());
         };

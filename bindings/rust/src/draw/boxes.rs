@@ -125,11 +125,12 @@ impl Row {
         Self { label, pieces: vec![("label", text)], full }
     }
 
-    /// How many more paths there are, and how many of them reduction added.
-    fn more(paths: &[Item]) -> Self {
+    /// How many more paths there are, and how many of them reduction added, where the list has
+    /// others too.
+    fn more(paths: &[Item], all_added: bool) -> Self {
         let more = format!("and {} more", paths.len());
         let pieces = match paths.iter().filter(|path| path.is_added).count() {
-            0 => vec![("label", more)],
+            added if added == 0 || all_added => vec![("label", more)],
             // Not every program shows a usual blank between two pieces.
             added => vec![("label", more + ",\u{a0}"), ("added", format!("{added} of them added"))],
         };
@@ -153,7 +154,7 @@ fn rows(label: &'static str, paths: &[Item], most: usize) -> Vec<Row> {
         rows.push(Row::note(label, "nothing".to_string(), String::new()));
     }
     if lines.shown < paths.len() {
-        rows.push(Row::more(&paths[lines.shown..]));
+        rows.push(Row::more(&paths[lines.shown..], paths.iter().all(|path| path.is_added)));
     }
     rows
 }

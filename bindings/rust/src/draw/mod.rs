@@ -43,7 +43,7 @@ mod view;
 
 use crate::answer::Answer;
 use crate::explain::{explain_by, Explanation, Mismatch};
-use crate::job::Job;
+use crate::job::{Block, Job};
 use crate::replay::Propagation;
 use crate::sheet::{NodeSet, Sheet};
 use arrows::Drawn;
@@ -156,11 +156,14 @@ impl Picture<'_> {
     }
 
     fn boxes(&self, explanation: &Explanation) -> Vec<BlockBox> {
-        let blocks = self.view.blocks.iter().map(|&place| &self.job.blocks()[place]);
-        let is_drawn = |id| blocks.clone().any(|block| block.id() == id);
+        let is_drawn = |id| self.drawn_blocks().any(|block| block.id() == id);
         let many = self.view.blocks.len();
         let of_block = |block| BlockBox::new(self.job, block, self.sheet, explanation, many, is_drawn);
-        blocks.clone().map(of_block).collect()
+        self.drawn_blocks().map(of_block).collect()
+    }
+
+    fn drawn_blocks(&self) -> impl Iterator<Item = &Block> {
+        self.view.blocks.iter().map(|&place| &self.job.blocks()[place])
     }
 
     /// How much room each block and gap takes, the scope block with the panel beside it.
@@ -178,7 +181,8 @@ impl Picture<'_> {
 
     /// The whole file: what was drawn, under a title and over a legend.
     fn finished(&self, mut svg: Svg, placed: &Placed, explanation: &Explanation) -> String {
-        let (title, nodes) = (self.title(explanation.propagation), Nodes::new(explanation));
+        let title = self.title(explanation.propagation);
+        let nodes = Nodes::new(explanation, |id| self.drawn_blocks().any(|block| block.id() == id));
         svg.text(0.0, 22.0 - TITLE, "title", &title);
         svg.texts(0.0, 42.0 - TITLE, &[("label", &nodes.text)], &nodes.full);
         let heads = svg::width(&title, svg::LARGE).max(svg::width(&nodes.text, svg::SMALL));
@@ -193,10 +197,10 @@ impl Picture<'_> {
 
     /// Whether a block that is drawn adds a path's node by reduction, or holds such a path.
     fn has_added(&self, explanation: &Explanation) -> bool {
-        let mut blocks = self.view.blocks.iter().map(|&place| self.job.blocks()[place].id());
-        let mut held = blocks.clone().filter_map(|id| self.sheet.set(id)).flat_map(NodeSet::iter);
+        let ids = || self.drawn_blocks().map(Block::id);
+        let mut held = ids().filter_map(|id| self.sheet.set(id)).flat_map(NodeSet::iter);
         held.any(|node| self.sheet.is_added(node))
-            || blocks.any(|id| explanation.added.iter().any(|added| added.block == id))
+            || ids().any(|id| explanation.added.iter().any(|added| added.block == id))
     }
 
     fn title(&self, propagation: Propagation) -> String {

@@ -1,8 +1,9 @@
 //! The line under the title: how many nodes there were before the first round, and which ones
-//! reduction added.
+//! reduction added; and how many of these were added in blocks that are not drawn.
 
 use super::shown::parts;
-use crate::explain::{some_listed, Explanation};
+use crate::explain::{some_listed, Added, Explanation};
+use crate::ids::BlockId;
 use crate::notation::show::node_counts;
 
 /// The most characters that the paths in the line take. They do not make the picture wide.
@@ -17,7 +18,20 @@ pub(super) struct Nodes {
 }
 
 impl Nodes {
-    pub(super) fn new(explanation: &Explanation) -> Self {
+    /// `is_drawn` says whether a block is in the picture.
+    pub(super) fn new(explanation: &Explanation, is_drawn: impl Fn(BlockId) -> bool) -> Self {
+        let elsewhere = explanation.added.iter().filter(|added| !is_drawn(added.block));
+        let elsewhere = elsewhere.map(|Added { nodes, .. }| nodes.len()).sum();
+        let mut line = Self::of_all(explanation);
+        line.text.push_str(&match (elsewhere, explanation.added_paths().count()) {
+            (0, _) => String::new(),
+            (some, all) if some == all => "; in blocks not drawn".to_string(),
+            (some, _) => format!("; {some} of these in blocks not drawn"),
+        });
+        line
+    }
+
+    fn of_all(explanation: &Explanation) -> Self {
         let added: Vec<String> =
             explanation.added_paths().map(|path| parts(path, &explanation.names).concat()).collect();
         let counts = node_counts(explanation.nodes_before_rounds, added.len());

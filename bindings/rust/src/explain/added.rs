@@ -3,7 +3,7 @@
 use super::bases::on_the_way;
 use super::steps::{How, Steps};
 use crate::ids::{BlockId, NodeId};
-use crate::job::Job;
+use crate::job::{Block, Job};
 use crate::path::Path;
 use crate::replay::{Replay, Side};
 
@@ -26,7 +26,8 @@ pub struct Added {
     /// The paths of the block that made entries plain.
     pub bases: Vec<Path>,
     /// The assumed paths that the replaced one comes from: itself, or such as reduction made into
-    /// it. There is at least one.
+    /// it. There is at least one. Where it came to the block in several ways, these are of one of
+    /// them.
     pub origins: Vec<Origin>,
     /// The number of the visit in [`Replay::visits`].
     pub visit: usize,
@@ -34,12 +35,12 @@ pub struct Added {
     pub place: usize,
 }
 
-/// An assumed path, and blocks that assume it.
+/// An assumed path, and the blocks from which it came.
 #[derive(Clone, Debug, PartialEq, Eq, Hash)]
 pub struct Origin {
-    /// The path.
+    /// The path, with its spans and its `reactive` as the first of the blocks assumes it.
     pub path: Path,
-    /// The blocks, ascending. There is at least one.
+    /// The blocks that assume it, ascending. There is at least one.
     pub blocks: Vec<BlockId>,
 }
 
@@ -58,7 +59,7 @@ pub(super) fn added(job: &Job, replay: &Replay) -> Vec<Added> {
             from: replay.path(replaced.from),
             to: replay.path(replaced.to),
             bases: replaced.bases.iter().map(|&base| replay.path(base)).collect(),
-            origins: origins(&mut steps, visit, place),
+            origins: origins(job, &mut steps, visit, place),
             visit,
             place,
         }));
@@ -67,7 +68,7 @@ pub(super) fn added(job: &Job, replay: &Replay) -> Vec<Added> {
 }
 
 /// Where the path that was replaced comes from.
-fn origins(steps: &mut Steps, visit: usize, place: usize) -> Vec<Origin> {
+fn origins(job: &Job, steps: &mut Steps, visit: usize, place: usize) -> Vec<Origin> {
     let step = steps.replaced(visit, place);
     let mut found: Vec<Origin> = Vec::new();
     for step in on_the_way(&steps.found, step).into_iter().map(|step| &steps.found[step]) {
@@ -79,7 +80,17 @@ fn origins(steps: &mut Steps, visit: usize, place: usize) -> Vec<Origin> {
             None => found.push(Origin { path: step.path.clone(), blocks: vec![step.block] }),
         }
     }
-    found.iter_mut().for_each(|origin| origin.blocks.sort());
+    for origin in &mut found {
+        origin.blocks.sort();
+        origin.path = own_form(job, origin.blocks[0], &origin.path);
+    }
     found.sort_by_key(|origin| origin.blocks[0]);
     found
+}
+
+/// The path as the block itself assumes it. A node has the spans of the block that made it.
+fn own_form(job: &Job, id: BlockId, path: &Path) -> Path {
+    let block = job.blocks().iter().filter(|block| block.id() == id);
+    let mut own = block.flat_map(Block::assumed).filter(|own| own.same_entries(path));
+    own.next().unwrap_or(path).clone()
 }

@@ -166,6 +166,18 @@ fn an_explanation_has_the_places_for_programs_too() {
     }
 }
 
+/// The node of `1?.10` has the span of block 0, which made it.
+#[test]
+fn an_origin_has_the_spans_of_the_block_that_assumes_it() {
+    let explanation = explained(&job(
+        "scope 2 block 0 assumes 1?.10@3 block 1 assumes 1, reactive 1@7?.10@8, 1?.10@9 block 2 after 1",
+    ));
+    let [Added { origins, from, .. }] = &explanation.added[..] else { panic!("{explanation:?}") };
+    let [Origin { path, blocks }] = &origins[..] else { panic!("{origins:?}") };
+    assert_eq!((from.to_string(), &blocks[..]), ("1?.10@3".to_string(), &[BlockId(1)][..]));
+    assert_eq!(path.to_string(), "reactive 1@7?.10@8");
+}
+
 #[test]
 fn nothing_is_explained_where_the_library_s_count_is_another() {
     let job = job(SMALLEST);

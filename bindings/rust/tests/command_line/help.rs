@@ -2,7 +2,9 @@
 
 use crate::common::repository;
 use crate::text;
-use std::fs;
+use std::path::PathBuf;
+use std::process::Command;
+use std::{env, fs};
 
 /// Which commands have an option of their own, and which have not, by their help.
 #[test]
@@ -38,16 +40,48 @@ fn help_is_there_for_every_command() {
     assert!(text(&["help", "notation"], "").contains("candidate"));
 }
 
-/// The jobs and commands of the lines `$ echo 'JOB' | scope-deps COMMAND` in a text.
-fn commands_of(help: &str) -> Vec<(&str, &str)> {
-    let lines = help.lines().filter_map(|line| line.trim().strip_prefix("$ echo '")?.split_once("' | "));
-    let ours = lines
-        .filter_map(|(job, run)| Some((job, run.trim_start_matches("bin/").strip_prefix("scope-deps ")?)));
-    ours.filter(|(_, command)| !command.trim_end_matches(SECOND_LINE).contains('|')).collect()
+/// A command of a text, and what the text shows of its output.
+struct Shown<'a> {
+    command: &'a str,
+    output: Vec<&'a str>,
 }
 
-/// What stands behind a command of which the second line is shown.
-const SECOND_LINE: &str = " | sed -n 2p";
+/// The commands of the lines that start with `$`, with the lines of the same margin behind each, up
+/// to a list of options.
+fn shown_in(text: &str) -> Vec<Shown<'_>> {
+    let mut found: Vec<Shown> = Vec::new();
+    let mut margin = None;
+    for line in text.lines() {
+        let start = line.len() - line.trim_start().len();
+        if let Some(command) = line.trim_start().strip_prefix("$ ") {
+            margin = Some(start);
+            found.push(Shown { command, output: Vec::new() });
+        } else if line.trim_start().starts_with("--") {
+            margin = None;
+        } else if margin.is_some_and(|margin| start >= margin) || line.is_empty() {
+            let output = margin.into_iter().zip(found.last_mut());
+            output.for_each(|(margin, shown)| shown.output.push(line.get(margin..).unwrap_or_default()));
+        } else {
+            margin = None;
+        }
+    }
+    for Shown { output, .. } in &mut found {
+        output.truncate(output.iter().rposition(|line| !line.is_empty()).map_or(0, |last| last + 1));
+    }
+    found.retain(|shown| !shown.output.is_empty());
+    found
+}
+
+/// What a shell writes for a command, from the repository's root, with this tool.
+fn by_shell(command: &str) -> String {
+    let tool = PathBuf::from(env!("CARGO_BIN_EXE_scope-deps"));
+    let path = format!("{}:{}", tool.parent().unwrap().display(), env::var("PATH").unwrap());
+    let command = command.replace("bin/scope-deps", "scope-deps");
+    let mut shell = Command::new("sh");
+    let output = shell.args(["-c", &command]).env("PATH", path).current_dir(repository("")).output().unwrap();
+    assert!(output.status.success() && output.stderr.is_empty(), "{command}: {output:?}");
+    String::from_utf8(output.stdout).unwrap()
+}
 
 #[test]
 fn what_the_help_and_the_readme_show_is_what_happens() {
@@ -55,39 +89,11 @@ fn what_the_help_and_the_readme_show_is_what_happens() {
     let topics = ["answer", "sheet", "thin", "explain"].map(|topic| vec!["help", topic]);
     let help = [vec!["help"]].into_iter().chain(topics);
     let texts = help.map(|words| text(&words, "")).chain([readme]);
-    for shown in texts {
-        let commands = commands_of(&shown);
-        assert!(!commands.is_empty(), "{shown}");
-        for (job, command) in commands {
-            let alone = command.trim_end_matches(SECOND_LINE);
-            let output = text(&alone.split(' ').collect::<Vec<_>>(), job);
-            let is_shown = if alone == command {
-                output.lines().all(|line| shown.contains(line))
-            } else {
-                let line = output.lines().nth(1).unwrap();
-                shown.contains(&format!("{job}' | bin/scope-deps {command}\n    {line}\n"))
-            };
-            assert!(is_shown, "{shown}\nbut:\n{output}");
+    for text in texts {
+        let commands = shown_in(&text);
+        assert!(!commands.is_empty(), "{text}");
+        for Shown { command, output } in commands {
+            assert_eq!(by_shell(command).lines().collect::<Vec<_>>(), output, "{command}");
         }
-    }
-}
-
-/// The commands, with options, and the files of the lines `$ bin/scope-deps COMMAND examples/FILE`
-/// in a text.
-fn examples_of(shown: &str) -> Vec<(&str, &str)> {
-    let lines = shown.lines().filter_map(|line| line.trim().strip_prefix("$ bin/scope-deps "));
-    lines.filter_map(|line| line.rsplit_once(' ').filter(|(_, file)| file.starts_with("examples/"))).collect()
-}
-
-#[test]
-fn what_the_readme_shows_of_the_examples_is_what_happens() {
-    let readme = fs::read_to_string(repository("README.md")).unwrap();
-    let examples = examples_of(&readme);
-    assert!(!examples.is_empty());
-    for (command, file) in examples {
-        let file = repository(file);
-        let words: Vec<&str> = command.split(' ').chain(file.to_str()).collect();
-        let output = text(&words, "");
-        assert!(output.lines().all(|line| readme.contains(line)), "{words:?}\n{output}");
     }
 }

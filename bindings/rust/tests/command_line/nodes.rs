@@ -73,7 +73,7 @@ fn too_many() -> String {
 #[test]
 fn a_message_on_too_many_nodes_has_those_before_the_first_round() {
     let refusal = "refusal 9, ManyNodes: the registry has more than 512 nodes when propagation ends";
-    let nodes = "360 of them before the first round, 153 or more added by reduction";
+    let nodes = "360 of them before the first round, so that reduction added 153 or more";
     let [plain, other] = ["", " after 0"].map(|after| format!("scope 0 block 0{after}{}", too_many()));
     for command in ["answer", "sheet", "explain", "draw"] {
         let ends = |words: &[&str], job: &str, hint: &str| {
@@ -107,11 +107,11 @@ fn a_message_on_too_many_nodes_says_whether_the_other_propagation_refuses_the_jo
     let strict = "block 0 assumes 1 block 1 after 1, 0 assumes 1?.10, 1?.10?.10";
     let [more, less] = [filled(existing, 510), filled(strict, 507)];
     let said = message(&["sheet"], &more, 1);
-    let hint = "512 of them before the first round, 1 or more added by reduction; with `--strict` it is not refused\n";
+    let hint = "512 of them before the first round, so that reduction added 1 or more; with `--strict` it is not refused\n";
     assert!(said.ends_with(hint), "{said}");
     assert!(text(&["sheet", "--strict"], &more).contains("\nnodes 512: 512 before the first round, 0 added"));
     let said = message(&["sheet", "--strict"], &less, 1);
-    let hint = "510 of them before the first round, 3 or more added by reduction; without `--strict` it is not refused\n";
+    let hint = "510 of them before the first round, so that reduction added 3 or more; without `--strict` it is not refused\n";
     assert!(said.ends_with(hint), "{said}");
     assert!(text(&["sheet"], &less).contains("\nnodes 512: 510 before the first round, 2 added"));
 }

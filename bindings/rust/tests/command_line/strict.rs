@@ -53,7 +53,7 @@ fn refusal_9_is_that_of_the_propagation_that_was_asked_for() {
         assert!(!text(&[command], &job).is_empty());
         let said = message(&[command, "--strict"], &job, 1);
         assert!(said.contains("refusal 9, ManyNodes"), "{said}");
-        let nodes = "; 300 of them before the first round, 213 or more added by reduction";
+        let nodes = "; 300 of them before the first round, so that reduction added 213 or more";
         assert!(said.ends_with(&format!("{nodes}; without `--strict` it is not refused\n")), "{said}");
     }
 }

@@ -109,9 +109,25 @@ fn of_many_some_are_named_and_a_box_without_room_counts_them() {
     );
     assert!(held.contains("<tspan class=\"added\">120 of them added</tspan>"), "{held}");
     assert_eq!(title(held).matches('+').count(), 120);
+    assert_eq!(more.count(), 0);
     let (shown, under_pointer) = marked(&picture, 0, "adds");
     assert_eq!((shown.len() + under_pointer.len(), &shown[0][..]), (120, "1.10"));
-    assert!(more.count() == 1 && shown.len() > 8);
+    assert!(shown.len() > 8);
+}
+
+#[test]
+fn of_those_that_were_added_in_blocks_not_drawn_the_line_says_so() {
+    let counted = |blocks: &str| {
+        let job: Job = format!("scope 2 {blocks} candidate 1.10").parse().unwrap();
+        [whole(&job), focused(&job)].map(|picture| line(&picture.unwrap()).0)
+    };
+    let apart = "block 0 assumes 1 block 1 after 0 assumes 2, 2?.20?.21 block 2 after 0";
+    let [all, some] = counted(apart);
+    assert_eq!(all, "nodes 6: 4 before the first round, 2 added by reduction: 2.20 and 2.20?.21");
+    assert_eq!(some, format!("{all}; in blocks not drawn"));
+    let [all, some] = counted(&format!("{apart} assumes 1, 1?.10"));
+    assert_eq!(all, "nodes 8: 5 before the first round, 3 added by reduction: 2.20, 2.20?.21 and 1.10");
+    assert_eq!(some, format!("{all}; 2 of these in blocks not drawn"));
 }
 
 #[test]
