@@ -37,7 +37,8 @@ enum scope_deps_refusal {
   SCOPE_DEPS_EXTRA_BYTE = 6,    /* a byte follows the last candidate */
   SCOPE_DEPS_REPEATED_ID = 7,   /* two blocks have one id, or one block names a predecessor twice */
   SCOPE_DEPS_UNKNOWN_BLOCK = 8, /* a predecessor, or the scope block, is no block of the job */
-  SCOPE_DEPS_MANY_NODES = 9     /* the registry has more than 512 nodes when propagation ends */
+  SCOPE_DEPS_MANY_NODES = 9,    /* the registry has more than 512 nodes when propagation ends */
+  SCOPE_DEPS_LARGEST_START = 10 /* a range start is 4,294,967,295, where start + 1 would not fit */
 };
 
 /*
@@ -88,9 +89,9 @@ int64_t scope_deps_strict_sheet(const uint8_t *job, size_t job_len, uint8_t *out
 /*
  * Writes the thin job of `job`, on the same terms: the same job, but in each block, and among
  * the candidates, without each path whose identifier and entries (optional marks counted, spans
- * and reactive not) an earlier path of the same list has, which stays as it is. Its answer and
- * its sheet are those of `job`, by either propagation, or it is refused by 9 as `job` is. The
- * thin job of a thin job is that job.
+ * and reactive not) an earlier path of the same list has, which stays as it is. Raw reads are
+ * compared with nothing, and all stay. Its answer and its sheet are those of `job`, by either
+ * propagation, or it is refused by 9 as `job` is. The thin job of a thin job is that job.
  *
  * Refusal 1 is that of a buffer shorter than SCOPE_DEPS_THIN_OUT_BYTES, and 9 does not occur.
  */

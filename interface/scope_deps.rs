@@ -59,7 +59,7 @@ unsafe extern "C" {
 
 /// Writes the answer of `job` to the start of `out`.
 ///
-/// Gives the number of bytes written, or the number of the refusal, 1 to 9. Bytes of
+/// Gives the number of bytes written, or the number of the refusal, 1 to 10. Bytes of
 /// `out` beyond that number stay as they were; at a refusal all of them do. Any bytes
 /// and any lengths are allowed. The call takes no memory but stack,
 /// at most 64 KiB as measured.
@@ -103,7 +103,8 @@ pub fn strict_sheet(job: &[u8], out: &mut [u8]) -> Result<usize, u8> {
 
 /// Writes the thin job of `job` to the start of `out`, on the same terms: the same job,
 /// but in each block, and among the candidates, without each path whose identifier and
-/// entries (optional marks counted, spans not) an earlier path of the same list has.
+/// entries (optional marks counted, spans not) an earlier path of the same list has. Raw
+/// reads are compared with nothing, and all stay.
 ///
 /// Its answer and its sheet are those of `job`, by either propagation, or it is refused by 9
 /// as `job` is. The thin job of a thin job is that job. Refusal 1 is that of a buffer of fewer than

@@ -82,7 +82,7 @@ fn refusal_of<T>(written: &Written<T>) -> Option<Refusal> {
     }
 }
 
-/// The reader gives the refusals from 1 to 8; 9 comes from the run.
+/// The reader gives the refusals from 1 to 8, and 10; 9 comes from the run.
 fn check_refusals(record: &Record, answer: Option<Refusal>, sheet: Option<Refusal>) -> Result<(), String> {
     if answer != sheet {
         return Err("answer and sheet are not refused alike".into());

@@ -4,6 +4,7 @@
 use crate::counts::Counts;
 use crate::entering::entered;
 use crate::job::{Block, Job, Path};
+use crate::reads::{self, all_assumed};
 use crate::thin::{kept, same_path};
 
 /// What is wrong with the count in a sheet's head.
@@ -19,6 +20,8 @@ pub enum CountMistake {
     OfDifferentPaths,
     OfFirstBlock,
     WithCandidates,
+    WithDropped,
+    WithoutReads,
     BeforeSettled,
     BeforeRounds,
     HighByteFirst,
@@ -31,7 +34,7 @@ const BEFORE_COUNT: usize = 8;
 const HEAD: usize = 10;
 
 impl CountMistake {
-    pub const ALL: [Self; 15] = [
+    pub const ALL: [Self; 17] = [
         Self::AtTheEnd,
         Self::AfterForwardWalk,
         Self::AfterFirstRound,
@@ -42,6 +45,8 @@ impl CountMistake {
         Self::OfDifferentPaths,
         Self::OfFirstBlock,
         Self::WithCandidates,
+        Self::WithDropped,
+        Self::WithoutReads,
         Self::BeforeSettled,
         Self::BeforeRounds,
         Self::HighByteFirst,
@@ -62,6 +67,8 @@ impl CountMistake {
             Self::OfDifferentPaths => "different assumed paths counted",
             Self::OfFirstBlock => "the first block's nodes counted",
             Self::WithCandidates => "the nodes of candidates counted too",
+            Self::WithDropped => "the nodes of dropped reads counted too",
+            Self::WithoutReads => "the nodes of kept reads not counted",
             Self::BeforeSettled => "the count placed before settled",
             Self::BeforeRounds => "the count placed before rounds",
             Self::HighByteFirst => "the count with its high byte first",
@@ -87,7 +94,9 @@ impl CountMistake {
 
     /// The number that is told; where it is only told in another place, the right one.
     fn count(self, job: &Job, counts: &Counts) -> usize {
-        let assumed = || job.blocks.iter().flat_map(|block| &block.assumed);
+        let assumed = || all_assumed(job);
+        let ready = || job.blocks.iter().flat_map(|block| &block.assumed);
+        let reads = || job.blocks.iter().flat_map(|block| &block.reads);
         match self {
             Self::AtTheEnd => counts.nodes,
             Self::AfterForwardWalk => counts.nodes_after_forward.expect("the harness's own tells it"),
@@ -97,8 +106,10 @@ impl CountMistake {
             Self::WithoutRoots => entered(job).iter().filter(|node| node.parent.is_some()).count(),
             Self::OfPaths => assumed().count(),
             Self::OfDifferentPaths => different(&assumed().collect::<Vec<_>>()),
-            Self::OfFirstBlock => nodes_of(job.blocks[0].assumed.clone()),
+            Self::OfFirstBlock => nodes_of(reads::assumed(&job.blocks[0]).cloned().collect()),
             Self::WithCandidates => nodes_of(assumed().chain(&job.candidates).cloned().collect()),
+            Self::WithDropped => nodes_of(ready().chain(reads().map(|read| &read.path)).cloned().collect()),
+            Self::WithoutReads => nodes_of(ready().cloned().collect()),
             _ => counts.nodes_before,
         }
     }
@@ -110,6 +121,6 @@ fn different(paths: &[&Path]) -> usize {
 
 /// How many nodes are made of these paths.
 fn nodes_of(assumed: Vec<Path>) -> usize {
-    let blocks = vec![Block { id: 0, predecessors: vec![], assumed }];
+    let blocks = vec![Block { id: 0, predecessors: vec![], reads: vec![], assumed }];
     entered(&Job { scope: 0, blocks, candidates: vec![] }).len()
 }

@@ -3,12 +3,13 @@
 
 use crate::job::{Entry, Job, Path, Property};
 use crate::output::Node;
+use crate::reads::all_assumed;
 use std::collections::HashMap;
 
 /// The nodes before the first round, by number: one for each distinct prefix of the assumed paths.
 pub fn entered(job: &Job) -> Vec<Node> {
     let mut entering = Entering::default();
-    job.blocks.iter().flat_map(|block| &block.assumed).for_each(|path| entering.enter(path));
+    all_assumed(job).for_each(|path| entering.enter(path));
     entering.nodes
 }
 
@@ -54,7 +55,7 @@ impl Entering {
 #[cfg(test)]
 mod tests {
     use super::*;
-    use crate::notation::{block, job};
+    use crate::notation::{block, dropped, job, kept};
 
     #[test]
     fn a_node_is_made_for_each_distinct_prefix() {
@@ -68,6 +69,17 @@ mod tests {
         assert_eq!(count(["1?.10", "1.10"]), 3);
         assert_eq!(count(["1.10.11, 1.10@4", "2.10, 1.10.12"]), 6);
         assert_eq!(count(["1.0, 1[0x0]", "1[0x8000000000000000]"]), 4);
+    }
+
+    #[test]
+    fn kept_reads_are_entered_before_the_paths_of_their_block() {
+        let reads = |first: &str| vec![dropped(first), kept("1@5.10@6")];
+        let blocks = vec![block(7, &[], "1@1.10@2, 2").reading(reads("1@3")), block(8, &[7], "4, 1.10.11")];
+        let nodes = entered(&job(7, blocks, ""));
+        let told: Vec<_> = nodes.iter().map(|node| (node.identifier, node.parent, node.span)).collect();
+        let made = [(1, None, 5), (1, Some(0), 6), (2, None, 0), (4, None, 0), (1, Some(1), 0)];
+        assert_eq!(told, made);
+        assert_eq!(entered(&job(7, vec![block(7, &[], "").reading(vec![dropped("1.10")])], "")), []);
     }
 
     #[test]

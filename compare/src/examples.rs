@@ -1,11 +1,12 @@
 //! Jobs by name, each of which tells a definition from one that is nearly the same. They stand at
 //! the end of the stored list; tests/examples.rs says what the Rust gives for each, tests/thin.rs
-//! what the thin job is, tests/strict.rs what the strict propagation gives, and tests/nodes.rs how
-//! many nodes there are before the first round and at the end. Those of walks and orders are, but
-//! for two, theorems of the same names in crates/model/specs/Examples.antt; docs/DIFFERENCES.md
-//! tells of the keys.
+//! what the thin job is, tests/strict.rs what the strict propagation gives, tests/nodes.rs how many
+//! nodes there are before the first round and at the end, and tests/reads.rs which raw reads are
+//! kept. Those of walks and orders are, but for two, theorems of the same names in
+//! crates/model/specs/Examples.antt; docs/DIFFERENCES.md tells of the keys.
 
 mod nodes;
+mod reads;
 mod repeats;
 mod strict;
 
@@ -25,7 +26,9 @@ pub fn examples() -> Vec<Example> {
     let strict = [strict::differences(), strict::traps(), strict::limits()];
     let named = [walks(), orders(), keys()].into_iter().chain(thin).chain(strict).flatten();
     let nodes = [nodes::made(), nodes::made_later(), nodes::limits()].into_iter().flatten();
-    named.map(long_enough).chain(buffers()).chain(nodes.map(long_enough)).collect()
+    let reads = [reads::conditions(), reads::entered(), reads::thinned(), reads::at_limits()];
+    let last = nodes.chain(reads.into_iter().flatten());
+    named.map(long_enough).chain(buffers()).chain(last.map(long_enough)).collect()
 }
 
 fn long_enough((name, job): (&'static str, Job)) -> Example {

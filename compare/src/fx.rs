@@ -1,11 +1,12 @@
-//! Stand-ins for the Fx hasher and for maps that use it: `FxHashMap`, and
+//! Stand-ins for the Fx hasher and for what uses it: `FxHashMap`, `FxHashSet`, and
 //! `FxIndexMap`, which keeps the order of first insertion.
 
-use std::collections::HashMap;
+use std::collections::{HashMap, HashSet};
 use std::hash::{BuildHasher, BuildHasherDefault, Hash, Hasher};
 
 pub type FxBuildHasher = BuildHasherDefault<FxHasher>;
 pub type FxHashMap<K, V> = HashMap<K, V, FxBuildHasher>;
+pub type FxHashSet<T> = HashSet<T, FxBuildHasher>;
 
 const FACTOR: u64 = 0xf135_7aea_2e62_a9c5;
 

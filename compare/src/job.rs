@@ -13,6 +13,10 @@ pub mod limits {
     pub const CANDIDATES: usize = 64;
     pub const PREDECESSORS: usize = 64;
     pub const ASSUMED: usize = 255;
+    /// Raw reads of a block.
+    pub const READS: usize = 255;
+    /// The largest range start after which one more still fits.
+    pub const RANGE_START: u32 = u32::MAX - 1;
     pub const ENTRIES: usize = 16;
     pub const NODES: usize = 512;
     pub const ROUNDS: usize = 100;
@@ -41,11 +45,34 @@ pub struct Path {
     pub entries: Vec<Entry>,
 }
 
+/// A path that a block reads, with what says whether it is known not to change any more at the
+/// instruction that reads it. Where it has no scope, the scope's range holds any numbers.
+#[derive(Debug, Clone, PartialEq, Eq, Hash)]
+pub struct RawRead {
+    pub instruction: u32,
+    pub range_start: u32,
+    pub range_end: u32,
+    pub has_scope: bool,
+    pub scope_start: u32,
+    pub scope_end: u32,
+    pub known_immutable: bool,
+    pub path: Path,
+}
+
 #[derive(Debug, Clone, PartialEq, Eq)]
 pub struct Block {
     pub id: u32,
     pub predecessors: Vec<u32>,
+    pub reads: Vec<RawRead>,
+    /// The paths that come ready; `reads::assumed` has those of the reads that are kept too.
     pub assumed: Vec<Path>,
+}
+
+impl Block {
+    /// The block with these raw reads.
+    pub fn reading(self, reads: Vec<RawRead>) -> Self {
+        Self { reads, ..self }
+    }
 }
 
 #[derive(Debug, Clone, PartialEq, Eq)]
@@ -106,17 +133,37 @@ fn put_block(out: &mut Vec<u8>, block: &Block) {
     out.extend(block.id.to_le_bytes());
     out.push(block.predecessors.len() as u8);
     out.push(block.assumed.len() as u8);
+    out.push(block.reads.len() as u8);
     for predecessor in &block.predecessors {
         out.extend(predecessor.to_le_bytes());
+    }
+    for read in &block.reads {
+        put_read(out, read);
     }
     for path in &block.assumed {
         put_path(out, b"PA", path);
     }
 }
 
+fn put_read(out: &mut Vec<u8>, read: &RawRead) {
+    out.extend(b"RD");
+    for number in [read.instruction, read.range_start, read.range_end] {
+        out.extend(number.to_le_bytes());
+    }
+    out.push(read.has_scope.into());
+    out.extend(read.scope_start.to_le_bytes());
+    out.extend(read.scope_end.to_le_bytes());
+    out.push(read.known_immutable.into());
+    put_path_fields(out, &read.path);
+}
+
 /// Writes a path under a mark; PA, CA and DE have the same fields.
 pub fn put_path(out: &mut Vec<u8>, mark: &[u8; 2], path: &Path) {
     out.extend(mark);
+    put_path_fields(out, path);
+}
+
+fn put_path_fields(out: &mut Vec<u8>, path: &Path) {
     out.extend(path.identifier.to_le_bytes());
     out.push(path.reactive.into());
     out.extend(path.span.to_le_bytes());

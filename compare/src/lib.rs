@@ -28,10 +28,13 @@ pub mod prng;
 pub mod programs;
 pub mod progress;
 pub mod propagation;
+pub mod read_mistakes;
 pub mod reader;
+pub mod reads;
 #[cfg(reference)]
 pub mod reference;
 pub mod rounds;
+pub mod start_mistakes;
 pub mod store;
 pub mod thin;
 pub mod worst;

@@ -2,7 +2,8 @@
 //! `1[0x8000000000000000]` is identifier 1 with the number of these bits, −0. A span stands after
 //! `@`, as in `reactive 1@5.10@6`, which is reactive; none is 0.
 
-use crate::job::{Block, Entry, Job, Path, Property};
+use crate::job::{Block, Entry, Job, Path, Property, RawRead};
+use crate::reads::mutable;
 
 /// The path that is written so. Panics where the text is none.
 pub fn path(text: &str) -> Path {
@@ -54,7 +55,38 @@ pub fn paths(text: &str) -> Vec<Path> {
 }
 
 pub fn block(id: u32, predecessors: &[u32], assumed: &str) -> Block {
-    Block { id, predecessors: predecessors.to_vec(), assumed: paths(assumed) }
+    Block { id, predecessors: predecessors.to_vec(), reads: vec![], assumed: paths(assumed) }
+}
+
+/// A read at `instruction` of a path whose range and scope are these, not known immutable. Without
+/// a scope, the scope's range holds every instruction.
+pub fn read(path_text: &str, instruction: u32, range: (u32, u32), scope: Option<(u32, u32)>) -> RawRead {
+    let (scope_start, scope_end) = scope.unwrap_or((0, u32::MAX));
+    RawRead {
+        instruction,
+        range_start: range.0,
+        range_end: range.1,
+        has_scope: scope.is_some(),
+        scope_start,
+        scope_end,
+        known_immutable: false,
+        path: path(path_text),
+    }
+}
+
+/// The same read, known immutable.
+pub fn immutable(read: RawRead) -> RawRead {
+    RawRead { known_immutable: true, ..read }
+}
+
+/// A read that is kept, since its range is short.
+pub fn kept(text: &str) -> RawRead {
+    RawRead { range_end: 1, ..dropped(text) }
+}
+
+/// A read that is not kept.
+pub fn dropped(text: &str) -> RawRead {
+    mutable(path(text))
 }
 
 pub fn job(scope: u32, blocks: Vec<Block>, candidates: &str) -> Job {

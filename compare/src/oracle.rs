@@ -1,8 +1,10 @@
 //! What the Rust source says of a job, and what the harness says of what the Rust has not.
 
 use crate::counts::Counts;
+use crate::job::RawRead;
 use crate::operation::Operation;
 use crate::propagation::Propagation;
+use crate::read_mistakes::ReadMistake;
 use crate::reader::Refusal;
 
 /// Why the Rust source cannot be run, if it cannot.
@@ -17,6 +19,9 @@ pub type Said = Result<Vec<u8>, Refusal>;
 pub struct Oracle {
     #[cfg(reference)]
     alloc: crate::arena::Allocator,
+    /// What is done wrong with raw reads; nothing, unless a test asks for it.
+    #[cfg(reference)]
+    mistake: Option<ReadMistake>,
 }
 
 /// Both results of a job by one propagation, and the counts that they do not show.
@@ -101,19 +106,27 @@ impl Oracle {
     pub fn thin(&mut self, _: &[u8], _: usize) -> Said {
         unreachable!("no oracle can be opened without the Rust source")
     }
+
+    pub fn keeps(&mut self, _: &RawRead) -> bool {
+        unreachable!("no oracle can be opened without the Rust source")
+    }
+
+    pub fn with_mistake<T>(&mut self, _: ReadMistake, _: impl FnOnce(&mut Self) -> T) -> T {
+        unreachable!("no oracle can be opened without the Rust source")
+    }
 }
 
 #[cfg(reference)]
 impl Oracle {
     pub fn open() -> Result<Self, &'static str> {
-        Ok(Self { alloc: Default::default() })
+        Ok(Self { alloc: Default::default(), mistake: None })
     }
 
     pub fn answer(&mut self, propagation: Propagation, bytes: &[u8], out_len: usize) -> Said {
         let job = read_job(bytes, out_len)?;
         self.alloc.reset();
         let prepared = reference::prepare(&job, &self.alloc);
-        let propagated = reference::propagate(&prepared, propagation, &self.alloc);
+        let propagated = reference::propagate(&prepared, propagation, self.mistake, &self.alloc);
         refuse_many_nodes(&propagated)?;
         Ok(answer_bytes(prepared, &propagated, &self.alloc))
     }
@@ -122,7 +135,7 @@ impl Oracle {
         let job = read_job(bytes, out_len)?;
         self.alloc.reset();
         let prepared = reference::prepare(&job, &self.alloc);
-        let propagated = reference::propagate(&prepared, propagation, &self.alloc);
+        let propagated = reference::propagate(&prepared, propagation, self.mistake, &self.alloc);
         refuse_many_nodes(&propagated)?;
         Ok(sheet_bytes(&job, &propagated))
     }
@@ -135,7 +148,7 @@ impl Oracle {
         };
         self.alloc.reset();
         let prepared = reference::prepare(&job, &self.alloc);
-        let propagated = reference::propagate(&prepared, propagation, &self.alloc);
+        let propagated = reference::propagate(&prepared, propagation, self.mistake, &self.alloc);
         let counts = Some(propagated.counts());
         match refuse_many_nodes(&propagated) {
             Ok(()) => Both {
@@ -152,6 +165,20 @@ impl Oracle {
         let job = read_job_to_thin(bytes, out_len)?;
         self.alloc.reset();
         Ok(reference::thinned(&job, &self.alloc).to_bytes())
+    }
+
+    /// Whether the Rust keeps a raw read.
+    pub fn keeps(&mut self, read: &RawRead) -> bool {
+        self.alloc.reset();
+        reference::kept(read, &self.alloc)
+    }
+
+    /// What comes of it where this is done wrong with raw reads.
+    pub fn with_mistake<T>(&mut self, mistake: ReadMistake, run: impl FnOnce(&mut Self) -> T) -> T {
+        self.mistake = Some(mistake);
+        let came = run(self);
+        self.mistake = None;
+        came
     }
 }
 

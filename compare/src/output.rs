@@ -98,7 +98,7 @@ fn read_written<T>(
     read: impl FnOnce(&mut Reader) -> Result<T, Refusal>,
 ) -> Result<Written<T>, String> {
     if let [b'R', b'F', number] = *bytes {
-        let known = (1..=9).contains(&number);
+        let known = (1..=10).contains(&number);
         return if known {
             Ok(Written::Refused(number))
         } else {

@@ -1,9 +1,9 @@
-//! Reads a job, or finds the refusal from 1 to 8 that it gets.
+//! Reads a job, or finds the refusal that it gets: one from 1 to 8, or 10.
 //!
 //! Written from the specification alone, so that it stands beside any other
 //! reader as a second opinion.
 
-use crate::job::{Block, Entry, Job, Path, Property, limits};
+use crate::job::{Block, Entry, Job, Path, Property, RawRead, limits};
 
 /// A refusal's number.
 pub type Refusal = u8;
@@ -17,6 +17,7 @@ pub const EXTRA_BYTE: Refusal = 6;
 pub const REPEATED_ID: Refusal = 7;
 pub const UNKNOWN_BLOCK: Refusal = 8;
 pub const MANY_NODES: Refusal = 9;
+pub const LARGEST_START: Refusal = 10;
 
 /// The job in `bytes`, for an answer or a sheet in an out buffer of `out_len` bytes.
 pub fn read_job(bytes: &[u8], out_len: usize) -> Result<Job, Refusal> {
@@ -39,6 +40,13 @@ pub fn read_job_for(bytes: &[u8], out_len: usize, least: usize) -> Result<Job, R
     refuse_repeats(&job)?;
     refuse_unknown_blocks(&job)?;
     Ok(job)
+}
+
+/// Where the range start stands that 10 refuses, if one does.
+pub fn largest_start(bytes: &[u8]) -> Option<usize> {
+    let mut reader = Reader::new(bytes);
+    let refused = reader.job() == Err(LARGEST_START);
+    refused.then(|| bytes.len() - reader.rest.len() - size_of::<u32>())
 }
 
 /// The bytes still to be read.
@@ -92,6 +100,11 @@ impl<'b> Reader<'b> {
     /// A path under its mark; PA, CA and DE have the same fields.
     pub fn path(&mut self, mark: &[u8; 2]) -> Result<Path, Refusal> {
         self.mark(mark)?;
+        self.path_fields()
+    }
+
+    /// The fields of PA from the identifier on, which RD ends with too.
+    fn path_fields(&mut self) -> Result<Path, Refusal> {
         let identifier = self.u32()?;
         let reactive = self.flag()?;
         let span = self.u32()?;
@@ -109,14 +122,38 @@ impl<'b> Reader<'b> {
         Ok(Entry { optional, property, span })
     }
 
+    fn raw_read(&mut self) -> Result<RawRead, Refusal> {
+        self.mark(b"RD")?;
+        Ok(RawRead {
+            instruction: self.u32()?,
+            range_start: self.range_start()?,
+            range_end: self.u32()?,
+            has_scope: self.flag()?,
+            scope_start: self.u32()?,
+            scope_end: self.u32()?,
+            known_immutable: self.flag()?,
+            path: self.path_fields()?,
+        })
+    }
+
+    /// One more than a range start must fit.
+    fn range_start(&mut self) -> Result<u32, Refusal> {
+        match self.u32()? {
+            u32::MAX => Err(LARGEST_START),
+            start => Ok(start),
+        }
+    }
+
     fn block(&mut self) -> Result<Block, Refusal> {
         self.mark(b"BL")?;
         let id = self.u32()?;
         let predecessor_count = in_range(self.u8()?.into(), 0, limits::PREDECESSORS)?;
         let assumed_count = self.u8()?;
+        let raw_count = self.u8()?;
         let predecessors = (0..predecessor_count).map(|_| self.u32()).collect::<Result<_, _>>()?;
+        let reads = (0..raw_count).map(|_| self.raw_read()).collect::<Result<_, _>>()?;
         let assumed = (0..assumed_count).map(|_| self.path(b"PA")).collect::<Result<_, _>>()?;
-        Ok(Block { id, predecessors, assumed })
+        Ok(Block { id, predecessors, reads, assumed })
     }
 
     /// The whole job, without a look at what follows it or at its ids.

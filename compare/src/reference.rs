@@ -3,15 +3,21 @@
 #![allow(dead_code)]
 
 mod own;
+mod reads;
 
 use crate::arena::{Allocator, ArenaVec, CloneIn, CloneInSemanticIds};
 use crate::counts::Counts;
-use crate::fx::{FxHashMap, FxIndexMap};
-use crate::hir::{BasicBlock, BlockId, HIR, HirFunction, Ident, IdentifierId, OrderedMap, Span};
-use crate::job::{Entry, Job, Path, Property, limits};
+use crate::fx::{FxHashMap, FxHashSet, FxIndexMap};
+use crate::hir::{
+    BasicBlock, BlockId, EvaluationOrder, FunctionId, HIR, HirFunction, Ident, IdentifierId, MutableRangeId,
+    OrderedMap, Span,
+};
+use crate::job::{Entry, Job, Path, Property, RawRead, limits};
 use crate::propagation::Propagation;
+use crate::read_mistakes::ReadMistake;
 use crate::rounds::{self, Rounds};
 use crate::thin;
+use reads::{Assumed, Environment};
 use std::collections::BTreeSet;
 use std::marker::PhantomData;
 
@@ -27,6 +33,9 @@ mod strict {
         propagate_non_null(function, infos, registry)
     }
 }
+
+/// Temporaries are not looked at; the original has a list over all identifiers.
+type TemporariesMap<'a> = FxHashMap<IdentifierId, Option<ReactiveScopeDependency<'a>>>;
 
 /// What each block assumes.
 type Infos = FxHashMap<BlockId, BlockInfo>;
@@ -85,30 +94,38 @@ impl Propagated<'_> {
 
 /// A job in the types of the Rust source, made before the stage runs on it.
 pub struct Prepared<'a> {
-    assumed: Vec<(BlockId, Vec<ReactiveScopeDependency<'a>>)>,
+    assumed: Vec<Assumed<'a>>,
     function: HirFunction<'a>,
     scope: u32,
     candidates: Vec<ReactiveScopeDependency<'a>>,
 }
 
 pub fn prepare<'a>(job: &Job, alloc: &'a Allocator) -> Prepared<'a> {
-    let dependencies = |paths: &[Path]| paths.iter().map(|path| dependency(path, alloc)).collect();
     Prepared {
-        assumed: job.blocks.iter().map(|block| (BlockId(block.id), dependencies(&block.assumed))).collect(),
+        assumed: job.blocks.iter().map(|block| Assumed::new(block, alloc)).collect(),
         function: function(job, alloc),
         scope: job.scope,
-        candidates: dependencies(&job.candidates),
+        candidates: job.candidates.iter().map(|path| dependency(path, alloc)).collect(),
     }
+}
+
+/// Whether the Rust keeps a raw read.
+pub fn kept(read: &RawRead, alloc: &Allocator) -> bool {
+    reads::Read::new(read, alloc).is_kept()
 }
 
 /// Enters all assumed paths in job order and propagates them.
 pub fn propagate<'a>(
     prepared: &Prepared<'a>,
     propagation: Propagation,
+    mistake: Option<ReadMistake>,
     alloc: &'a Allocator,
 ) -> Propagated<'a> {
     let mut registry = PropertyPathRegistry::new(alloc);
-    let infos = enter_assumed_paths(prepared, &mut registry);
+    let infos = match mistake {
+        None => enter_assumed_paths(prepared, &mut registry),
+        Some(mistake) => reads::enter_wrongly(&prepared.assumed, &mut registry, mistake),
+    };
     let nodes_before = registry.nodes.len();
     rounds::clear();
     let function = &prepared.function;
@@ -122,12 +139,8 @@ pub fn propagate<'a>(
 
 fn enter_assumed_paths<'a>(prepared: &Prepared<'a>, registry: &mut PropertyPathRegistry<'a>) -> Infos {
     let mut infos = FxHashMap::default();
-    for (block, assumed) in &prepared.assumed {
-        let mut set = BTreeSet::new();
-        for path in assumed {
-            set.insert(registry.get_or_create_property(path));
-        }
-        infos.insert(*block, BlockInfo { assumed_non_null_objects: set });
+    for assumed in &prepared.assumed {
+        infos.insert(assumed.block, BlockInfo { assumed_non_null_objects: assumed.enter(registry) });
     }
     infos
 }

@@ -1,6 +1,6 @@
 //! Chooses the jobs of the stored list.
 
-use crate::cover::{Features, features, node_features, order_features, strict_features};
+use crate::cover::{Features, features, mistake_features, node_features, order_features, strict_features};
 use crate::examples::{Example, examples};
 use crate::generate::{Generated, generate};
 use crate::list::Record;
@@ -36,6 +36,7 @@ fn quota(feature: &str) -> usize {
         "predecessors 6",
         "thin: ",
         "strict: ",
+        "reads: ",
     ];
     if one.iter().any(|part| feature.contains(part)) {
         1
@@ -137,6 +138,7 @@ fn try_jobs(oracle: &mut Oracle) -> Vec<Chosen> {
         let mut tested = chosen(&generated, oracle, |all| features(generated.class, job, out_len, all));
         order_features(job, out_len, &tested.all.existing.sheet, oracle, &mut tested.covers);
         strict_features(job, out_len, &tested.all, oracle, &mut tested.covers);
+        mistake_features(job, out_len, &tested.all, oracle, &mut tested.covers);
         tried.push(tested);
     }
     tried

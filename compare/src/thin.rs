@@ -18,8 +18,8 @@ pub fn read_job_to_thin(bytes: &[u8], out_len: usize) -> Result<Job, Refusal> {
     read_job_for(bytes, out_len, limits::THIN_BYTES)
 }
 
-/// The job with those paths of each list that `kept` keeps. A list is one block's assumed paths, or
-/// the candidates.
+/// The job with those paths of each list that `kept` keeps. A list is the paths that come ready in
+/// one block, or the candidates. Raw reads are compared with nothing and stay as they are.
 pub fn thinned(job: &Job, kept: impl Fn(&[Path]) -> Vec<bool>) -> Job {
     let paths = |paths: &[Path]| {
         let stays = kept(paths);
@@ -49,7 +49,7 @@ pub fn same_path(a: &Path, b: &Path) -> bool {
 #[cfg(test)]
 mod tests {
     use super::*;
-    use crate::notation::{block, job, path, paths, text};
+    use crate::notation::{self, block, dropped, job, path, paths, text};
 
     fn kept_text(list: &str) -> String {
         let paths = paths(list);
@@ -91,6 +91,14 @@ mod tests {
     }
 
     #[test]
+    fn raw_reads_are_copied_and_compared_with_nothing() {
+        let reads = || vec![notation::kept("1"), notation::kept("1"), dropped("1"), dropped("1@3")];
+        let with_reads = |assumed| job(7, vec![block(7, &[], assumed).reading(reads())], "1");
+        let thin = thin(&with_reads("1, 2, 1@4").to_bytes(), limits::THIN_BYTES);
+        assert_eq!(thin, Ok(with_reads("1, 2").to_bytes()));
+    }
+
+    #[test]
     fn refusals_are_the_readers_with_a_longer_buffer() {
         let bytes = job(7, vec![block(7, &[], "1")], "1").to_bytes();
         assert_eq!(thin(&bytes, limits::THIN_BYTES - 1), Err(1));
@@ -98,6 +106,10 @@ mod tests {
         assert_eq!(thin(&[0; limits::JOB_BYTES + 1], limits::THIN_BYTES), Err(2));
         assert_eq!(thin(&bytes[..bytes.len() - 1], limits::THIN_BYTES), Err(3));
         assert_eq!(thin(&[&bytes[..], &[0]].concat(), limits::THIN_BYTES), Err(6));
+        let mut largest = notation::kept("1");
+        largest.range_start = u32::MAX;
+        let largest = job(8, vec![block(7, &[], "").reading(vec![largest])], "").to_bytes();
+        assert_eq!(thin(&largest, limits::THIN_BYTES), Err(10));
         let unknown = job(8, vec![block(7, &[], "1")], "").to_bytes();
         assert_eq!(thin(&unknown, limits::THIN_BYTES), Err(8));
     }

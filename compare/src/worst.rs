@@ -1,6 +1,10 @@
 //! Accepted jobs at the limits: the deepest visits, the fullest registry, the most
 //! candidates, the longest reductions and the most rounds.
 
+mod reads;
+
+pub use reads::{longest_of_reads, most_reads};
+
 use crate::generate::{edges, ladder};
 use crate::job::{Block, Entry, Job, Path, Property, limits};
 
@@ -15,7 +19,7 @@ pub fn path(identifier: u32, first: u64, length: usize, optional: bool) -> Path 
 }
 
 pub fn block(id: u32, predecessors: Vec<u32>, assumed: Vec<Path>) -> Block {
-    Block { id, predecessors, assumed }
+    Block { id, predecessors, reads: vec![], assumed }
 }
 
 /// Each block after the one that follows it in the job. The first visit of a forward
@@ -150,13 +154,19 @@ pub fn most_comparisons() -> Job {
 /// same paths, and candidates of different identifiers.
 pub fn longest_without_repeats() -> Job {
     let assumed = full_registry(limits::NODES);
-    let mut whole = job(0, (0..3).map(|id| block(id, vec![], assumed.clone())).collect(), vec![]);
-    let mut left = limits::JOB_BYTES - whole.to_bytes().len();
+    // An even number of blocks, since all records but BL have an even number of bytes.
+    let mut whole = job(0, (0..4).map(|id| block(id, vec![], assumed.clone())).collect(), vec![]);
+    fill_with_candidates(&mut whole);
+    whole
+}
+
+/// Brings the job to the most bytes, where it has an even number of blocks.
+fn fill_with_candidates(job: &mut Job) {
+    let mut left = limits::JOB_BYTES - job.to_bytes().len();
     while let Some(length) = edges::fitting_entries(left) {
         left -= 12 + 14 * length;
-        whole.candidates.push(path(whole.candidates.len() as u32, 10, length, true));
+        job.candidates.push(path(job.candidates.len() as u32, 10, length, true));
     }
-    whole
 }
 
 fn job(scope: u32, blocks: Vec<Block>, candidates: Vec<Path>) -> Job {
@@ -209,5 +219,6 @@ pub fn jobs() -> Vec<(String, Job)> {
     jobs.push(("ring of 128 blocks, a reduction where nothing joins", job(0, ring, most())));
     jobs.push(("255 paths that differ at the last entry", most_comparisons()));
     jobs.push(("32,768 bytes without a repeat", longest_without_repeats()));
+    jobs.extend(reads::jobs());
     jobs.into_iter().map(|(name, job)| (name.to_string(), job)).collect()
 }

@@ -2,7 +2,10 @@
 
 mod common;
 
+use compare::job::limits;
+use compare::list::{Record, read_list};
 use compare::operation::Operation;
+use compare::reader::read_job;
 use std::collections::BTreeSet;
 use std::fs::{self, Permissions};
 use std::io::Write;
@@ -165,17 +168,20 @@ fn programs_that_write_something_else_are_named() {
         let message = said(&|name| refuses(if name == wrong { 4 } else { 3 }));
         assert!(message.contains(&format!("program {wrong}, {first}")), "{message}");
     }
-    assert!(said(&|_| refuses(3)).contains("program answer, stored job 1: "));
+    let stored = fs::read(PathBuf::from(env!("CARGO_MANIFEST_DIR")).join("stored/jobs.bin")).unwrap();
+    let is_refused = |record: &Record| read_job(&record.job, limits::OUT_BYTES) == Err(3);
+    let next = read_list(&stored).unwrap().iter().position(|record| !is_refused(record)).unwrap();
+    assert!(said(&|_| refuses(3)).contains(&format!("program answer, stored job {next}: ")));
     assert!(said(&|_| "#!/bin/sh\nexit 7\n".into()).contains("ended with exit status: 7"));
 }
 
 #[test]
 fn a_thin_job_comes_as_bytes_with_or_without_the_rust() {
     let job = common::hex(
-        "4844 0100 0000 00000000 / 424C 00000000 00 02 / 5041 01000000 01 00000000 00 /
+        "4844 0100 0000 00000000 / 424C 00000000 00 02 00 / 5041 01000000 01 00000000 00 /
         5041 01000000 00 09000000 00",
     );
-    let thin = common::hex("4844 0100 0000 00000000 / 424C 00000000 00 01 / 5041 01000000 01 00000000 00");
+    let thin = common::hex("4844 0100 0000 00000000 / 424C 00000000 00 01 00 / 5041 01000000 01 00000000 00");
     for job in [&job, &thin] {
         assert_eq!(run(&["thin"], job).stdout, thin);
     }
@@ -199,6 +205,7 @@ fn the_library_is_compared_or_one_line_says_why_not() {
     if cfg!(all(library, reference)) {
         assert!(message.contains("200 generated jobs of seed 1 agree with the Rust"), "{message}");
         assert!(message.contains(" made by reduction; none made in "), "{message}");
+        assert!(message.contains("\nraw reads in "), "{message}");
     } else {
         assert!(message.contains("did not run") && message.lines().count() == 1, "{message}");
     }
@@ -253,7 +260,7 @@ mod with_the_rust {
 
     #[test]
     fn answers_and_refusals_come_as_bytes() {
-        let job = hex("4844 0100 0000 00000000 / 424C 00000000 00 00");
+        let job = hex("4844 0100 0000 00000000 / 424C 00000000 00 00 00");
         assert_eq!(run(&["answer"], &job).stdout, hex("414E 0000 01 01"));
         assert_eq!(run(&["sheet"], &job).stdout.len(), 10 + 70);
         assert_eq!(run(&["answer"], b"").stdout, b"RF\x03");
@@ -290,7 +297,9 @@ mod with_the_rust {
 
     #[test]
     fn a_job_whose_nodes_cannot_be_counted_gets_a_message() {
-        for (job, number) in [(&b""[..], 3), (b"scope 0 block 0", 4), (&[0; 100_000], 2)] {
+        let largest = example("range-start-4294967295").to_bytes();
+        for (job, number) in [(&b""[..], 3), (b"scope 0 block 0", 4), (&[0; 100_000], 2), (&largest[..], 10)]
+        {
             let output = run(&["nodes"], job);
             assert_eq!((output.status.code(), output.stdout.is_empty()), (Some(1), true));
             let message = String::from_utf8(output.stderr).unwrap();

@@ -125,7 +125,7 @@ fn the_fixed_list_has_both_sides_of_each_limit() {
             rounds.insert((counts.rounds, counts.settled));
         }
     }
-    assert!(refusals.into_iter().eq(0..=9));
+    assert!(refusals.into_iter().eq(0..=10));
     for count in [511, 512, 513] {
         assert!(nodes.contains(&(count, false)) && nodes.contains(&(count, true)), "{nodes:?}");
     }
@@ -149,7 +149,7 @@ fn the_fixed_list_has_both_sides_of_each_limit_of_strict_answers() {
             nodes.insert((existing.nodes > limits::NODES, strict.nodes.clamp(511, 513)));
         }
     }
-    assert!(refusals.into_iter().eq(0..=9));
+    assert!(refusals.into_iter().eq(0..=10));
     assert!(nodes.into_iter().eq([false, true].into_iter().flat_map(|by| [511, 512, 513].map(|n| (by, n)))));
 }
 
@@ -162,7 +162,7 @@ fn the_fixed_list_has_both_sides_of_each_limit_of_thin_jobs() {
         met.insert((fixed.out_len, thin.map_or_else(|number| -i64::from(number), |thin| thin.len() as i64)));
     }
     let refusals: BTreeSet<i64> = met.iter().map(|(_, said)| *said).filter(|said| *said < 0).collect();
-    assert!(refusals.into_iter().eq(-8..=-1));
+    assert!(refusals.into_iter().eq([-10].into_iter().chain(-8..=-1)));
     let longest = limits::JOB_BYTES as i64;
     for out_len in [24_575, 24_576, limits::THIN_BYTES - 1] {
         assert!(met.iter().filter(|(length, _)| *length == out_len).all(|(_, said)| *said == -1));

@@ -14,7 +14,7 @@ fn run(job: &Job) -> Both {
     Oracle::open().unwrap().both(Existing, &job.to_bytes(), limits::OUT_BYTES)
 }
 
-const EXAMPLE: &str = "4844 0100 0100 07000000 / 424C 07000000 00 01 / 5041 01000000 01 00000000 00 /
+const EXAMPLE: &str = "4844 0100 0100 07000000 / 424C 07000000 00 01 00 / 5041 01000000 01 00000000 00 /
     4341 01000000 01 05000000 01 00 00 0A00000000000000 06000000";
 
 #[test]
@@ -37,7 +37,7 @@ fn a_sheet_with_a_made_node() {
     let entry = Entry { optional: true, property: Property::Number(0x8000_0000_0000_0000), span: 9 };
     let root = Path { identifier: 1, reactive: true, span: 3, entries: vec![] };
     let child = Path { identifier: 1, reactive: false, span: 4, entries: vec![entry] };
-    let block = Block { id: 7, predecessors: vec![], assumed: vec![root, child] };
+    let block = Block { id: 7, predecessors: vec![], reads: vec![], assumed: vec![root, child] };
     let both = run(&Job { scope: 7, blocks: vec![block], candidates: vec![] });
     let mut expected = hex("5348 0300 0100 02 01 0200
          4E4F FFFF 01000000 00 00 0000000000000000 03000000 01
@@ -79,7 +79,7 @@ fn minus_zero_and_names_are_other_properties_than_plus_zero() {
     let entry = |property| Entry { optional: false, property, span: 0 };
     let path = |entries: Vec<Entry>| Path { identifier: 1, reactive: false, span: 0, entries };
     let hoistable = path(vec![entry(Property::Number(0))]);
-    let blocks = vec![Block { id: 7, predecessors: vec![], assumed: vec![hoistable] }];
+    let blocks = vec![Block { id: 7, predecessors: vec![], reads: vec![], assumed: vec![hoistable] }];
     let below = |property| path(vec![entry(property), entry(Property::Name(5))]);
     let kinds = [Property::Number(0), Property::Number(1 << 63), Property::Name(0)];
     let both = run(&Job { scope: 7, blocks, candidates: kinds.map(below).to_vec() });

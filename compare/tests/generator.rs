@@ -12,6 +12,7 @@ use compare::propagation::{
     Propagation::{Existing, Own, Strict},
 };
 use compare::reader::read_job;
+use compare::reads;
 
 #[test]
 fn a_seed_and_a_number_give_the_same_job() {
@@ -49,14 +50,32 @@ fn jobs_without_faults_are_accepted_by_the_reader() {
 
 #[test]
 fn every_refusal_of_the_reader_comes_up() {
-    let mut met = [0; 9];
+    let mut met = [0; 11];
     for number in 0..3000 {
         let generated = generate(2, number, None);
         if let Err(refusal) = read_job(&generated.job, generated.out_len) {
             met[usize::from(refusal)] += 1;
         }
     }
-    assert!(met[1..].iter().all(|&count| count > 2), "{met:?}");
+    let [_, to_eight @ .., nine, ten] = met;
+    assert!(to_eight.iter().chain([&ten]).all(|&count| count > 2) && nine == 0, "{met:?}");
+}
+
+/// Most jobs have no raw reads, and of each class some have, kept ones and others.
+#[test]
+fn raw_reads_come_up_in_all_classes_of_sound_jobs() {
+    for class in class_names().filter(|class| *class != "job-size") {
+        let (mut none, mut some) = (0, [0; 2]);
+        for number in 0..400 {
+            let generated = generate(8, number, Some(class));
+            let Ok(job) = read_job(&generated.job, limits::OUT_BYTES) else { continue };
+            let counted = reads::counted(&job);
+            none += usize::from(counted == [0; 2]);
+            some[0] += usize::from(counted[0] > 0);
+            some[1] += usize::from(counted[1] > 0);
+        }
+        assert!(none > 10 && some.iter().all(|&jobs| jobs >= 5), "{class}: {none} {some:?}");
+    }
 }
 
 #[test]

@@ -6,7 +6,7 @@ mod common;
 use common::hex;
 use compare::library::interface::{OUT_BYTES, THIN_BYTES, answer, sheet, strict_answer, strict_sheet, thin};
 
-const EXAMPLE: &str = "4844 0100 0100 07000000 / 424C 07000000 00 01 / 5041 01000000 01 00000000 00 /
+const EXAMPLE: &str = "4844 0100 0100 07000000 / 424C 07000000 00 01 00 / 5041 01000000 01 00000000 00 /
     4341 01000000 01 05000000 01 00 00 0A00000000000000 06000000";
 
 #[test]
@@ -24,7 +24,7 @@ fn the_bytes_case() {
 /// The example with its path and its candidate a second time.
 #[test]
 fn the_bytes_case_of_a_thin_job() {
-    let twice = hex("4844 0100 0200 07000000 / 424C 07000000 00 02 / 5041 01000000 01 00000000 00 /
+    let twice = hex("4844 0100 0200 07000000 / 424C 07000000 00 02 00 / 5041 01000000 01 00000000 00 /
         5041 01000000 00 09000000 00 / 4341 01000000 01 05000000 01 00 00 0A00000000000000 06000000 /
         4341 01000000 01 07000000 01 00 00 0A00000000000000 08000000");
     let due = hex(EXAMPLE);
@@ -41,8 +41,8 @@ fn the_bytes_case_of_a_thin_job() {
 #[test]
 fn the_bytes_case_of_a_strict_answer() {
     let job = hex(
-        "4844 0200 0100 01000000 / 424C 00000000 00 01 / 5041 01000000 01 00000000 00 /
-        424C 01000000 02 00 01000000 00000000 / 4341 01000000 01 05000000 01 00 00 0A00000000000000 06000000",
+        "4844 0200 0100 01000000 / 424C 00000000 00 01 00 / 5041 01000000 01 00000000 00 /
+        424C 01000000 02 00 00 01000000 00000000 / 4341 01000000 01 05000000 01 00 00 0A00000000000000 06000000",
     );
     let mut out = vec![7; OUT_BYTES];
     let mut said = |operation: fn(&[u8], &mut [u8]) -> Result<usize, u8>| {
@@ -58,6 +58,33 @@ fn the_bytes_case_of_a_strict_answer() {
     assert_eq!([sheet.len(), strict_sheet.len()], [10 + 23 + 2 * 70; 2]);
     let in_sets = |sheet: &[u8]| [sheet[10 + 23 + 6], sheet[10 + 23 + 70 + 6]];
     assert_eq!((in_sets(&sheet), in_sets(&strict_sheet)), ([1, 1], [1, 0]));
+}
+
+/// Block 7 reads 1 and 2 at 3, in a scope from 0 to 9: the range of the first is short, that of the
+/// second is not, so 2 is dropped.
+#[test]
+fn the_bytes_case_of_raw_reads() {
+    let job = hex("4844 0100 0200 07000000 / 424C 07000000 00 00 02 /
+        5244 03000000 00000000 01000000 01 00000000 09000000 00 01000000 00 00000000 00 /
+        5244 03000000 00000000 02000000 01 00000000 09000000 00 02000000 00 00000000 00 /
+        4341 01000000 00 00000000 01 00 00 0A00000000000000 00000000 /
+        4341 02000000 00 00000000 01 00 00 0A00000000000000 00000000");
+    let due = hex("414E 0200 01 01 / 4445 01000000 00 00000000 01 00 00 0A00000000000000 00000000 /
+        4445 02000000 00 00000000 00");
+    let mut out = vec![7; THIN_BYTES];
+    for operation in [answer, strict_answer] {
+        assert_eq!(operation(&job, &mut out), Ok(due.len()));
+        assert_eq!(out[..due.len()], due);
+    }
+    assert_eq!(thin(&job, &mut out), Ok(job.len()));
+    assert_eq!(out[..job.len()], job);
+    let mut refused = job.clone();
+    refused[25..29].fill(0xff);
+    let before = out.clone();
+    for operation in [answer, sheet, strict_answer, strict_sheet, thin] {
+        assert_eq!(operation(&refused, &mut out), Err(10));
+    }
+    assert_eq!(out, before);
 }
 
 #[test]

@@ -41,6 +41,7 @@ fn stage_names() -> Vec<(String, u8)> {
 fn the_harness_has_the_stages_names() {
     let own = constants! {
         SHORT_BUFFER LONG_JOB MISSING_BYTE WRONG_MARK OUT_OF_RANGE EXTRA_BYTE REPEATED_ID UNKNOWN_BLOCK MANY_NODES
+        LARGEST_START
     };
     assert_eq!(stage_names(), own);
 }
@@ -50,7 +51,7 @@ fn the_c_header_has_the_stages_names() {
     let header = text("interface/scope_deps.h");
     let lines = body(&header, "enum scope_deps_refusal {").lines();
     let cases = lines.filter_map(|line| line.trim().strip_prefix("SCOPE_DEPS_")?.split_once(" = "));
-    let own: Vec<(String, u8)> =
-        cases.map(|(name, rest)| (name.to_string(), rest[..1].parse().unwrap())).collect();
+    let number = |text: &str| text.split(|c: char| !c.is_ascii_digit()).next().unwrap().parse().unwrap();
+    let own: Vec<(String, u8)> = cases.map(|(name, rest)| (name.to_string(), number(rest))).collect();
     assert_eq!(stage_names(), own);
 }

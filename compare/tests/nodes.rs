@@ -97,8 +97,10 @@ fn all_examples_of_nodes_are_there() {
     let names: Vec<&str> = examples().iter().map(|example| example.name).collect();
     let first = names.iter().position(|name| *name == "no-nodes").unwrap();
     assert_eq!(names[first - 1], "buffer-32767");
+    // Those of raw reads follow (tests/reads.rs).
+    let end = names.iter().position(|name| *name == "read-mutable").unwrap();
     let told = NODES.iter().map(|(name, ..)| *name).skip_while(|name| *name != "no-nodes");
-    assert!(told.eq(names[first..].iter().copied()));
+    assert!(told.eq(names[first..end].iter().copied()));
 }
 
 /// Nodes before the first round, after its forward walk, after it, before the last round, and at
@@ -255,7 +257,9 @@ fn a_last_round_that_changes_nothing_makes_no_node() {
 #[test]
 fn generated_jobs_have_each_feature() {
     let mut met: BTreeMap<String, usize> = BTreeMap::new();
-    for (class, count) in [(None, 5000), (Some("nodes-late"), 500), (Some("repeats"), 1000)] {
+    let classes =
+        [(None, 5000), (Some("nodes-late"), 500), (Some("repeats"), 1000), (Some("many-loops"), 2000)];
+    for (class, count) in classes {
         for (_, all) in generated(class, count) {
             node_features(&all).into_iter().for_each(|feature| *met.entry(feature).or_default() += 1);
         }

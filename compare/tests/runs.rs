@@ -6,11 +6,13 @@ mod common;
 
 use common::{answer, block, job, path};
 use compare::examples::example;
-use compare::job::{Block, Job, Path, Property, limits};
-use compare::notation::text;
+use compare::job::{Block, Job, Path, Property, RawRead, limits};
+use compare::notation::{dropped, kept, text};
 use compare::oracle::Oracle;
 use compare::prng::Prng;
 use compare::propagation::{Mistake, Propagation};
+use compare::read_mistakes::ReadMistake;
+use compare::reads::{all_assumed, assumed};
 use std::collections::{BTreeMap, BTreeSet};
 
 #[derive(Debug, Clone)]
@@ -40,7 +42,7 @@ fn values(properties: &[Property], depth: usize) -> Vec<Value> {
 }
 
 fn paths(job: &Job) -> impl Iterator<Item = &Path> {
-    job.blocks.iter().flat_map(|block| &block.assumed).chain(&job.candidates)
+    all_assumed(job).chain(&job.candidates)
 }
 
 /// All stores over the job's identifiers and properties, as deep as its paths reach.
@@ -109,7 +111,7 @@ fn visited_by_runs(job: &Job) -> BTreeSet<BTreeSet<usize>> {
 fn thrown<'p>(job: &Job, returned: &'p [Path]) -> Option<(&'p Path, Store)> {
     let stores = stores(job);
     for run in visited_by_runs(job) {
-        let assumed: Vec<&Path> = run.iter().flat_map(|&place| &job.blocks[place].assumed).collect();
+        let assumed: Vec<&Path> = run.iter().flat_map(|&place| assumed(&job.blocks[place])).collect();
         let is_there = |store: &Store, path: &Path| matches!(read(path, store), Some(Value::Object(_)));
         let fitting = stores.iter().filter(|store| assumed.iter().all(|path| is_there(store, path)));
         for store in fitting {
@@ -125,15 +127,21 @@ fn thrown<'p>(job: &Job, returned: &'p [Path]) -> Option<(&'p Path, Store)> {
 struct Trial {
     oracle: Oracle,
     propagation: Propagation,
+    /// What is done wrong with raw reads.
+    mistake: Option<ReadMistake>,
 }
 
 impl Trial {
     fn of(propagation: Propagation) -> Self {
-        Self { oracle: Oracle::open().unwrap(), propagation }
+        Self { oracle: Oracle::open().unwrap(), propagation, mistake: None }
     }
 
     fn returned(&mut self, job: &Job) -> Vec<Path> {
-        let said = self.oracle.answer(self.propagation, &job.to_bytes(), limits::OUT_BYTES);
+        let run = |oracle: &mut Oracle| oracle.answer(self.propagation, &job.to_bytes(), limits::OUT_BYTES);
+        let said = match self.mistake {
+            None => run(&mut self.oracle),
+            Some(mistake) => self.oracle.with_mistake(mistake, run),
+        };
         answer(&said.unwrap()).returned
     }
 
@@ -172,11 +180,27 @@ fn random(number: u64) -> Job {
         id,
         // The first block starts, and the last one ends.
         predecessors: (0..size - 1).filter(|_| id > 0 && prng.chance(35)).collect(),
+        reads: vec![],
         assumed: (0..prng.pick(&[0, 0, 1, 2])).map(|_| path(&mut prng)).collect(),
     });
     let blocks = blocks.collect();
     let candidates = (0..prng.between(1, 3)).map(|_| path(&mut prng)).collect();
     Job { scope: prng.below(size as usize) as u32, blocks, candidates }
+}
+
+/// A random job, most of whose paths come by raw reads that are kept or not.
+fn random_with_reads(number: u64) -> Job {
+    let (mut job, mut prng) = (random(number), Prng::new(16, number));
+    for block in &mut job.blocks {
+        for path in std::mem::take(&mut block.assumed) {
+            match prng.below(4) {
+                0 => block.assumed.push(path),
+                1 | 2 => block.reads.push(RawRead { path, ..kept("1") }),
+                _ => block.reads.push(RawRead { path, ..dropped("1") }),
+            }
+        }
+    }
+    job
 }
 
 fn with_loops(jobs: impl Iterator<Item = Job>) -> impl Iterator<Item = Job> {
@@ -247,10 +271,32 @@ fn no_path_that_is_returned_strictly_throws() {
         with_runs += usize::from(has_runs);
         let scope = job.blocks.iter().find(|block| block.id == job.scope).unwrap();
         let reads_below = returned.iter().any(|path| path.entries.iter().any(|entry| !entry.optional));
-        brought += usize::from(has_runs && scope.assumed.is_empty() && reads_below);
+        brought += usize::from(has_runs && assumed(scope).next().is_none() && reads_below);
     }
     // Many have runs, and in many it is propagation alone that lets a plain entry stay.
     assert!(tried > 20_000 && with_runs > 10_000 && brought > 300, "{tried} {with_runs} {brought}");
+}
+
+/// What a run's blocks assume are the paths of the reads that are kept, and those that come ready.
+#[test]
+fn no_path_throws_where_others_are_read_raw() {
+    let jobs = || (0..3000).map(random_with_reads);
+    let returned_below = |paths: &[Path]| paths.iter().any(|path| !path.entries.is_empty());
+    for (propagation, any_loop) in [(Propagation::Strict, true), (Propagation::Existing, false)] {
+        let (mut tried, mut below) = (0, 0);
+        let mut trial = Trial::of(propagation);
+        for job in jobs().filter(|job| any_loop || !job.has_loop()) {
+            let returned = trial.returned(&job);
+            assert!(thrown(&job, &returned).is_none(), "{propagation:?}: {job:?}");
+            tried += 1;
+            below +=
+                usize::from(returned_below(&returned) && job.blocks.iter().all(|b| b.assumed.is_empty()));
+        }
+        assert!(tried > 300 && below > 20, "{propagation:?}: {tried} {below}");
+        // Where dropped reads are entered too, a returned path may rely on them.
+        let mut trial = Trial { mistake: Some(ReadMistake::DroppedEntered), ..trial };
+        assert!(jobs().filter(|job| any_loop || !job.has_loop()).any(|job| trial.throws(&job)));
+    }
 }
 
 #[test]

@@ -16,7 +16,7 @@ fn lines(records: &[Record], operation: Operation, written: &str, refused: &str)
         _ => 0,
     };
     let count = |number| records.iter().filter(|record| refusal(record) == number).count();
-    let refusals = (1..=9).map(|number| format!("{refused} {number}: {}\n", count(number)));
+    let refusals = (1..=10).map(|number| format!("{refused} {number}: {}\n", count(number)));
     format!("{written}: {}\n{}", count(0), refusals.collect::<String>())
 }
 

@@ -57,12 +57,12 @@ void expect_refusal(const std::vector<std::uint8_t> &job, scope_deps_refusal ref
 void expect_loop() {
   const std::vector<std::uint8_t> job = {
       'H', 'D', 5, 0, 1, 0, 3, 0, 0, 0,
-      'B', 'L', 0, 0, 0, 0, 0, 0,
-      'B', 'L', 1, 0, 0, 0, 2, 0, 0, 0, 0, 0, 3, 0, 0, 0,
-      'B', 'L', 2, 0, 0, 0, 1, 1, 1, 0, 0, 0,
+      'B', 'L', 0, 0, 0, 0, 0, 0, 0,
+      'B', 'L', 1, 0, 0, 0, 2, 0, 0, 0, 0, 0, 0, 3, 0, 0, 0,
+      'B', 'L', 2, 0, 0, 0, 1, 1, 0, 1, 0, 0, 0,
       'P', 'A', 5, 0, 0, 0, 0, 0, 0, 0, 0, 0,
-      'B', 'L', 3, 0, 0, 0, 2, 0, 1, 0, 0, 0, 2, 0, 0, 0,
-      'B', 'L', 4, 0, 0, 0, 1, 0, 1, 0, 0, 0,
+      'B', 'L', 3, 0, 0, 0, 2, 0, 0, 1, 0, 0, 0, 2, 0, 0, 0,
+      'B', 'L', 4, 0, 0, 0, 1, 0, 0, 1, 0, 0, 0,
       'C', 'A', 5, 0, 0, 0, 0, 0, 0, 0, 0, 1, 0, 0, 10, 0, 0, 0, 0, 0, 0, 0, 0, 0, 0, 0,
   };
   const std::vector<std::uint8_t> due = {
@@ -82,8 +82,8 @@ void expect_loop() {
 }  // namespace
 
 int main() {
-  // One block, 0, without predecessors and paths; no candidate.
-  const std::vector<std::uint8_t> job = {'H', 'D', 1, 0, 0, 0, 0, 0, 0, 0, 'B', 'L', 0, 0, 0, 0, 0, 0};
+  // One block, 0, without predecessors, raw reads and paths; no candidate.
+  const std::vector<std::uint8_t> job = {'H', 'D', 1, 0, 0, 0, 0, 0, 0, 0, 'B', 'L', 0, 0, 0, 0, 0, 0, 0};
   const std::vector<std::uint8_t> due = {'A', 'N', 0, 0, 1, 1};
   const Outcome outcome = answer(job);
   expect(outcome.refusal == 0 && outcome.bytes == due, "a job without candidates has an empty answer");
@@ -109,5 +109,12 @@ int main() {
   std::vector<std::uint8_t> longer = job;
   longer.push_back(0);
   expect_refusal(longer, SCOPE_DEPS_EXTRA_BYTE, "a byte after the job is refused");
+  // The block with one raw read, up to the start of its range.
+  std::vector<std::uint8_t> reading = changed(18, 1);
+  const std::uint8_t read[] = {'R', 'D', 3, 0, 0, 0, 255, 255, 255, 255};
+  reading.insert(reading.end(), read, read + sizeof read);
+  expect_refusal(reading, SCOPE_DEPS_LARGEST_START, "the largest range start is refused");
+  reading.pop_back();
+  expect_refusal(reading, SCOPE_DEPS_MISSING_BYTE, "a range start that is cut is refused before");
   return failures == 0 ? 0 : 1;
 }

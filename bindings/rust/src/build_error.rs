@@ -44,6 +44,10 @@ pub enum Field {
     Predecessors,
     /// The predecessor at this place.
     Predecessor(usize),
+    /// A block's raw reads.
+    RawReads,
+    /// The start of a raw read's range.
+    RangeStart,
     /// A block's assumed paths.
     Assumed,
     /// A path's entries.
@@ -69,6 +73,8 @@ pub enum Wrong {
     Repeated(BlockId),
     /// No block of the job has the id.
     Unknown(BlockId),
+    /// The start is 4,294,967,295, where start + 1 would not fit.
+    LargestStart,
 }
 
 impl BuildError {
@@ -101,6 +107,7 @@ impl BuildError {
     fn part(&self) -> String {
         match (self.record, self.block) {
             (Record::Block(_), Some(id)) => format!("block {id}"),
+            (Record::RawRead { read, .. }, Some(id)) => format!("raw read {} of block {id}", read + 1),
             (Record::Assumed { path, .. }, Some(id)) => format!("assumed path {} of block {id}", path + 1),
             (Record::Candidate(place), _) => format!("candidate {}", place + 1),
             _ => "the job".to_string(),
@@ -119,6 +126,10 @@ impl fmt::Display for BuildError {
             (Wrong::TooMany { count, most }, field) => {
                 write!(f, "{part} has {count} {}, and at most {most} are allowed", plural(field))
             }
+            (Wrong::LargestStart, _) => {
+                let most = limits::RANGE_START;
+                write!(f, "the range of {part} starts at {}, and at most {most} is allowed", u32::MAX)
+            }
             (Wrong::Repeated(id), Field::Id) => write!(f, "two blocks have the id {id}"),
             (Wrong::Repeated(id), _) => write!(f, "{part} names predecessor {id} twice"),
             (Wrong::Unknown(id), Field::Scope) => write!(f, "the scope block {id} is no block of the job"),
@@ -133,9 +144,11 @@ fn plural(field: Field) -> &'static str {
         Field::Blocks => "blocks",
         Field::Candidates => "candidates",
         Field::Predecessors => "predecessors",
+        Field::RawReads => "raw reads",
         Field::Assumed => "assumed paths",
         Field::Entries => "entries",
         Field::Scope | Field::Id | Field::Predecessor(_) => "ids",
+        Field::RangeStart => "range starts",
         Field::Bytes => "bytes",
     }
 }

@@ -6,6 +6,7 @@ use crate::ids::BlockId;
 use crate::job::Block;
 use crate::limits;
 use crate::path::Path;
+use crate::raw_read::RawRead;
 use crate::refusal::Record;
 use std::collections::HashSet;
 
@@ -98,12 +99,15 @@ impl Parts<'_> {
     /// The records with their lengths in bytes, and the ids of the blocks that they belong to.
     fn records(&self) -> impl Iterator<Item = (Record, Option<BlockId>, usize)> + '_ {
         let blocks = self.blocks.iter().enumerate().flat_map(|(place, block)| {
-            let head = (Record::Block(place), Some(block.id()), lengths::block(block.predecessors().len()));
-            let assumed = block.assumed().iter().enumerate().map(move |(path, assumed)| {
-                let record = Record::Assumed { block: place, path };
-                (record, Some(block.id()), lengths::path(assumed.entries().len()))
+            let id = Some(block.id());
+            let head = (Record::Block(place), id, lengths::block(block.predecessors().len()));
+            let reads = block.raw_reads().iter().enumerate().map(move |(at, read)| {
+                (Record::RawRead { block: place, read: at }, id, lengths::raw_read(read.path.entries().len()))
             });
-            std::iter::once(head).chain(assumed)
+            let assumed = block.assumed().iter().enumerate().map(move |(path, assumed)| {
+                (Record::Assumed { block: place, path }, id, lengths::path(assumed.entries().len()))
+            });
+            std::iter::once(head).chain(reads).chain(assumed)
         });
         let candidates = self.candidates.iter().enumerate();
         let candidates = candidates
@@ -125,8 +129,18 @@ fn check_block(place: usize, block: &Block) -> Result<(), BuildError> {
     let of_block = |field| move |wrong| BuildError { record, block: id, field, wrong };
     at_most(limits::PREDECESSORS, block.predecessors().len()).map_err(of_block(Field::Predecessors))?;
     at_most(limits::ASSUMED, block.assumed().len()).map_err(of_block(Field::Assumed))?;
+    at_most(limits::RAW_READS, block.raw_reads().len()).map_err(of_block(Field::RawReads))?;
+    let mut reads = block.raw_reads().iter().enumerate();
+    reads.try_for_each(|(at, read)| check_read(Record::RawRead { block: place, read: at }, id, read))?;
     let mut assumed = block.assumed().iter().enumerate();
     assumed.try_for_each(|(path, assumed)| check_path(Record::Assumed { block: place, path }, id, assumed))
+}
+
+fn check_read(record: Record, block: Option<BlockId>, read: &RawRead) -> Result<(), BuildError> {
+    if read.range_start > limits::RANGE_START {
+        return Err(BuildError { record, block, field: Field::RangeStart, wrong: Wrong::LargestStart });
+    }
+    check_path(record, block, &read.path)
 }
 
 fn check_path(record: Record, block: Option<BlockId>, path: &Path) -> Result<(), BuildError> {

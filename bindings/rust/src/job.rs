@@ -5,30 +5,40 @@ use crate::bytes;
 use crate::ids::{BlockId, IdentifierId};
 use crate::names::Names;
 use crate::path::{Path, Property};
+use crate::raw_read::RawRead;
 use crate::refusal::Refusal;
 use std::collections::HashSet;
 use std::fmt;
 use std::hash::{Hash, Hasher};
 
 /// A block: its id, its predecessors in order, and the paths assumed to be there when it runs.
+/// These are given as such, or as raw reads, of which those that are kept are assumed.
 #[derive(Clone, Debug, PartialEq, Eq, Hash)]
 pub struct Block {
     id: BlockId,
     predecessors: Vec<BlockId>,
+    raw_reads: Vec<RawRead>,
     assumed: Vec<Path>,
 }
 
 impl Block {
-    /// A block with no predecessor and no assumed path.
+    /// A block with no predecessor, no raw read and no assumed path.
     #[must_use]
     pub fn new(id: BlockId) -> Self {
-        Self { id, predecessors: Vec::new(), assumed: Vec::new() }
+        Self { id, predecessors: Vec::new(), raw_reads: Vec::new(), assumed: Vec::new() }
     }
 
     /// The block with these predecessors after those that it has.
     #[must_use]
     pub fn after(mut self, predecessors: impl IntoIterator<Item = BlockId>) -> Self {
         self.predecessors.extend(predecessors);
+        self
+    }
+
+    /// The block with these raw reads after those that it has.
+    #[must_use]
+    pub fn reading(mut self, reads: impl IntoIterator<Item = RawRead>) -> Self {
+        self.raw_reads.extend(reads);
         self
     }
 
@@ -51,10 +61,39 @@ impl Block {
         &self.predecessors
     }
 
-    /// The assumed paths, in the job's order.
+    /// The raw reads, kept or not, in the job's order.
+    #[must_use]
+    pub fn raw_reads(&self) -> &[RawRead] {
+        &self.raw_reads
+    }
+
+    /// The paths that are given as assumed, in the job's order. [`all_assumed`](Self::all_assumed)
+    /// has those of raw reads, too.
     #[must_use]
     pub fn assumed(&self) -> &[Path] {
         &self.assumed
+    }
+
+    /// The raw reads that are kept, in the job's order.
+    pub(crate) fn kept_reads(&self) -> impl Iterator<Item = &RawRead> {
+        self.raw_reads.iter().filter(|read| read.is_kept())
+    }
+
+    /// All paths that the block assumes, in the order in which the stage enters them: those of the
+    /// raw reads that are kept, and then those of [`assumed`](Self::assumed).
+    ///
+    /// ```
+    /// use scope_deps::{Block, BlockId};
+    ///
+    /// let block = Block::new(BlockId(7))
+    ///     .assuming(["3".parse()?])
+    ///     .reading(["1 at 4 range 0 to 9 scope 0 to 9".parse()?, "2 at 5 range 0 to 1".parse()?]);
+    /// let assumed: Vec<String> = block.all_assumed().map(|path| path.to_string()).collect();
+    /// assert_eq!(assumed, ["2", "3"]);
+    /// # Ok::<(), Box<dyn std::error::Error>>(())
+    /// ```
+    pub fn all_assumed(&self) -> impl Iterator<Item = &Path> {
+        self.kept_reads().map(|read| &read.path).chain(&self.assumed)
     }
 }
 
@@ -105,7 +144,7 @@ impl Job {
     ///
     /// # Errors
     ///
-    /// The refusal from 2 to 8 that the stage gives these bytes, with its place.
+    /// The refusal that the stage gives these bytes, one from 2 to 8 or 10, with its place.
     pub fn from_bytes(bytes: &[u8]) -> Result<Self, Refusal> {
         let JobBuilder { scope, blocks, candidates } = bytes::read_job(bytes)?;
         Ok(Self { scope, blocks, candidates, bytes: bytes.to_vec(), names: Names::new() })
@@ -134,7 +173,7 @@ impl Job {
     #[must_use]
     pub fn nodes_before_rounds(&self) -> usize {
         let mut nodes: HashSet<(IdentifierId, Vec<(bool, Property)>)> = HashSet::new();
-        for path in self.blocks.iter().flat_map(Block::assumed) {
+        for path in self.blocks.iter().flat_map(Block::all_assumed) {
             let entries: Vec<_> =
                 path.entries().iter().map(|entry| (entry.optional, entry.property)).collect();
             nodes.extend((0..=entries.len()).map(|count| (path.identifier(), entries[..count].to_vec())));

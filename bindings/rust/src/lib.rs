@@ -26,6 +26,9 @@
 //! # Ok::<(), Box<dyn std::error::Error>>(())
 //! ```
 //!
+//! A host that does not know whether a path can still change where it is read gives it as a
+//! [`RawRead`], and the stage decides whether the block assumes it.
+//!
 //! What a block assumes is passed on to others by a propagation, of which there are two. That of
 //! [`answer()`] and [`sheet()`] is promised to be safe, so that no returned path throws, for jobs
 //! without loops. The strict one, of [`strict_answer`] and [`strict_sheet`], is so for all jobs;
@@ -68,6 +71,7 @@ pub mod notation;
 mod path;
 #[cfg(feature = "library")]
 pub mod raw;
+mod raw_read;
 mod refusal;
 #[cfg(feature = "explain")]
 pub mod replay;
@@ -84,6 +88,7 @@ pub use job::{Block, Job};
 pub use names::{NameError, Named, Names, NamesIter};
 pub use node_set::{NodeSet, Nodes};
 pub use path::{Entry, Path, Property};
+pub use raw_read::{RawRead, ReadScope};
 pub use refusal::{ManyNodes, Place, Record, Refusal};
 pub use sheet::{Node, Sheet};
 #[cfg(feature = "library")]

@@ -12,6 +12,10 @@ pub const BLOCKS: usize = 128;
 pub const CANDIDATES: usize = 64;
 /// The most predecessors of a block.
 pub const PREDECESSORS: usize = 64;
+/// The most raw reads of a block.
+pub const RAW_READS: usize = 255;
+/// The largest start of a raw read's range. One more would be refused by 10.
+pub const RANGE_START: u32 = u32::MAX - 1;
 /// The most assumed paths of a block.
 pub const ASSUMED: usize = 255;
 /// The most entries of a path.

@@ -1,6 +1,6 @@
 //! The five operations on bytes, for those who have bytes.
 //!
-//! Any bytes are allowed. A refusal of 3 to 8 says where in the job it was met.
+//! Any bytes are allowed. A refusal of 3 to 8 or 10 says where in the job it was met.
 
 use crate::bytes;
 use crate::interface;
@@ -11,7 +11,7 @@ use crate::refusal::Refusal;
 ///
 /// # Errors
 ///
-/// The refusal from 2 to 9 that the stage gives these bytes.
+/// The refusal from 2 to 10 that the stage gives these bytes.
 ///
 /// ```
 /// let refusal = scope_deps::raw::answer(b"HD\x01\x00\x41\x00").unwrap_err();
@@ -40,7 +40,7 @@ pub fn sheet(job: &[u8]) -> Result<Vec<u8>, Refusal> {
 ///
 /// # Errors
 ///
-/// The refusal from 2 to 9 that the stage gives these bytes. 9 counts the nodes of the strict
+/// The refusal from 2 to 10 that the stage gives these bytes. 9 counts the nodes of the strict
 /// propagation; the others are those of [`answer`].
 ///
 /// ```
@@ -70,7 +70,7 @@ pub fn strict_sheet(job: &[u8]) -> Result<Vec<u8>, Refusal> {
 ///
 /// # Errors
 ///
-/// The refusal from 2 to 8 that the stage gives these bytes. 9 does not occur.
+/// The refusal from 2 to 10 that the stage gives these bytes. 9 does not occur.
 ///
 /// ```
 /// use scope_deps::{raw, Job};
@@ -92,7 +92,7 @@ pub fn thin(job: &[u8]) -> Result<Vec<u8>, Refusal> {
 ///
 /// # Errors
 ///
-/// The refusal from 1 to 9 that the stage gives these bytes. A buffer of fewer than
+/// The refusal from 1 to 10 that the stage gives these bytes. A buffer of fewer than
 /// [`limits::OUT_BYTES`] bytes is refused by 1.
 pub fn answer_into(job: &[u8], out: &mut [u8]) -> Result<usize, Refusal> {
     interface::answer(job, out).map_err(|number| refusal(number, job))
@@ -129,8 +129,8 @@ pub fn strict_sheet_into(job: &[u8], out: &mut [u8]) -> Result<usize, Refusal> {
 ///
 /// # Errors
 ///
-/// The refusal from 1 to 8 that the stage gives these bytes. A buffer of fewer than
-/// [`limits::THIN_BYTES`] bytes is refused by 1.
+/// The refusal from 1 to 10 that the stage gives these bytes. A buffer of fewer than
+/// [`limits::THIN_BYTES`] bytes is refused by 1, and 9 does not occur.
 pub fn thin_into(job: &[u8], out: &mut [u8]) -> Result<usize, Refusal> {
     interface::thin(job, out).map_err(|number| refusal(number, job))
 }
@@ -145,7 +145,7 @@ fn written(room: usize, write: impl Fn(&mut [u8]) -> Result<usize, Refusal>) -> 
 
 /// The refusal of this number, with its place where this crate's reader refuses by the same number.
 fn refusal(number: u8, job: &[u8]) -> Refusal {
-    let refusal = Refusal::from_number(number).expect("the stage has nine refusals");
+    let refusal = Refusal::from_number(number).expect("the stage has ten refusals");
     match bytes::read_job(job) {
         Err(placed) if placed.number() == number => placed,
         _ => refusal,

@@ -4,8 +4,8 @@ use std::fmt;
 
 /// Why the stage turned a job back. The names are those of the stage's own code.
 ///
-/// The stage gives a number. For 3 to 8 this crate's reader finds the place, for display only; it
-/// is `None` where that reader would not refuse by the same number.
+/// The stage gives a number. For 3 to 8 and 10 this crate's reader finds the place, for display
+/// only; it is `None` where that reader would not refuse by the same number.
 ///
 /// ```
 /// use scope_deps::{Job, Record, Refusal};
@@ -39,6 +39,8 @@ pub enum Refusal {
     UnknownBlock(Option<Place>),
     /// 9: the registry has more than 512 nodes when propagation ends.
     ManyNodes,
+    /// 10: a range start is 4,294,967,295, where start + 1 would not fit.
+    LargestStart(Option<Place>),
 }
 
 impl Refusal {
@@ -55,10 +57,11 @@ impl Refusal {
             Self::RepeatedId(_) => 7,
             Self::UnknownBlock(_) => 8,
             Self::ManyNodes => 9,
+            Self::LargestStart(_) => 10,
         }
     }
 
-    /// The place at which it was met, for 3 to 8.
+    /// The place at which it was met, for 3 to 8 and 10.
     #[must_use]
     pub fn place(&self) -> Option<Place> {
         match self {
@@ -67,7 +70,8 @@ impl Refusal {
             | Self::OutOfRange(place)
             | Self::ExtraByte(place)
             | Self::RepeatedId(place)
-            | Self::UnknownBlock(place) => *place,
+            | Self::UnknownBlock(place)
+            | Self::LargestStart(place) => *place,
             Self::ShortBuffer | Self::LongJob | Self::ManyNodes => None,
         }
     }
@@ -85,6 +89,7 @@ impl Refusal {
             7 => Self::RepeatedId(None),
             8 => Self::UnknownBlock(None),
             9 => Self::ManyNodes,
+            10 => Self::LargestStart(None),
             _ => return None,
         })
     }
@@ -102,6 +107,7 @@ impl Refusal {
             Self::RepeatedId(_) => "RepeatedId",
             Self::UnknownBlock(_) => "UnknownBlock",
             Self::ManyNodes => "ManyNodes",
+            Self::LargestStart(_) => "LargestStart",
         }
     }
 
@@ -120,6 +126,7 @@ impl Refusal {
             Self::RepeatedId(_) => "two blocks have one id, or one block names a predecessor twice",
             Self::UnknownBlock(_) => "a predecessor, or the scope block, is no block of the job",
             Self::ManyNodes => "the registry has more than 512 nodes when propagation ends",
+            Self::LargestStart(_) => "a range start is 4,294,967,295, where start + 1 would not fit",
         }
     }
 }
@@ -184,6 +191,13 @@ pub enum Record {
     Header,
     /// The `BL` of the block at this place.
     Block(usize),
+    /// An `RD` of a block.
+    RawRead {
+        /// The block's place.
+        block: usize,
+        /// The read's place among the block's.
+        read: usize,
+    },
     /// A `PA` of a block.
     Assumed {
         /// The block's place.
@@ -202,6 +216,7 @@ impl fmt::Display for Record {
         match self {
             Self::Header => write!(f, "the HD record"),
             Self::Block(block) => write!(f, "BL record {}", block + 1),
+            Self::RawRead { block, read } => write!(f, "RD record {} of BL record {}", read + 1, block + 1),
             Self::Assumed { block, path } => write!(f, "PA record {} of BL record {}", path + 1, block + 1),
             Self::Candidate(candidate) => write!(f, "CA record {}", candidate + 1),
             Self::End => write!(f, "what follows the last record"),

@@ -136,7 +136,7 @@ impl Stage {
     ///
     /// # Errors
     ///
-    /// The refusal from 2 to 9 that the stage gives these bytes. To find its place this crate's
+    /// The refusal from 2 to 10 that the stage gives these bytes. To find its place this crate's
     /// reader reads the job, and that allocates.
     pub fn answer_bytes(&mut self, job: &[u8]) -> Result<&[u8], Refusal> {
         let written = raw::answer_into(job, &mut self.out)?;
@@ -224,7 +224,8 @@ fn never_refused(returned: Result<usize, u8>) -> usize {
 impl Job {
     /// The job without repeats: in each block, and among the candidates, a path is dropped where an
     /// earlier one of the same list has the same variable and the same entries. Optional marks
-    /// count; spans and whether a path is reactive do not, and the first keeps its own.
+    /// count; spans and whether a path is reactive do not, and the first keeps its own. Raw reads
+    /// are compared with nothing, and all stay.
     ///
     /// The thin job has the answer and the sheet of this one, by either propagation, or is refused
     /// by 9 as this one is, and its thin job is itself. Names are kept. For many jobs,

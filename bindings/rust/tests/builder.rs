@@ -1,8 +1,8 @@
 //! The builder makes no malformed job.
 
 use scope_deps::{
-    limits, Block, BlockId, BuildError, Entry, Field, IdentifierId, Job, JobBuilder, Path, Property, Record,
-    Wrong,
+    limits, Block, BlockId, BuildError, Entry, Field, IdentifierId, Job, JobBuilder, Path, Property, RawRead,
+    ReadScope, Record, Wrong,
 };
 use std::collections::HashSet;
 
@@ -51,6 +51,78 @@ fn each_limit_is_met_and_not_passed() {
     assert!(assumed(255).build().is_ok());
     let refusal = named(refused(assumed(256)));
     assert_eq!(refusal, (Record::Block(1), Some(9), Field::Assumed, too_many(256, 255)));
+
+    let reading = |count| blocks(1).block(Block::new(BlockId(9)).reading((0..count).map(|_| read(0, 0))));
+    assert!(reading(255).build().is_ok());
+    let refusal = named(refused(reading(256)));
+    assert_eq!(refusal, (Record::Block(1), Some(9), Field::RawReads, too_many(256, 255)));
+}
+
+/// A read of a path with so many entries, whose range starts here.
+fn read(entries: usize, start: u32) -> RawRead {
+    RawRead::new(path(entries), 3, start..9, Some(0..9))
+}
+
+#[test]
+fn a_range_starts_below_the_largest_number() {
+    let starting = |start| blocks(1).block(Block::new(BlockId(9)).reading([read(0, 0), read(17, start)]));
+    let largest = u32::MAX;
+    assert_eq!(limits::RANGE_START, largest - 1);
+    let at = Record::RawRead { block: 1, read: 1 };
+    let refusal = refused(starting(largest));
+    assert_eq!(named(refusal), (at, Some(9), Field::RangeStart, Wrong::LargestStart));
+    assert_eq!(
+        refusal.to_string(),
+        "the range of raw read 2 of block 9 starts at 4294967295, and at most 4294967294 is allowed"
+    );
+    let refusal = refused(starting(largest - 1));
+    assert_eq!(named(refusal), (at, Some(9), Field::Entries, too_many(17, 16)));
+    assert_eq!(refusal.to_string(), "raw read 2 of block 9 has 17 entries, and at most 16 are allowed");
+    // All other numbers may be the largest.
+    let mut all = RawRead::new(path(16), largest, largest - 1..largest, Some(largest..largest));
+    all.scope = ReadScope::None { start: largest, end: largest };
+    let job = blocks(1).block(Block::new(BlockId(9)).reading([all.clone()])).build().unwrap();
+    assert_eq!(Job::from_bytes(job.as_bytes()).unwrap().blocks()[1].raw_reads(), [all]);
+}
+
+/// A read at an instruction, with a range and a scope.
+fn reads(instruction: u32, range: [u32; 2], scope: [u32; 2]) -> RawRead {
+    RawRead::new(path(0), instruction, range[0]..range[1], Some(scope[0]..scope[1]))
+}
+
+#[test]
+fn a_read_is_left_out_only_where_its_variable_can_change_and_is_not_known_not_to() {
+    let changing = reads(3, [0, 2], [0, 9]);
+    assert!(!changing.is_kept());
+    // Each condition by itself, at its edges.
+    assert!(reads(3, [0, 1], [0, 9]).is_kept() && reads(3, [0, 0], [0, 9]).is_kept());
+    assert!(reads(3, [5, 2], [0, 9]).is_kept() && !reads(3, [5, 7], [0, 9]).is_kept());
+    let kept = |instruction| reads(instruction, [0, 2], [3, 9]).is_kept();
+    assert_eq!([2, 3, 8, 9].map(kept), [true, false, false, true]);
+    assert!(reads(3, [0, 2], [3, 3]).is_kept() && reads(3, [0, 2], [9, 0]).is_kept());
+    assert!(RawRead::new(path(0), 3, 0..2, None).is_kept());
+    let no_scope = RawRead { scope: ReadScope::None { start: 0, end: 9 }, ..changing.clone() };
+    assert!(no_scope.is_kept() && no_scope.scope.range().is_none());
+    assert!(changing.clone().with_known_immutable(true).is_kept());
+    assert!(!changing.with_known_immutable(false).is_kept());
+    // The largest start that is allowed, and the largest end.
+    let last = limits::RANGE_START;
+    assert!(
+        reads(3, [last, u32::MAX], [0, 9]).is_kept() && !reads(3, [last - 1, u32::MAX], [0, 9]).is_kept()
+    );
+}
+
+#[test]
+fn a_block_assumes_its_kept_reads_before_its_other_paths() {
+    let parse = |text: &str| text.parse::<RawRead>().unwrap();
+    let reads =
+        ["4 at 3 range 0 to 2 scope 0 to 9", "5 at 3 range 0 to 1", "6 at 9 range 0 to 2 scope 0 to 9"];
+    let block = Block::new(BlockId(0)).assuming(["1".parse().unwrap()]).reading(reads.map(parse));
+    let assumed: Vec<String> = block.all_assumed().map(|path| path.to_string()).collect();
+    assert_eq!(assumed, ["5", "6", "1"]);
+    assert_eq!((block.raw_reads().len(), block.assumed().len()), (3, 1));
+    let job = Job::builder(BlockId(0)).block(block).build().unwrap();
+    assert_eq!(job.nodes_before_rounds(), 3);
 }
 
 #[test]
@@ -68,35 +140,50 @@ fn a_path_with_too_many_entries_is_named() {
 
 #[test]
 fn the_job_is_not_too_long() {
-    // A header of 10 bytes, two blocks of 8, and 138 paths of 236.
+    // A header of 10 bytes, two blocks of 9, and 138 paths of 236.
     let full = |last| {
         let block = Block::new(BlockId(1)).assuming(paths(138, 16)).assuming([path(last)]);
         blocks(1).block(block).candidate(path(0))
     };
-    let start = 10 + 8 + 8 + 138 * 236;
+    let start = 10 + 9 + 9 + 138 * 236;
     assert_eq!(full(10).build().unwrap().to_bytes().len(), start + 12 + 10 * 14 + 12);
     assert_eq!(refused(full(11)).record(), Record::Candidate(0));
     let bytes = start + 12 + 12 * 14 + 12;
-    assert_eq!(bytes, limits::JOB_BYTES + 18);
+    assert_eq!(bytes, limits::JOB_BYTES + 20);
     let refusal = refused(full(12));
     let passes = Record::Assumed { block: 1, path: 138 };
     assert_eq!(named(refusal), (passes, Some(1), Field::Bytes, too_many(bytes, limits::JOB_BYTES)));
     assert_eq!(
         refusal.to_string(),
-        "the job takes 32786 bytes, and at most 32768 are allowed; assumed path 139 of block 1 passes them"
+        "the job takes 32788 bytes, and at most 32768 are allowed; assumed path 139 of block 1 passes them"
     );
 }
 
 #[test]
 fn a_job_of_exactly_the_most_bytes_is_built() {
-    let rest = limits::JOB_BYTES - 10 - 8;
-    // Paths of 12 + 14 e bytes: 138 of 236 leave 182, and 182 = 2 * 12 + 14 * 11 + 4, of which 4
-    // are a predecessor.
-    assert_eq!(rest - 138 * 236 - 2 * 12 - 14 * 11, 4);
-    let block = Block::new(BlockId(0)).after([BlockId(0)]).assuming(paths(138, 16));
-    let job = Job::builder(BlockId(0)).block(block.assuming([path(11)])).candidate(path(0)).build().unwrap();
-    assert_eq!(job.as_bytes().len(), limits::JOB_BYTES);
-    assert_eq!(Job::from_bytes(job.as_bytes()), Ok(job));
+    let rest = limits::JOB_BYTES - 10 - 2 * 9;
+    // Paths of 12 + 14 e bytes: 138 of 236 leave 172, and 172 = 2 * 12 + 14 * 10 + 8, of which 8
+    // are two predecessors.
+    assert_eq!(rest - 138 * 236 - 2 * 12 - 14 * 10, 2 * 4);
+    let block = Block::new(BlockId(1)).after([0, 1].map(BlockId)).assuming(paths(138, 16));
+    let of_paths = blocks(1).block(block.assuming([path(10)])).candidate(path(0));
+    // The same with a raw read of 34 + 14 e bytes: 172 = 34 + 14 * 9 + 12.
+    assert_eq!(rest - 138 * 236 - 34 - 14 * 9, 3 * 4);
+    let block = Block::new(BlockId(1)).after([0, 1].map(BlockId)).reading([read(9, 0)]);
+    let of_read = Job::builder(BlockId(0)).block(Block::new(BlockId(0)).after([BlockId(1)]));
+    let of_read = of_read.block(block.assuming(paths(138, 16)));
+    for job in [of_paths, of_read.clone()] {
+        let job = job.build().unwrap();
+        assert_eq!(job.as_bytes().len(), limits::JOB_BYTES);
+        assert_eq!(Job::from_bytes(job.as_bytes()), Ok(job));
+    }
+    let longer = Block::new(BlockId(2)).reading([read(0, 0)]);
+    assert_eq!(refused(of_read.block(longer.clone())).record(), Record::Block(2));
+    let block = Block::new(BlockId(1)).assuming(paths(138, 16)).assuming([path(9)]);
+    let refusal = refused(blocks(1).block(block).block(longer));
+    let passes = Record::RawRead { block: 2, read: 0 };
+    assert_eq!(named(refusal), (passes, Some(2), Field::Bytes, too_many(32_777, limits::JOB_BYTES)));
+    assert!(refusal.to_string().ends_with("; raw read 1 of block 2 passes them"), "{refusal}");
 }
 
 #[test]

@@ -3,9 +3,9 @@
 mod common;
 
 use common::{all_bytes, has_usual_buffer, hex, jobs, stored};
-use scope_deps::{limits, raw, Answer, Job, ManyNodes, Record, Refusal, Sheet};
+use scope_deps::{limits, raw, Answer, Job, ManyNodes, Place, ReadScope, Record, Refusal, Sheet};
 
-const EXAMPLE: &str = "4844 0100 0100 07000000 / 424C 07000000 00 01 / 5041 01000000 01 00000000 00 /
+const EXAMPLE: &str = "4844 0100 0100 07000000 / 424C 07000000 00 01 00 / 5041 01000000 01 00000000 00 /
     4341 01000000 01 05000000 01 00 00 0A00000000000000 06000000";
 
 #[test]
@@ -40,7 +40,7 @@ fn a_job_that_is_read_is_written_back_and_refused_at_most_by_9() {
 
 #[test]
 fn the_reader_refuses_by_the_stages_number() {
-    let mut of_number = [0; 10];
+    let mut of_number = [0; 11];
     for bytes in all_bytes(2, 20_000) {
         let own = Job::from_bytes(&bytes).err();
         match raw::answer(&bytes) {
@@ -51,12 +51,14 @@ fn the_reader_refuses_by_the_stages_number() {
             }
         }
     }
-    assert!(of_number[2..=8].iter().all(|&count| count >= 20), "{of_number:?}");
+    let numbers = (2..=8).chain([10]);
+    assert!(numbers.into_iter().all(|number| of_number[number] >= 20), "{of_number:?}");
 }
 
 #[test]
 fn every_prefix_and_every_changed_byte_is_refused_alike() {
-    let good = "scope 3 block 0 assumes 1@2?.10 block 3 after 0 assumes reactive 1 candidate 1.10[0]";
+    let good = "scope 3 block 0 assumes 1@2?.10
+        block 3 after 0 reads 2.10 at 3 range 0 to 2 scope 1 to 9 assumes reactive 1 candidate 1.10[0]";
     let good = good.parse::<Job>().unwrap().to_bytes();
     let prefixes = (0..good.len()).map(|length| good[..length].to_vec());
     let changed = (0..good.len()).flat_map(|at| {
@@ -124,30 +126,113 @@ fn a_refusal_names_its_byte_and_its_record() {
     assert_eq!(told(""), (3, 0, Record::Header));
     assert_eq!(told("4844 0100 0100 07"), (3, 6, Record::Header));
     assert_eq!(told("4844 0100 0000 07000000 424D"), (4, 10, Record::Block(0)));
-    let block = "4844 0100 0100 07000000 424C 07000000 00 01";
+    let block = "4844 0100 0100 07000000 424C 07000000 00 01 00";
     let assumed = Record::Assumed { block: 0, path: 0 };
-    assert_eq!(told(&format!("{block} 5041 01000000 02")), (5, 24, assumed));
+    assert_eq!(told(&format!("{block} 5041 01000000 02")), (5, 25, assumed));
     let path = format!("{block} 5041 01000000 01 00000000 00");
-    assert_eq!(told(&format!("{path} 5041")), (4, 30, Record::Candidate(0)));
-    assert_eq!(told(&format!("{path} 4341 01000000 01 05000000 00 00")), (6, 42, Record::End));
+    assert_eq!(told(&format!("{path} 5041")), (4, 31, Record::Candidate(0)));
+    assert_eq!(told(&format!("{path} 4341 01000000 01 05000000 00 00")), (6, 43, Record::End));
     let header = "4844 0200 0000 07000000";
-    let twice = format!("{header} 424C 07000000 00 00 424C 07000000 00 00");
-    assert_eq!(told(&twice), (7, 20, Record::Block(1)));
-    let unknown = format!("{header} 424C 07000000 00 00 424C 08000000 02 00 07000000 09000000");
-    assert_eq!(told(&unknown), (8, 30, Record::Block(1)));
-    let scope = "4844 0100 0000 09000000 424C 07000000 00 00";
+    let twice = format!("{header} 424C 07000000 00 00 00 424C 07000000 00 00 00");
+    assert_eq!(told(&twice), (7, 21, Record::Block(1)));
+    let unknown = format!("{header} 424C 07000000 00 00 00 424C 08000000 02 00 00 07000000 09000000");
+    assert_eq!(told(&unknown), (8, 32, Record::Block(1)));
+    let scope = "4844 0100 0000 09000000 424C 07000000 00 00 00";
     assert_eq!(told(scope), (8, 6, Record::Header));
+}
+
+/// A block with one raw read of variable 1 and no path, and no candidate: from the header to the
+/// instruction, and from the range's end on.
+const READ: [&str; 2] = [
+    "4844 0100 0000 07000000 424C 07000000 00 00 01 5244 03000000",
+    "02000000 01 05000000 09000000 00 / 01000000 01 08000000 01 01 00 0A00000000000000 06000000",
+];
+
+fn reading(start: &str) -> Vec<u8> {
+    hex(&READ.join(start))
+}
+
+#[test]
+fn a_raw_read_is_read_field_by_field() {
+    let job = Job::from_bytes(&reading("01000000")).unwrap();
+    assert_eq!(
+        job.to_string(),
+        "scope 7\nblock 7\n  reads reactive 1@8?.10@6 at 3 range 1 to 2 scope 5 to 9\n"
+    );
+    assert_eq!(job.to_bytes(), reading("01000000"));
+    let [read] = job.blocks()[0].raw_reads() else { panic!("{job}") };
+    assert_eq!((read.instruction, read.range_start, read.range_end), (3, 1, 2));
+    assert_eq!(read.scope, ReadScope::Some { start: 5, end: 9 });
+    assert!(!read.known_immutable && read.is_kept());
+    let mut other = reading("01000000");
+    (other[33], other[42]) = (0, 1);
+    let job = Job::from_bytes(&other).unwrap();
+    assert!(job.to_string().contains(" at 3 range 1 to 2 no scope 5 to 9 immutable\n"), "{job}");
+    assert_eq!(job.to_bytes(), other);
+}
+
+#[test]
+fn the_largest_range_start_is_refused_where_it_stands() {
+    let own = |bytes: &[u8]| Job::from_bytes(bytes).unwrap_err();
+    let largest = reading("FFFFFFFF");
+    let record = Record::RawRead { block: 0, read: 0 };
+    let refusal = own(&largest);
+    let place = Place { byte: 25, record, field: "the range's start (0 to 4294967294)" };
+    assert_eq!((refusal, refusal.number()), (Refusal::LargestStart(Some(place)), 10));
+    assert_eq!(
+        refusal.to_string(),
+        "refusal 10, LargestStart: a range start is 4,294,967,295, where start + 1 would not fit; \
+         at byte 25, in RD record 1 of BL record 1: the range's start (0 to 4294967294)"
+    );
+    assert!(Job::from_bytes(&reading("FEFFFFFF")).is_ok());
+    // An earlier field comes first, a later one does not, and the field's own bytes come before.
+    let with = |at: usize, byte| {
+        let mut bytes = largest.clone();
+        bytes[at] = byte;
+        bytes
+    };
+    assert_eq!(own(&with(19, b'X')).number(), 4);
+    assert_eq!(own(&with(33, 2)).number(), 10);
+    assert_eq!([28, 29].map(|length| own(&largest[..length]).number()), [3, 10]);
+    assert_eq!(own(&[&largest[..], &[0]].concat()).number(), 10);
+    assert_eq!(own(&with(6, 9)).number(), 10, "an unknown scope block");
+    for bytes in [&largest[..], &largest[..28], &largest[..29], &with(19, b'X'), &with(33, 2), &with(6, 9)] {
+        let stage = [raw::answer, raw::sheet, raw::strict_answer, raw::strict_sheet, raw::thin];
+        stage.iter().for_each(|operation| assert_eq!(operation(bytes), Err(own(bytes)), "{bytes:x?}"));
+    }
+}
+
+#[test]
+fn a_raw_read_has_its_marks_and_flags() {
+    let told = |at: usize, byte| {
+        let mut bytes = reading("01000000");
+        bytes[at] = byte;
+        let refusal = Job::from_bytes(&bytes).unwrap_err();
+        (refusal.number(), refusal.place().unwrap().byte, refusal.place().unwrap().record)
+    };
+    let read = Record::RawRead { block: 0, read: 0 };
+    assert_eq!(told(19, b'P'), (4, 19, read));
+    assert_eq!(told(33, 2), (5, 33, read));
+    assert_eq!(told(42, 2), (5, 42, read));
+    assert_eq!(told(47, 2), (5, 47, read), "reactive");
+    assert_eq!(told(52, 17), (5, 52, read), "how many entries");
+    // One read fewer, or an assumed path in its place: the next record is of another kind.
+    assert_eq!(told(18, 0), (6, 19, Record::End));
+    assert_eq!(told(18, 2), (3, 67, Record::RawRead { block: 0, read: 1 }));
+    let mut exchanged = reading("01000000");
+    (exchanged[17], exchanged[18]) = (1, 0);
+    assert_eq!(Job::from_bytes(&exchanged).unwrap_err().number(), 4);
 }
 
 #[test]
 fn every_refusal_says_its_number_and_meaning() {
-    for number in 1..=9 {
+    for number in 1..=10 {
         let refusal = Refusal::from_number(number).unwrap();
         assert_eq!(refusal.number(), number);
         assert!(refusal.to_string().starts_with(&format!("refusal {number}, ")));
     }
     assert_eq!(Refusal::from_number(0), None);
-    assert_eq!(Refusal::from_number(10), None);
+    assert_eq!(Refusal::from_number(11), None);
     assert_eq!(raw::answer_into(&hex(EXAMPLE), &mut [0; 100]), Err(Refusal::ShortBuffer));
     assert_eq!(raw::answer(&vec![0; limits::JOB_BYTES + 1]), Err(Refusal::LongJob));
 }

@@ -5,7 +5,7 @@ mod common;
 use common::repository;
 use scope_deps::draw::{draw, draw_strict};
 use scope_deps::explain::explain;
-use scope_deps::{answer, sheet, strict_answer, strict_sheet, Job};
+use scope_deps::{answer, sheet, strict_answer, strict_sheet, Job, RawRead};
 use std::fs;
 use std::path::PathBuf;
 
@@ -31,7 +31,8 @@ fn job(name: &str) -> Job {
 #[test]
 fn each_example_has_the_answer_beside_it() {
     let names = names();
-    assert_eq!(names, ["added-nodes", "diamond", "loop", "no-last-session", "optional-chain", "repeats"]);
+    let all = ["added-nodes", "diamond", "loop", "no-last-session", "optional-chain", "raw-reads", "repeats"];
+    assert_eq!(names, all);
     for name in names {
         let expected = read(repository(&format!("examples/{name}.answer")));
         let job = job(&name);
@@ -67,7 +68,7 @@ fn the_pictures_in_the_readme_are_those_that_are_drawn() {
         assert!(svg == read(repository(file)), "{file}: draw it again by `scope-deps draw`");
         assert!(readme.contains(file), "{file}");
     };
-    for name in ["no-last-session", "loop", "added-nodes"] {
+    for name in ["no-last-session", "loop", "added-nodes", "raw-reads"] {
         let job = job(name);
         let svg = draw(&job, &sheet(&job).unwrap(), &answer(&job).unwrap()).unwrap();
         check(&format!("docs/pictures/{name}.svg"), svg);
@@ -100,6 +101,19 @@ fn reduction_adds_two_nodes_for_the_chain_and_none_for_the_plain_path() {
     let shown: String = end.iter().rev().map(|line| format!("    {line}\n")).collect();
     let command = "    $ bin/scope-deps explain --all examples/added-nodes.job | tail -n 3\n";
     assert!(readme.contains(&format!("{command}{shown}")), "{shown}");
+}
+
+/// The block of the document that has raw reads, with one before it.
+#[test]
+fn the_raw_reads_in_the_document_are_kept_or_not_as_it_says() {
+    let notation = read(repository("docs/NOTATION.md"));
+    let (_, part) = notation.split_once("\n## Raw reads\n").unwrap();
+    let (_, block) = part.split_once("\n\n    block 1").unwrap();
+    let (block, rest) = block.split_once("\n\n").unwrap();
+    assert!(rest.contains("A path is left out, as the first above"));
+    let job: Job = format!("scope 1 block 0 block 1{block}").parse().unwrap();
+    let kept: Vec<bool> = job.blocks()[1].raw_reads().iter().map(RawRead::is_kept).collect();
+    assert_eq!(kept, [false, true, true]);
 }
 
 /// The indented parts of a document that start a job.

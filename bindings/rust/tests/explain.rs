@@ -336,6 +336,138 @@ fn a_base_that_no_block_assumes() {
 }
 
 #[test]
+fn the_example_of_raw_reads() {
+    let job = std::fs::read_to_string(repository("examples/raw-reads.job")).unwrap();
+    assert_eq!(
+        full(&job),
+        "\
+candidate athlete.lastSession
+ returned athlete.lastSession
+    .lastSession  stays plain: athlete is known to be there in block 1 [1]
+
+candidate week.goal.beats
+ returned week
+    .goal  is cut: week is not known to be there in block 1
+           no block assumes week
+           block 0 reads week at instruction 2, but week can still change there: its range 1 to 4 is longer than one \
+           instruction, and instruction 2 is in its scope, 1 to 4
+
+[1] how athlete came there
+    block 0 reads athlete at instruction 3
+    block 1 took athlete over from block 0, the only block that control comes from
+"
+    );
+    // The end of the comment: where the read would be kept.
+    for (from, to) in [("week@3 at 2", "week@3 at 4"), ("scope 1 to 4", "scope 1 to 4 immutable")] {
+        let kept = short(&job.replacen(from, to, 1));
+        assert!(kept.contains("returned week.goal\n") && !kept.contains("can still change"), "{kept}");
+    }
+}
+
+#[test]
+fn a_base_that_is_read_is_told_with_the_instruction() {
+    let known = |job: &str| {
+        let said = short(job);
+        let line = said.lines().find(|line| line.contains("is known to be there")).unwrap().to_string();
+        line.split_once("; ").unwrap().1.to_string()
+    };
+    let one = "range 0 to 1";
+    assert_eq!(
+        known(&format!("scope 7 block 7 reads 1 at 3 {one} candidate 1.10")),
+        "block 7 reads it at instruction 3"
+    );
+    assert_eq!(
+        known(&format!("scope 1 block 0 reads 1 at 3 {one} assumes 1 block 1 after 0 candidate 1.10")),
+        "it comes from block 0, which reads it at instruction 3"
+    );
+    let three = |of_1: &str, of_2: &str, of_3: &str| {
+        format!(
+            "scope 4 block 0 block 1 after 0 {of_1} block 2 after 0 {of_2} block 3 after 0 {of_3} \
+             block 4 after 1, 2, 3 candidate 1.10"
+        )
+    };
+    let reads = |at: u32| format!("reads 1 at {at} {one}");
+    assert_eq!(
+        known(&three(&reads(9), &reads(5), &reads(7))),
+        "it comes from blocks 1, 2 and 3, which read it at instructions 9, 5 and 7"
+    );
+    assert_eq!(
+        known(&three(&reads(9), "assumes 1", &reads(9))),
+        "it comes from blocks 1 and 3, which read it at instruction 9, and from block 2, which assumes it"
+    );
+}
+
+#[test]
+fn a_base_that_is_read_elsewhere_and_stops() {
+    let job = "scope 2 block 0 block 1 after 0 reads 5.6 at 3 range 0 to 1 block 2 after 0, 1 candidate 5.10";
+    assert_eq!(
+        cut(job),
+        ["block 1 reads 5.6 at instruction 3, and so has 5, \
+          but control can also come to block 2 from block 0, which does not have it"]
+    );
+    assert_eq!(
+        cut("scope 7 block 4 reads 1?.10 at 3 range 0 to 1 block 7 candidate 1.10"),
+        ["no block assumes 1; block 4 reads 1?.10 at instruction 3, which does not make 1 known to the stage"]
+    );
+    assert_eq!(
+        cut("scope 7 block 7 reads 1?.10 at 3 range 0 to 1 reads 1.11 at 4 range 0 to 1 candidate 1.10"),
+        [
+            "block 7 reads 1?.10 at instruction 3; that does not make 1 known to the stage",
+            "block 7 reads 1.11 at instruction 4, too, but a path that has `?.` right after its variable decides \
+             before others"
+        ]
+    );
+}
+
+/// That a read of variable 5 at this instruction is not kept, with this range and scope.
+fn can_change(block: u32, path: &str, at: u32) -> String {
+    format!(
+        "block {block} reads {path} at instruction {at}, but 5 can still change there: its range 0 to 2 is longer than \
+         one instruction, and instruction {at} is in its scope, 0 to 9"
+    )
+}
+
+#[test]
+fn a_read_that_is_not_kept_is_told_where_the_base_is_missing() {
+    let read = |path: &str, at: u32| format!("reads {path} at {at} range 0 to 2 scope 0 to 9");
+    // The block that lacks the base comes before others, and the scope block before that.
+    let (other, lacking, own) = (read("5", 1), read("5.6", 2), read("5", 3));
+    let job = |own: &str| {
+        format!(
+            "scope 3 block 9 {other} block 0 {lacking} block 1 after 0 assumes 5 block 2 after 0 \
+             block 3 after 0, 1 {own} candidate 5.10"
+        )
+    };
+    let stops =
+        "block 1 assumes 5, but control can also come to block 3 from block 0, which does not have it";
+    assert_eq!(cut(&job("")), [stops.to_string(), can_change(0, "5.6", 2)]);
+    assert_eq!(cut(&job(&own)), [stops.to_string(), can_change(3, "5", 3)]);
+    let in_full = full(&job(&own));
+    let told = in_full.lines().filter(|line| line.contains("can still change there")).map(str::trim);
+    assert!(told.eq([can_change(3, "5", 3), can_change(0, "5.6", 2), can_change(9, "5", 1)]), "{in_full}");
+}
+
+#[test]
+fn a_read_that_is_not_kept_is_not_told_where_it_does_not_matter() {
+    let read = "reads 5 at 3 range 0 to 2 scope 0 to 9";
+    for job in [
+        // The base is known.
+        format!("scope 7 block 7 {read} assumes 5 candidate 5.10"),
+        // The block has the base by another path, and it stopped elsewhere.
+        format!("scope 2 block 0 block 1 after 0 {read} assumes 5 block 2 after 0, 1 candidate 5.10"),
+        // It is of another variable, or too short, or would leave the base open.
+        format!("scope 7 block 7 {read} candidate 6.10"),
+        format!("scope 7 block 7 {read} assumes 5 candidate 5.10.11"),
+        format!("scope 7 block 7 {} candidate 5.10", read.replace("reads 5", "reads 5?.10")),
+        // The scope block has the base, but another path of it decides.
+        format!("scope 7 block 0 {read} block 7 assumes 5.11, 5?.10 candidate 5.10"),
+    ] {
+        let (short, full) = (short(&job), full(&job));
+        assert!(!short.contains("can still change") && !full.contains("can still change"), "{job}\n{full}");
+    }
+}
+
+#[test]
 fn a_path_of_the_scope_block_that_leaves_the_base_open() {
     assert_eq!(
         cut("scope 7 block 7 assumes 1?.10 candidate 1.10"),
@@ -468,19 +600,7 @@ fn a_job_without_candidates_is_explained_too() {
 
 #[test]
 fn no_sentence_on_candidates_has_inner_words_and_a_cut_has_few_lines() {
-    let inner = [
-        "set",
-        "sets",
-        "reaches",
-        "node",
-        "nodes",
-        "joined",
-        "Active",
-        "Done",
-        "reduction",
-        "holds",
-        "reads",
-    ];
+    let inner = ["set", "sets", "reaches", "node", "nodes", "joined", "Active", "Done", "reduction", "holds"];
     let all = jobs(32, 1_500).flat_map(|job| [explained(&job), strictly_explained(&job)]);
     for explanation in all.flatten() {
         let (short, full) = (explanation.to_string(), explanation.in_full().to_string());
@@ -490,7 +610,7 @@ fn no_sentence_on_candidates_has_inner_words_and_a_cut_has_few_lines() {
             assert!(inner.iter().all(|word| !words.contains(word)), "{text}");
         }
         let entries: usize = explanation.reasons.iter().map(|reason| reason.bases.len() + 1).sum();
-        let most = 3 + usize::from(!explanation.settled);
+        let most = 4 + usize::from(!explanation.settled);
         assert!(short.lines().count() <= 3 + 4 * explanation.reasons.len() + most * entries, "{short}");
     }
 }

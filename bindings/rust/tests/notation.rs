@@ -3,7 +3,7 @@
 mod common;
 
 use common::{generated, jobs};
-use scope_deps::{answer, sheet, BlockId, Job, Path, Property};
+use scope_deps::{answer, sheet, BlockId, Job, Path, Property, RawRead, ReadScope};
 
 #[test]
 fn text_and_job_turn_into_each_other_without_loss() {
@@ -95,6 +95,72 @@ fn a_text_is_free_in_its_lines_and_comments() {
     assert_eq!(job.place_of(BlockId(8)), Some(1));
 }
 
+#[test]
+fn raw_reads_stand_between_predecessors_and_assumed_paths() {
+    let text = "name 5 athlete\nname .10 lastSession\nscope 1\nblock 0\nblock 1 after 0\n  \
+                reads athlete.lastSession at 3 range 0 to 2 scope 0 to 9\n  \
+                reads reactive athlete@7?.lastSession at 3 range 0 to 2 scope 0 to 9 immutable\n  \
+                reads athlete at 3 range 0 to 1\n  \
+                reads 6 at 4294967295 range 4294967294 to 0 no scope 4 to 9\n  \
+                reads 6[0] at 0 range 0 to 0 no scope 0 to 1 immutable\n  \
+                assumes athlete\n";
+    let job: Job = text.parse().unwrap();
+    assert_eq!(job.to_string(), text);
+    assert_eq!(Job::from_bytes(job.as_bytes()).unwrap().named(job.names().clone()).to_string(), text);
+    let reads = job.blocks()[1].raw_reads();
+    assert_eq!(reads.iter().map(RawRead::is_kept).collect::<Vec<_>>(), [false, true, true, true, true]);
+    assert_eq!(reads[3].scope, ReadScope::None { start: 4, end: 9 });
+    assert_eq!((reads[3].instruction, reads[3].range_start, reads[3].range_end), (u32::MAX, u32::MAX - 1, 0));
+    let wide = "scope 0 block 0 reads 1\n at # the instruction\n3 range 0\nto 2 no scope 0 to 0 immutable reads 2 at 1\n\
+                range 0 to 1 scope 0 to 0";
+    let narrow =
+        "scope 0\nblock 0\n  reads 1 at 3 range 0 to 2 immutable\n  reads 2 at 1 range 0 to 1 scope 0 to 0\n";
+    assert_eq!(wide.parse::<Job>().unwrap().to_string(), narrow);
+}
+
+#[test]
+fn a_raw_read_is_read_by_itself_and_with_names() {
+    let text = "reactive 5@7?.10 at 3 range 0 to 2 scope 0 to 9 immutable";
+    let read: RawRead = text.parse().unwrap();
+    assert_eq!(read.to_string(), text);
+    assert_eq!(format!("{read:#}"), "5?.10 at 3 range 0 to 2 scope 0 to 9 immutable");
+    let wrong = |text: &str| {
+        let error = text.parse::<RawRead>().unwrap_err();
+        (error.column(), error.message().to_string())
+    };
+    let end = "`scope`, `no scope`, `immutable` or the end of the read is due here, not `x`";
+    assert_eq!(wrong("5 at 3 range 0 to 1 x"), (21, end.to_string()));
+    let end = "`immutable` or the end of the read is due here, not `x`";
+    assert_eq!(wrong("5 at 3 range 0 to 1 scope 0 to 1 x"), (34, end.to_string()));
+    let end = "the end of the read is due here, not `scope`";
+    assert_eq!(wrong("5 at 3 range 0 to 1 immutable scope 0 to 1"), (31, end.to_string()));
+}
+
+#[test]
+fn a_raw_read_that_is_none_is_refused_where_it_goes_wrong() {
+    let read = |rest: &str, column, message: &str| {
+        wrong(&format!("scope 0 block 0 reads {rest}"), 1, column, message)
+    };
+    let variable = "a path's variable is due here: a number, or a name given before, which `at` is not";
+    read("at 3", 23, variable);
+    read("5", 24, "`at` and the number of the instruction is due here, not the end of the text");
+    read("5, 6", 24, "`at` and the number of the instruction is due here, not `,`");
+    read("5 at range", 28, "the number of the instruction is due here, not `range`");
+    read("5 at 3", 29, "`range` and the start of the variable's range is due here, not the end of the text");
+    read("5 at 3 scope 0 to 9", 30, "`range` and the start of the variable's range is due here, not `scope`");
+    read("5 at 3 range 0", 37, "`to` and the range's end is due here, not the end of the text");
+    read("5 at 3 range 0 to x", 41, "the range's end is due here, not `x`");
+    read("5 at 3 range 0 to 1 no", 45, "`scope` is due here, not the end of the text");
+    read("5 at 3 range 0 to 1 scope 0 1", 51, "`to` and the scope's end is due here, not `1`");
+    let largest = "the range's start is at most 4294967294, and 4294967295 is more";
+    read("5 at 3 range 4294967295 to 4294967295", 36, largest);
+    read(
+        "5 at 4294967296",
+        28,
+        "the number of the instruction is at most 4294967295, and 4294967296 is more",
+    );
+}
+
 /// That the text is refused at this line and column with this message.
 fn wrong(text: &str, line: usize, column: usize, message: &str) {
     let error = text.parse::<Job>().unwrap_err();
@@ -112,6 +178,9 @@ fn a_text_that_is_no_job_is_refused_where_it_goes_wrong() {
     let once = "a block's predecessors stand in one list, right after its id";
     wrong("scope 7\nblock 7 assumes 1 after 7", 2, 19, once);
     wrong("scope 7\nblock 7 after 7 after 8", 2, 17, once);
+    wrong("scope 7\nblock 7 reads 1 at 3 range 0 to 1 after 7", 2, 35, once);
+    let before = "what a block reads stands before what it assumes";
+    wrong("scope 7\nblock 7 assumes 1\n  reads 1 at 3 range 0 to 1", 3, 3, before);
     wrong("scope 7 block 7 assumes 1?10", 1, 26, "after `?` there is a `.`, as in `1?.10` or `1?.[0]`");
     wrong("scope 7 block 7 assumes 1.[0]", 1, 27, "a number read plainly has no dot before it: `1[0]`");
     wrong(
@@ -140,9 +209,14 @@ fn only_what_may_stand_there_is_offered() {
             (&text[column - 1..], "`candidate`, `name` or the end of the job is due here, not");
         wrong(text, 1, column, &format!("{words}{end} `{found}`"));
     };
-    offered("scope 3 block 3, 4".strip_suffix(" 4").unwrap(), 16, "`after`, `assumes`, `block`, ");
-    offered("scope 3 block 3 7", 17, "`after`, `assumes`, `block`, ");
-    offered("scope 3 block 3 after 3 7", 25, "`,`, `assumes`, `block`, ");
+    let [first, reads] = ["`after`, `reads`, `assumes`, `block`, ", "`reads`, `assumes`, `block`, "];
+    offered("scope 3 block 3, 4".strip_suffix(" 4").unwrap(), 16, first);
+    offered("scope 3 block 3 7", 17, first);
+    offered("scope 3 block 3 after 3 7", 25, &format!("`,`, {reads}"));
+    let rest = format!("`scope`, `no scope`, `immutable`, {reads}");
+    offered("scope 3 block 3 reads 1 at 3 range 0 to 1 7", 43, &rest);
+    offered("scope 3 block 3 reads 1 at 3 range 0 to 1 scope 0 to 1 7", 56, &format!("`immutable`, {reads}"));
+    offered("scope 3 block 3 reads 1 at 3 range 0 to 1 immutable 7", 53, reads);
     offered("scope 3 block 3 assumes 1 7", 27, "`,`, `assumes`, `block`, ");
     offered("scope 3 block 3 after 3 assumes 1, 2 7", 38, "`,`, `assumes`, `block`, ");
     offered("scope 3 block 3 name 1 x 7", 26, "`block`, ");
@@ -220,4 +294,13 @@ fn parts_that_make_no_job_are_refused_where_they_stand() {
         9,
         "block 0 has 256 assumed paths, and at most 255 are allowed",
     );
+    wrong(
+        &format!("scope 0 block 0{}", "\nreads 1 at 3 range 0 to 1".repeat(256)),
+        257,
+        7,
+        "block 0 has 256 raw reads, and at most 255 are allowed",
+    );
+    let long = format!("\nreads 1{} at 3 range 0 to 1", ".1".repeat(16));
+    let error = format!("scope 0 block 0{}", long.repeat(200)).parse::<Job>().unwrap_err();
+    assert_eq!((error.line(), error.column()), (128, 7), "{error}");
 }

@@ -100,9 +100,9 @@ impl Sets {
         let sets = Self((0..job.blocks().len()).map(assumed).collect());
         for (block, record) in job.blocks().iter().enumerate() {
             let nodes = replay.assumed(block);
-            assert_eq!(nodes.len(), record.assumed().len());
+            assert_eq!(nodes.len(), record.all_assumed().count());
             let same = |(node, path): (&NodeId, &scope_deps::Path)| replay.path(*node).same_entries(path);
-            assert!(nodes.iter().zip(record.assumed()).all(same), "{job}");
+            assert!(nodes.iter().zip(record.all_assumed()).all(same), "{job}");
         }
         sets
     }
@@ -262,6 +262,37 @@ fn the_strict_one_joins_all_or_none() {
     assert!(of(3).joined.is_empty() && of(3).came_in.is_empty());
     assert_eq!((&of(3).passed_over[..], &of(3).unfinished[..]), (&[place(0), place(1)][..], &[place(0)][..]));
     assert!(of(1).joined.is_empty() && of(1).passed_over.is_empty());
+}
+
+/// The first read is not kept, and enters nothing; the second makes the node of `1` and so has its
+/// span, before the path that stands after `assumes`.
+#[test]
+fn raw_reads_that_are_kept_are_entered_before_assumed_paths() {
+    let text =
+        "scope 0 block 0 reads 2@7.10@8 at 3 range 0 to 2 scope 0 to 9 reads reactive 1@5 at 3 range 0 to 1 \
+                assumes 3, 1@6.11 block 1 after 0 reads 2 at 9 range 0 to 2 scope 0 to 9";
+    let job: Job = text.parse().unwrap();
+    for (replay, sheet) in [EXISTING, STRICT] {
+        let replay = replay(&job).unwrap();
+        let paths: Vec<String> = replay.nodes().map(|node| replay.path(node).to_string()).collect();
+        assert_eq!(paths, ["reactive 1@5", "3", "reactive 1@5.11", "2"]);
+        assert_eq!((replay.assumed(0), replay.assumed(1)), (&[0, 1, 2].map(NodeId)[..], &[NodeId(3)][..]));
+        assert!(replay.agrees_with(&job, &sheet(&job).unwrap()));
+    }
+}
+
+#[test]
+fn a_read_that_is_not_kept_plays_no_part() {
+    let read = "reads 1 at 3 range 0 to 2 scope 0 to 9";
+    let with = |read: &str| {
+        format!("scope 1 block 0 {read} assumes 5 block 1 after 0 candidate 1.10").parse::<Job>()
+    };
+    let (dropped, without) = (with(read).unwrap(), with("").unwrap());
+    assert_ne!(dropped, without);
+    assert_eq!((sheet(&dropped), strict_sheet(&dropped)), (sheet(&without), strict_sheet(&without)));
+    let kept = with(&format!("{read} immutable")).unwrap();
+    assert_ne!(sheet(&kept), sheet(&without));
+    assert_eq!(sheet(&kept).unwrap().nodes().len(), 2);
 }
 
 #[test]

@@ -26,6 +26,18 @@ fn repeats_are_dropped_and_the_first_stays() {
 }
 
 #[test]
+fn raw_reads_stay_and_are_compared_with_nothing() {
+    let read = "reads 1 at 3 range 0 to 2 scope 0 to 9";
+    let kept = "reads 1 at 3 range 0 to 1";
+    let blocks = format!("block 7 {read} {read} {kept} {kept}");
+    let job: Job = format!("scope 7 {blocks} assumes 1, 2, 1@5, 2 candidate 1").parse().unwrap();
+    let thin: Job = format!("scope 7 {blocks} assumes 1, 2 candidate 1").parse().unwrap();
+    assert_eq!(job.thin(), thin, "{}", job.thin());
+    assert_eq!(thin.thin(), thin);
+    assert_eq!(job.thin().blocks()[0].raw_reads(), job.blocks()[0].raw_reads());
+}
+
+#[test]
 fn names_are_kept() {
     let job: Job =
         "name 1 athlete name .10 beats scope 7 block 7 candidate athlete.beats, 1.10".parse().unwrap();
@@ -54,6 +66,10 @@ fn a_thin_job_has_no_repeats_and_the_same_answer_and_sheet() {
         assert_eq!(thin.thin(), thin);
         assert!(!has_repeat(thin.candidates()));
         assert!(thin.blocks().iter().all(|block| !has_repeat(block.assumed())));
+        let reads = |job: &Job| -> Vec<_> {
+            job.blocks().iter().flat_map(|block| block.raw_reads().to_vec()).collect()
+        };
+        assert_eq!(reads(&thin), reads(&job));
         let has_repeats = job.blocks().iter().any(|block| has_repeat(block.assumed()));
         assert_eq!(thin == job, !has_repeats && !has_repeat(job.candidates()));
         shorter += usize::from(thin != job);
@@ -64,7 +80,7 @@ fn a_thin_job_has_no_repeats_and_the_same_answer_and_sheet() {
 }
 
 #[test]
-fn bytes_get_the_thin_job_or_the_refusal_from_2_to_8() {
+fn bytes_get_the_thin_job_or_the_refusal_from_2_to_8_or_10() {
     let mut stage = Stage::new();
     for bytes in all_bytes(22, 3_000) {
         let due = Job::from_bytes(&bytes).map(|job| job.thin().into_bytes());

@@ -117,6 +117,7 @@ impl Shape {
             .map(|n| Block {
                 id: n as u32,
                 predecessors: graph[n].iter().map(|&place| place as u32).collect(),
+                reads: vec![],
                 assumed: self.paths(prng, self.assumed),
             })
             .collect();

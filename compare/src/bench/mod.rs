@@ -106,7 +106,7 @@ impl Timer {
         // The harness's own change of types is not counted.
         let prepared = black_box(reference::prepare(&job, &self.alloc));
         let prepared_at = Instant::now();
-        let propagated = reference::propagate(&prepared, Propagation::Existing, &self.alloc);
+        let propagated = reference::propagate(&prepared, Propagation::Existing, None, &self.alloc);
         let returned = reference::derive(prepared, &propagated, &self.alloc);
         let derived = Instant::now();
         reference::put_answer(&mut self.out, &returned, &propagated);

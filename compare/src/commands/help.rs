@@ -55,7 +55,7 @@ const THIN: &str = "\
 usage: compare/oracle thin < JOB
 
 Writes the thin job of the job on standard input, as program `thin` does: the job's bytes without repeated
-paths, or RF and the number of the refusal. The Rust has no such writer, so this is the harness's own; which
+paths, or RF and the number of the refusal. Raw reads stay as they are. The Rust has no such writer, so this is the harness's own; which
 paths are the same is for the Rust to say (`are_equal_paths`), or where it is absent for the harness too.
 
   $ bin/scope-deps encode examples/diamond.job | compare/oracle thin | xxd
@@ -86,8 +86,8 @@ usage: compare/oracle nodes < JOB
 Runs the Rust on the job on standard input and prints `nodes.len()` of its registry before the first round, when
 all assumed paths are entered, and at the end, and how many nodes reduction made, in all and in the first round.
 The second line has the same by the strict propagation. The counts before the first round are those of the sheets.
-A job that 9 refuses is counted all the same; of one that 1 to 8 refuse there is nothing to count, and the exit
-status is 1.
+A job that 9 refuses is counted all the same; of one that another number refuses there is nothing to count, and
+the exit status is 1.
 
   $ bin/scope-deps encode examples/added-nodes.job | compare/oracle nodes
   existing propagation: nodes.len() is 4 before the first round and 6 at the end; reduction made 2, 2 of them in the first round
@@ -137,9 +137,10 @@ Compares the stage's library with the Rust, byte for byte, on a fixed list of jo
 ones: answers and sheets with the Rust, thin jobs and strict answers and sheets with the harness's own. On jobs
 without loops the harness's strict answers and sheets must be the Rust's. A thin job must have the answers and
 the sheets of its job, in the library, in the Rust and in the harness, and be its own thin job. `nodes.len()` of the
-Rust before the first round must be the number of distinct prefixes of the assumed paths. At a difference it says
-which job, keeps it in a file in the current directory and exits with 1. At the end it prints how many jobs there
-were of each kind, and where their nodes come from.
+Rust before the first round must be the number of distinct prefixes of the assumed paths, and the raw reads that the
+Rust keeps must be those that the harness keeps. At a difference it says which job, keeps it in a file in the
+current directory and exits with 1. At the end it prints how many jobs there were of each kind, how many raw reads
+were kept, and where their nodes come from.
 
   --seed S      another seed gives other jobs; 20261115 where it is missing
   --count N     how many generated jobs; 20000 where it and --seconds are missing

@@ -1,10 +1,13 @@
 //! The limits of the specification, one job at each and one beyond.
 
 mod nodes;
+mod read_fields;
+mod reads;
 
 use crate::examples::examples;
 use crate::generate::{edges, ladder};
-use crate::job::{Block, Job, Path, limits};
+use crate::job::{Block, Job, Path, RawRead, limits};
+use crate::reads::{known_immutable, mutable};
 use crate::worst::{self, block, candidates, falling_chain, full_registry, path, reducible_chain};
 
 /// A job, the length of its out buffer, and what it is for.
@@ -21,6 +24,10 @@ pub fn list() -> Vec<Fixed> {
     counts(&mut jobs);
     nodes::entered_or_made(&mut jobs);
     nodes::made_late(&mut jobs);
+    reads::edges(&mut jobs);
+    reads::counts(&mut jobs);
+    reads::nodes(&mut jobs);
+    read_fields::refusals(&mut jobs);
     rounds(&mut jobs);
     sizes(&mut jobs);
     out_lengths(&mut jobs);
@@ -47,11 +54,14 @@ fn one_block(assumed: Vec<Path>, candidates: Vec<Path>) -> Job {
 
 /// A job with a record of each kind, a join, a reduction and a cut.
 fn good() -> Job {
-    let blocks = vec![
+    let read = |range_start| RawRead { range_start, range_end: u32::MAX, ..mutable(path(3, 30, 1, true)) };
+    let mut blocks = vec![
         block(3, vec![], vec![path(1, 10, 0, false)]),
         block(1, vec![3], vec![path(1, 10, 2, true)]),
         block(2, vec![3, 1], vec![path(2, 20, 1, false)]),
     ];
+    // One byte away from a range start that 10 refuses, and one that is not kept.
+    blocks[1].reads = vec![read(limits::RANGE_START), read(7), known_immutable(path(3, 30, 2, true))];
     Job { scope: 2, blocks, candidates: vec![path(1, 10, 3, false), path(2, 20, 2, true)] }
 }
 
@@ -142,6 +152,7 @@ fn out_lengths(jobs: &mut Vec<Fixed>) {
         ("512 nodes", one_block(full_registry(512), vec![]).to_bytes()),
         ("a job with repeats", one_block(vec![path(1, 10, 2, false); 3], candidates(2, 16)).to_bytes()),
         ("32,768 bytes without a repeat", worst::longest_without_repeats().to_bytes()),
+        ("32,768 bytes of raw reads", worst::longest_of_reads().to_bytes()),
     ];
     let around_the_least = [24_574, 24_575, 24_576, 24_577, 32_766, 32_767, 32_768, 32_769];
     for out_len in [0, 1, 6, 80].into_iter().chain(around_the_least).chain([65_536, 1 << 20]) {

@@ -10,6 +10,7 @@ use crate::library::Stage;
 use crate::operation::Operation;
 use crate::oracle::{All, Oracle, Said};
 use crate::reader::{MANY_NODES, Refusal, read_job};
+use crate::reads;
 use buffer::Buffer;
 use nodes::Nodes;
 
@@ -23,6 +24,8 @@ pub struct Seen {
     pub propagations: Option<Propagations>,
     /// Where the nodes of such a job come from.
     pub nodes: Option<Nodes>,
+    /// How many raw reads of such a job are kept, and how many are not.
+    pub reads: [usize; 2],
 }
 
 /// How the existing propagation and the strict one stand to each other on a job.
@@ -69,6 +72,7 @@ impl<'s> Comparison<'s> {
         let read = read_job(job, out_len).ok();
         let propagations = read.as_ref().map(|job| Propagations::of(job, &all)).transpose()?;
         let nodes = read.as_ref().map(|job| Nodes::of(job, &all)).transpose()?;
+        let reads = read.as_ref().map_or(Ok([0; 2]), |job| self.compare_reads(job))?;
         self.call_all(job, out_len, &all)?;
         let shorter = all.thin.as_ref().ok().filter(|thin| *thin != job);
         if let Some(thin) = shorter {
@@ -78,7 +82,19 @@ impl<'s> Comparison<'s> {
             self.compare_thin(thin, out_len, &all).map_err(|why| format!("of the thin job, {why}"))?;
         }
         let refusal = all.existing.answer.as_ref().err().copied();
-        Ok(Seen { refusal, has_repeats: shorter.is_some(), propagations, nodes })
+        Ok(Seen { refusal, has_repeats: shorter.is_some(), propagations, nodes, reads })
+    }
+
+    /// Holds the Rust to the harness's own words on which raw reads are kept, and counts them.
+    fn compare_reads(&mut self, job: &Job) -> Result<[usize; 2], String> {
+        for read in job.blocks.iter().flat_map(|block| &block.reads) {
+            let own = reads::kept(read);
+            if self.oracle.keeps(read) != own {
+                let (rust, harness) = if own { ("drops", "keeps") } else { ("keeps", "drops") };
+                return Err(format!("the Rust {rust} a raw read that the harness {harness}: {read:?}"));
+            }
+        }
+        Ok(reads::counted(job))
     }
 
     /// Compares the operations on a thin job: in the library, in the Rust and in the harness its

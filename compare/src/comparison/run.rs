@@ -100,6 +100,7 @@ pub struct Tally {
     pub repeats: [usize; 2],
     pub propagations: PropagationTally,
     pub nodes: NodesTally,
+    pub reads: ReadsTally,
 }
 
 impl Tally {
@@ -110,6 +111,7 @@ impl Tally {
         self.repeats[usize::from(seen.refusal.is_some())] += usize::from(seen.has_repeats);
         seen.propagations.iter().for_each(|propagations| self.propagations.count(propagations));
         seen.nodes.iter().for_each(|nodes| self.nodes.count(nodes));
+        self.reads.count(seen.reads);
     }
 
     pub fn text(&self) -> String {
@@ -121,7 +123,32 @@ impl Tally {
         let [accepted, refused] = self.repeats;
         let thin = format!("thin jobs with fewer paths: accepted {accepted}, refused by 9: {refused}");
         let (classes, refusals) = (classes.join(", "), refusals.collect::<Vec<_>>().join(", "));
-        format!("{classes}\n{refusals}\n{thin}\n{}\n{}", self.propagations.text(), self.nodes.text())
+        let (reads, propagations) = (self.reads.text(), self.propagations.text());
+        format!("{classes}\n{refusals}\n{thin}\n{reads}\n{propagations}\n{}", self.nodes.text())
+    }
+}
+
+/// Raw reads, over the jobs that the reader accepts.
+#[derive(Debug, Default)]
+pub struct ReadsTally {
+    /// Jobs with some, and those of them in which some are kept and some are not.
+    pub jobs: usize,
+    pub mixed: usize,
+    pub kept: usize,
+    pub dropped: usize,
+}
+
+impl ReadsTally {
+    fn count(&mut self, [kept, dropped]: [usize; 2]) {
+        self.jobs += usize::from(kept + dropped > 0);
+        self.mixed += usize::from(kept > 0 && dropped > 0);
+        self.kept += kept;
+        self.dropped += dropped;
+    }
+
+    fn text(&self) -> String {
+        let Self { jobs, mixed, kept, dropped } = self;
+        format!("raw reads in {jobs} jobs: {kept} kept, {dropped} dropped; both in {mixed} jobs")
     }
 }
 

@@ -5,6 +5,7 @@
 
 mod graph;
 mod nodes;
+mod reads;
 mod reduction;
 mod refusals;
 mod strict;
@@ -13,6 +14,7 @@ mod tree;
 
 pub use graph::order_features;
 pub use nodes::node_features;
+pub use reads::mistake_features;
 pub use strict::strict_features;
 pub use thin::nearly_right;
 
@@ -21,6 +23,7 @@ use crate::job::{Job, Path, Property, limits};
 use crate::oracle::All;
 use crate::output::{Answer, Written, read_answer, read_sheet};
 use crate::reader::read_job;
+use crate::reads::all_assumed;
 use std::collections::{BTreeSet, HashMap, HashSet};
 
 pub type Features = BTreeSet<String>;
@@ -42,6 +45,7 @@ pub fn features(class: &str, bytes: &[u8], out_len: usize, all: &All) -> Feature
     let Ok(job) = read_job(bytes, out_len) else { return found };
     graph::graph_features(&job, &mut found);
     word_features(&job, &mut found);
+    reads::read_features(&job, &mut found);
     reduction::reduction_features(&job, &mut found);
     if let Some(counts) = &both.counts {
         count_features(counts, &mut found);
@@ -81,7 +85,7 @@ fn count_features(counts: &Counts, found: &mut Features) {
 }
 
 fn all_paths(job: &Job) -> impl Iterator<Item = &Path> {
-    job.blocks.iter().flat_map(|block| &block.assumed).chain(&job.candidates)
+    all_assumed(job).chain(&job.candidates)
 }
 
 fn word_features(job: &Job, found: &mut Features) {
@@ -102,9 +106,8 @@ fn word_features(job: &Job, found: &mut Features) {
         let used = all_paths(job).any(|path| path.identifier == extreme);
         add(found, &format!("identifier {extreme}"), used);
     }
-    let assumed = || job.blocks.iter().flat_map(|block| &block.assumed);
-    add(found, "roots of differing reactive", differing(assumed(), |path| path.reactive.into()));
-    add(found, "roots of differing span", differing(assumed(), |path| path.span));
+    add(found, "roots of differing reactive", differing(all_assumed(job), |path| path.reactive.into()));
+    add(found, "roots of differing span", differing(all_assumed(job), |path| path.span));
     add(found, "candidates of differing reactive", {
         differing(job.candidates.iter(), |path| path.reactive.into())
     });

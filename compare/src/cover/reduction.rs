@@ -2,6 +2,7 @@
 
 use super::{Features, add};
 use crate::job::{Job, Path, Property};
+use crate::reads::assumed;
 use std::collections::{BTreeSet, HashMap};
 
 /// What reduction does to each block's own set.
@@ -10,7 +11,7 @@ pub fn reduction_features(job: &Job, found: &mut Features) {
     let sets: Vec<BTreeSet<usize>> = job
         .blocks
         .iter()
-        .map(|block| block.assumed.iter().map(|path| registry.enter(&bare(path))).collect())
+        .map(|block| assumed(block).map(|path| registry.enter(&bare(path))).collect())
         .collect();
     let mut most = 0;
     for set in sets {

@@ -1,5 +1,7 @@
 //! Thin jobs, told from those that are nearly right.
 
+mod reads;
+
 use super::{Features, add};
 use crate::job::{Entry, Job, Path, Property};
 use crate::thin::{kept, same_path, thinned};
@@ -20,6 +22,11 @@ type Thinner = fn(&Job) -> Vec<u8>;
 
 /// Ways to thin a job that are nearly right, by what they do wrong.
 pub fn nearly_right() -> Vec<(&'static str, Thinner)> {
+    [with_paths(), reads::with_reads()].concat()
+}
+
+/// What is done wrong with paths.
+fn with_paths() -> Vec<(&'static str, Thinner)> {
     vec![
         ("spans compared", |job| by(job, |a, b| same_path(a, b) && spans(a) == spans(b))),
         ("reactive compared", |job| by(job, |a, b| same_path(a, b) && a.reactive == b.reactive)),
@@ -120,11 +127,21 @@ fn with_old_counts(job: &Job) -> Vec<u8> {
     let thin = right(job);
     let mut bytes = thin.to_bytes();
     bytes[4..6].copy_from_slice(&(job.candidates.len() as u16).to_le_bytes());
-    let mut at = 10;
-    for (block, thin) in job.blocks.iter().zip(&thin.blocks) {
-        bytes[at + 7] = block.assumed.len() as u8;
-        let paths = thin.assumed.iter().map(|path| 12 + 14 * path.entries.len());
-        at += 8 + 4 * block.predecessors.len() + paths.sum::<usize>();
+    for (at, block) in starts(&thin).into_iter().zip(&job.blocks) {
+        bytes[at + ASSUMED_COUNT] = block.assumed.len() as u8;
     }
     bytes
+}
+
+/// Where the assumed count stands in BL.
+const ASSUMED_COUNT: usize = 7;
+
+/// Where each block's BL stands in the bytes of the job.
+fn starts(job: &Job) -> Vec<usize> {
+    let mut starts = vec![10];
+    for block in &job.blocks {
+        let alone = Job { scope: 0, blocks: vec![block.clone()], candidates: vec![] }.to_bytes();
+        starts.push(starts[starts.len() - 1] + alone.len() - 10);
+    }
+    starts
 }

@@ -1,12 +1,13 @@
 //! Jobs at, and one beyond, each limit of the specification.
 
-use super::shapes;
 use super::words::Words;
-use crate::job::{Block, Entry, Job, Path, Property, limits};
+use super::{reads, shapes};
+use crate::job::{Block, Entry, Job, Path, Property, RawRead, limits};
 use crate::prng::Prng;
+use crate::worst;
 
 fn block(id: u32) -> Block {
-    Block { id, predecessors: vec![], assumed: vec![] }
+    worst::block(id, vec![], vec![])
 }
 
 fn path(length: usize) -> Path {
@@ -15,9 +16,10 @@ fn path(length: usize) -> Path {
 }
 
 pub fn limits(prng: &mut Prng) -> Vec<u8> {
-    let mut job = shapes::without_loops(prng);
+    let job = shapes::without_loops(prng);
+    let mut job = reads::sometimes(prng, job);
     let over = prng.below(2);
-    match prng.below(9) {
+    match prng.below(12) {
         0 => job.blocks.clear(),
         1 => job = blocks_in_number(limits::BLOCKS + over),
         2 => job.candidates = candidates_in_number(prng, limits::CANDIDATES + over),
@@ -26,6 +28,9 @@ pub fn limits(prng: &mut Prng) -> Vec<u8> {
         5 => job.blocks[0].assumed.push(path(limits::ENTRIES + over)),
         6 => job = predecessors_in_number(limits::PREDECESSORS + over),
         7 => job.blocks[0].assumed = Words::few(prng).paths_in_number(prng, 255),
+        8 => job.blocks[0].reads.push(reads::near_edges(prng, path(limits::ENTRIES + over))),
+        9 => job.blocks[0].reads = reads_in_number(prng, limits::READS),
+        10 => job.blocks[0].reads = start_at_limit(prng, over),
         _ => return edge_bytes(prng, job),
     }
     job.to_bytes()
@@ -56,6 +61,17 @@ fn candidates_in_number(prng: &mut Prng, count: usize) -> Vec<Path> {
     Words::few(prng).paths_in_number(prng, count)
 }
 
+fn reads_in_number(prng: &mut Prng, count: usize) -> Vec<RawRead> {
+    let paths = Words::few(prng).paths_in_number(prng, count);
+    paths.into_iter().map(|path| reads::near_edges(prng, path)).collect()
+}
+
+/// The largest range start that is accepted, or the one that 10 refuses.
+fn start_at_limit(prng: &mut Prng, over: usize) -> Vec<RawRead> {
+    let range_start = limits::RANGE_START + over as u32;
+    vec![RawRead { range_start, ..reads::near_edges(prng, path(1)) }]
+}
+
 fn predecessors_in_number(count: usize) -> Job {
     let mut blocks: Vec<Block> = (0..=count as u32).map(block).collect();
     blocks[count].predecessors = (0..count as u32).collect();
@@ -82,15 +98,17 @@ pub fn job_size(prng: &mut Prng) -> Vec<u8> {
     of_size(goal, || prng.below(3) as u32)
 }
 
-/// A job of exactly `goal` bytes, with one block.
+/// A job of exactly `goal` bytes, with one block or two: all records but BL have an even number of
+/// bytes. The paths are those of the first block.
 pub fn of_size(goal: usize, mut identifier: impl FnMut() -> u32) -> Vec<u8> {
-    let mut only = block(1);
-    let mut left = goal - 18;
+    let blocks: Vec<Block> = if goal.is_multiple_of(2) { vec![block(1), block(2)] } else { vec![block(1)] };
+    let mut job = Job { scope: 1, blocks, candidates: vec![] };
+    let mut left = goal - job.to_bytes().len();
     while let Some(length) = fitting_entries(left) {
         left -= 12 + 14 * length;
-        only.assumed.push(Path { identifier: identifier(), ..path(length) });
+        job.blocks[0].assumed.push(Path { identifier: identifier(), ..path(length) });
     }
-    let mut bytes = Job { scope: 1, blocks: vec![only], candidates: vec![] }.to_bytes();
+    let mut bytes = job.to_bytes();
     // What no record can fill is left over after the job.
     bytes.resize(goal, 0);
     bytes
@@ -112,7 +130,8 @@ fn can_be_filled(bytes: usize) -> bool {
 
 /// Ids that stand twice, ids of no block, and blocks that are their own predecessor.
 pub fn ids(prng: &mut Prng) -> Vec<u8> {
-    let mut job = if prng.chance(50) { shapes::without_loops(prng) } else { shapes::with_loops(prng) };
+    let job = if prng.chance(50) { shapes::without_loops(prng) } else { shapes::with_loops(prng) };
+    let mut job = reads::sometimes(prng, job);
     for _ in 0..prng.pick(&[1, 1, 1, 2]) {
         let at = prng.below(job.blocks.len());
         let other = job.blocks[prng.below(job.blocks.len())].id;

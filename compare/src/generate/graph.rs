@@ -57,6 +57,7 @@ pub fn blocks(prng: &mut Prng, graph: &Graph, mut assumed: impl FnMut(&mut Prng)
         .map(|n| Block {
             id: ids[n],
             predecessors: graph[n].iter().map(|&place| ids[place]).collect(),
+            reads: vec![],
             assumed: assumed(prng),
         })
         .collect();

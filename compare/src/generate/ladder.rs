@@ -12,8 +12,9 @@
 //! hands that one to the bottom in the next forward walk: the climb starts anew,
 //! with a path that is longer by two entries.
 
-use crate::job::{Block, Entry, Job, Path, Property, limits};
+use crate::job::{Entry, Job, Path, Property, limits};
 use crate::prng::Prng;
+use crate::worst::block;
 
 /// Each step is two blocks, and five blocks stand beside the ladder.
 pub const MOST_STEPS: usize = (limits::BLOCKS - 5) / 2;
@@ -70,7 +71,7 @@ pub fn of(identifier: u32, steps: usize, climbs: usize) -> Job {
     for k in (1..=steps).rev() {
         let mut above = vec![low(k)];
         above.extend((k < steps).then(|| low(k + 1)));
-        blocks.push(Block { id: high(k), predecessors: [above, vec![source]].concat(), assumed: vec![] });
+        blocks.push(block(high(k), [above, vec![source]].concat(), vec![]));
         let mut below = vec![high(k)];
         below.extend(if k > 1 { Some(high(k - 1)) } else { Some(middle) });
         below.extend((k == steps).then_some(back));
@@ -78,16 +79,16 @@ pub fn of(identifier: u32, steps: usize, climbs: usize) -> Job {
         if k == steps {
             assumed.extend(returns.clone().map(|length| optional(length - 1)));
         }
-        blocks.push(Block { id: low(k), predecessors: below, assumed });
+        blocks.push(block(low(k), below, assumed));
     }
     let to_sink = (1..=steps).map(low).chain([source]).collect::<Vec<u32>>();
     let sink_predecessors = to_sink[to_sink.len().saturating_sub(limits::PREDECESSORS)..].to_vec();
-    blocks.push(Block { id: sink, predecessors: sink_predecessors, assumed: vec![] });
+    blocks.push(block(sink, sink_predecessors, vec![]));
     let back_paths = [plain(0)].into_iter().chain(returns.clone().map(optional)).collect();
-    blocks.push(Block { id: back, predecessors: vec![], assumed: back_paths });
+    blocks.push(block(back, vec![], back_paths));
     let middle_paths = returns.clone().map(|length| plain(length - 1)).collect();
-    blocks.push(Block { id: middle, predecessors: vec![back, beside], assumed: middle_paths });
-    blocks.push(Block { id: beside, predecessors: vec![], assumed: returns.map(plain).collect() });
-    blocks.push(Block { id: source, predecessors: vec![], assumed: vec![] });
+    blocks.push(block(middle, vec![back, beside], middle_paths));
+    blocks.push(block(beside, vec![], returns.map(plain).collect()));
+    blocks.push(block(source, vec![], vec![]));
     Job { scope: source, blocks, candidates: vec![] }
 }

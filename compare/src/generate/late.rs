@@ -3,9 +3,9 @@
 use super::ladder::{self, MOST_STEPS, path};
 use super::nodes::near_limit;
 use crate::entering::entered;
-use crate::job::{Block, Entry, Job, Property, limits};
+use crate::job::{Entry, Job, Property, limits};
 use crate::prng::Prng;
-use crate::worst::full_registry;
+use crate::worst::{block, full_registry};
 
 /// A ladder with optional entries below what climbs it. Each is made plain in the round in which
 /// its base arrives. In most jobs the registry ends near 512 nodes.
@@ -28,7 +28,7 @@ pub fn late(prng: &mut Prng) -> Job {
     if prng.chance(75) {
         // Where a base does not arrive, there are fewer in the end.
         let nodes = near_limit(prng) - entered(&job).len() - made;
-        job.blocks.push(Block { id: u32::MAX, predecessors: vec![], assumed: full_registry(nodes) });
+        job.blocks.push(block(u32::MAX, vec![], full_registry(nodes)));
     }
     job
 }

@@ -6,7 +6,7 @@ use super::shapes;
 use super::words::Words;
 use crate::job::{Block, Entry, Job, Path, Property, limits};
 use crate::prng::Prng;
-use crate::worst::full_registry;
+use crate::worst::{self, full_registry};
 
 /// Small graphs full of loops, with optional chains and their bases about them.
 pub fn many_loops(prng: &mut Prng) -> Job {
@@ -80,7 +80,7 @@ fn apart(prng: &mut Prng, size: usize) -> Graph {
 pub fn nodes_looped(prng: &mut Prng) -> Job {
     let goal = near_limit(prng);
     let (mut blocks, made) = if prng.chance(50) { more_existing(prng) } else { more_strict(prng) };
-    blocks.push(Block { id: 8, predecessors: vec![], assumed: full_registry(goal - made) });
+    blocks.push(block(8, &[], full_registry(goal - made)));
     let scope = blocks[prng.below(blocks.len())].id;
     let candidates = blocks[prng.below(blocks.len())].assumed.iter().take(2).cloned().collect();
     Job { scope, blocks, candidates }
@@ -113,7 +113,7 @@ fn more_strict(prng: &mut Prng) -> (Vec<Block>, usize) {
 }
 
 fn block(id: u32, predecessors: &[u32], assumed: Vec<Path>) -> Block {
-    Block { id, predecessors: predecessors.to_vec(), assumed }
+    worst::block(id, predecessors.to_vec(), assumed)
 }
 
 fn root() -> Path {

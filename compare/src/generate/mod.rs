@@ -7,11 +7,12 @@ pub(crate) mod ladder;
 mod late;
 mod loops;
 mod nodes;
+mod reads;
 mod repeats;
 mod shapes;
 mod words;
 
-use crate::job::limits;
+use crate::job::{Job, limits};
 use crate::prng::Prng;
 
 pub struct Generated {
@@ -28,25 +29,38 @@ struct Class {
 }
 
 const CLASSES: &[Class] = &[
-    Class { name: "no-loops", weight: 10, make: |prng| shapes::without_loops(prng).to_bytes() },
-    Class { name: "loops", weight: 10, make: |prng| shapes::with_loops(prng).to_bytes() },
-    Class { name: "reduction", weight: 12, make: |prng| shapes::reduction(prng).to_bytes() },
-    Class { name: "tree", weight: 12, make: |prng| shapes::tree(prng).to_bytes() },
-    Class { name: "numbers", weight: 6, make: |prng| shapes::numbers(prng).to_bytes() },
-    Class { name: "many-blocks", weight: 3, make: |prng| shapes::many_blocks(prng).to_bytes() },
-    Class { name: "ladder", weight: 4, make: |prng| ladder::ladder(prng).to_bytes() },
-    Class { name: "nodes-entered", weight: 3, make: |prng| nodes::entered(prng).to_bytes() },
-    Class { name: "nodes-reduced", weight: 2, make: |prng| nodes::reduced(prng).to_bytes() },
-    Class { name: "nodes-late", weight: 1, make: |prng| late::late(prng).to_bytes() },
+    Class { name: "no-loops", weight: 10, make: |prng| with_reads(prng, shapes::without_loops) },
+    Class { name: "loops", weight: 10, make: |prng| with_reads(prng, shapes::with_loops) },
+    Class { name: "reduction", weight: 12, make: |prng| with_reads(prng, shapes::reduction) },
+    Class { name: "tree", weight: 12, make: |prng| with_reads(prng, shapes::tree) },
+    Class { name: "numbers", weight: 6, make: |prng| with_reads(prng, shapes::numbers) },
+    Class { name: "many-blocks", weight: 3, make: |prng| with_reads(prng, shapes::many_blocks) },
+    Class { name: "ladder", weight: 4, make: |prng| with_reads_in_place(prng, ladder::ladder) },
+    Class { name: "nodes-entered", weight: 3, make: |prng| with_reads_in_place(prng, nodes::entered) },
+    Class { name: "nodes-reduced", weight: 2, make: |prng| with_reads_in_place(prng, nodes::reduced) },
+    Class { name: "nodes-late", weight: 1, make: |prng| with_reads_in_place(prng, late::late) },
     Class { name: "repeats", weight: 10, make: |prng| repeats::repeats(prng).to_bytes() },
-    Class { name: "many-loops", weight: 10, make: |prng| loops::many_loops(prng).to_bytes() },
-    Class { name: "nodes-looped", weight: 2, make: |prng| loops::nodes_looped(prng).to_bytes() },
+    Class { name: "many-loops", weight: 10, make: |prng| with_reads(prng, loops::many_loops) },
+    Class { name: "nodes-looped", weight: 2, make: |prng| with_reads_in_place(prng, loops::nodes_looped) },
+    Class { name: "raw-reads", weight: 12, make: reads::class },
     Class { name: "limits", weight: 6, make: edges::limits },
     Class { name: "job-size", weight: 1, make: edges::job_size },
     Class { name: "short-out", weight: 1, make: short_out },
     Class { name: "ids", weight: 5, make: edges::ids },
     Class { name: "damaged", weight: 14, make: damage::damaged },
 ];
+
+/// A job of the shape, in some cases with raw reads.
+fn with_reads(prng: &mut Prng, shape: fn(&mut Prng) -> Job) -> Vec<u8> {
+    let job = shape(prng);
+    reads::sometimes(prng, job).to_bytes()
+}
+
+/// A job of the shape, in some cases with raw reads that leave it the nodes that it has.
+fn with_reads_in_place(prng: &mut Prng, shape: fn(&mut Prng) -> Job) -> Vec<u8> {
+    let job = shape(prng);
+    reads::in_place(prng, job).to_bytes()
+}
 
 pub fn class_names() -> impl Iterator<Item = &'static str> {
     CLASSES.iter().map(|class| class.name)
@@ -76,7 +90,7 @@ fn pick_class(prng: &mut Prng) -> &'static Class {
 
 /// A job that would be accepted, or one that would be refused otherwise.
 fn short_out(prng: &mut Prng) -> Vec<u8> {
-    if prng.chance(50) { shapes::without_loops(prng).to_bytes() } else { damage::damaged(prng) }
+    if prng.chance(50) { with_reads(prng, shapes::without_loops) } else { damage::damaged(prng) }
 }
 
 /// Mostly long enough for all operations.

@@ -4,6 +4,7 @@ use super::shapes::spanless;
 use super::words::Words;
 use crate::job::{Block, Entry, Job, Path, Property, limits};
 use crate::prng::Prng;
+use crate::worst;
 use std::collections::HashSet;
 
 pub fn near_limit(prng: &mut Prng) -> usize {
@@ -74,7 +75,7 @@ fn in_blocks(prng: &mut Prng, paths: Vec<Path>) -> Job {
     for path in paths {
         if blocks.is_empty() || prng.chance(3) || blocks[blocks.len() - 1].assumed.len() == 255 {
             let id = blocks.len() as u32;
-            blocks.push(Block { id, predecessors: vec![], assumed: vec![] });
+            blocks.push(worst::block(id, vec![], vec![]));
         }
         blocks.last_mut().expect("a block was made").assumed.push(path);
     }
@@ -119,10 +120,10 @@ fn entry(prng: &mut Prng, fresh: &mut u64, optional: bool) -> Entry {
 
 /// The bases stand in the first block and come to the others in the forward walk.
 fn with_bases(prng: &mut Prng, paths: Vec<Path>, bases: Vec<Path>) -> Job {
-    let mut blocks = vec![Block { id: 9, predecessors: vec![], assumed: bases }];
+    let mut blocks = vec![worst::block(9, vec![], bases)];
     for part in paths.chunks(prng.between(40, 250)) {
         let id = 10 + blocks.len() as u32;
-        blocks.push(Block { id, predecessors: vec![9], assumed: part.to_vec() });
+        blocks.push(worst::block(id, vec![9], part.to_vec()));
     }
     let scope = blocks[prng.below(blocks.len())].id;
     let candidates = paths.into_iter().take(prng.below(3)).collect();

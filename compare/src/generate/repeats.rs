@@ -1,11 +1,11 @@
 //! Jobs in which paths stand again, as they were or with one thing changed.
 
-use super::{nodes, shapes};
-use crate::job::{Entry, Job, Path, Property, limits};
+use super::{nodes, reads, shapes};
+use crate::job::{Block, Entry, Job, Path, Property, limits};
 use crate::prng::Prng;
 
 pub fn repeats(prng: &mut Prng) -> Job {
-    let mut job = match prng.below(8) {
+    let job = match prng.below(8) {
         0 => shapes::with_loops(prng),
         1 | 2 => shapes::numbers(prng),
         3 => shapes::tree(prng),
@@ -14,10 +14,12 @@ pub fn repeats(prng: &mut Prng) -> Job {
         5 => nodes::entered(prng),
         _ => shapes::without_loops(prng),
     };
+    let mut job = reads::sometimes(prng, job);
     let pool: Vec<Path> =
         job.blocks.iter().flat_map(|block| &block.assumed).chain(&job.candidates).cloned().collect();
     for block in &mut job.blocks {
         repeat_some(prng, &mut block.assumed, &pool, limits::ASSUMED);
+        repeat_reads(prng, block);
     }
     repeat_some(prng, &mut job.candidates, &pool, limits::CANDIDATES);
     match prng.below(40) {
@@ -39,6 +41,19 @@ fn repeat_some(prng: &mut Prng, list: &mut Vec<Path>, pool: &[Path], most: usize
         change(prng, &mut copy);
         let place = prng.below(list.len() + 1);
         list.insert(place, copy);
+    }
+}
+
+/// Repeats raw reads, and assumes paths that are read too.
+fn repeat_reads(prng: &mut Prng, block: &mut Block) {
+    if prng.chance(50) {
+        reads::repeat(prng, block);
+    }
+    for read in &block.reads {
+        if prng.chance(20) && block.assumed.len() < limits::ASSUMED {
+            let place = prng.below(block.assumed.len() + 1);
+            block.assumed.insert(place, read.path.clone());
+        }
     }
 }
 

@@ -8,13 +8,12 @@ use mathlib.Core.Bool.{true, false}
 use mathlib.Core.List.{List, [], _∷_, _++_, append-assoc, append-nil}
 use lib.ListN.{length, getD, set, drop, drop-of-length-le}
 use lib.Seq.{getD-set-same}
-use Rattle.entries.specs.Path.{ReactiveScopeDependency}
-use Rattle.model.specs.ReadingBytes.{Read, got}
-use Rattle.model.specs.Job.{Block, readBlock}
+use Rattle.model.specs.ReadingBytes.{Read, got, mapped}
+use Rattle.model.specs.Job.{Block, assumedOf, readBlock}
 use Rattle.model.specs.Sets.{NodeSet}
 use Rattle.model.specs.Registry.{nodeLimit, PropertyPathRegistry}
 use Rattle.model.specs.RegistryLaws.{Extends, extends-refl, extends-trans, extends-length}
-use Rattle.model.specs.Stage.{PathsEntered, Started, enterPaths, noneEntered, enterBlock, enterBlocks, startOf}
+use Rattle.model.specs.Stage.{PathsEntered, Started, noneEntered, enterBlock, enterBlocks, startOf}
 use Rattle.model.specs.PropagationLaws.{paths-longer}
 use Rattle.registry.specs.Words.{registryOf, Held}
 use Rattle.registry.proofs.View.{registry-length}
@@ -22,23 +21,18 @@ use Rattle.rows.specs.Members.{membersOf}
 use Rattle.rows.specs.Rows.{Lent, RowSet, rowOf, rowsFrom, rowsOf}
 use Rattle.rows.proofs.Rows.{row-at, rows-count}
 use Rattle.job.specs.Kept.{blocksOf, PlacedJob}
-use Rattle.job.specs.Passing.{IsRead, orNone}
+use Rattle.job.specs.Passing.{IsRead}
 use Rattle.job.proofs.BlocksAt.{blocks-read, block-there}
 use Rattle.assumed.specs.declared.EnteredSet.{EnteredSet}
-use Rattle.assumed.specs.Start.{assumedAt, FillsBy, Fills, StartHeld}
+use Rattle.assumed.specs.Start.{FillsBy, Fills, EntersAll, StartHeld}
 use Rattle.assumed.proofs.Filling.{paths-extend}
-
--- the assumed paths of a block that was read
-pub assumed-are : (s : List ℕ) (at : ℕ) {b : Block} {end : ℕ} → readBlock 4 s at ≡ got b end → assumedAt s at ≡ b .assumed
-unfolding assumedAt
-assumed-are s at e = ap (λ (x : Read Block). orNone x (λ (b : Block) end. b .assumed)) e
 
 -- The blocks that are left.
 
 blocks-extend : (reg : PropertyPathRegistry) (bs : List Block) → Extends reg (enterBlocks reg bs .registry)
 unfolding enterBlocks
 blocks-extend reg [] = extends-refl reg
-blocks-extend reg (b ∷ bs) = extends-trans (paths-extend (noneEntered reg) (b .assumed)) (blocks-extend (enterBlock reg b .registry) bs)
+blocks-extend reg (b ∷ bs) = extends-trans (paths-extend (noneEntered reg) (assumedOf b)) (blocks-extend (enterBlock reg b .registry) bs)
 
 -- sets, for which so many nodes were made, in front of those with which the blocks that are left
 -- start
@@ -135,19 +129,19 @@ module _ {s : List ℕ} {n : ℕ} {places : List ℕ} (job : PlacedJob s n place
         )
 
     module _ (some : b < n) (r : EnteredSet) (us ps : List ℕ)
-        (entered : Fills (enterPaths (noneEntered (registryOf ws)) (assumedAt s (getD places b 0))) r us ps) where
+        (entered : EntersAll (mapped assumedOf (readBlock 4 s (getD places b 0))) (noneEntered (registryOf ws)) r us ps) where
       -- the block that is entered, and what that does to the whole
       next-block : (a : Block)
           × (startOf (blocksOf s) ≡ after (rowsOf sets b) made (enterBlocks (registryOf ws) (a ∷ drop (suc b) (blocksOf s))))
-          × Fills (enterBlock (registryOf ws) a) r us ps
+          × (next : ℕ) × Fills (enterBlock (registryOf ws) a) next r us ps
       next-block =
           let t = block-there (job .job) (job .blocks) b some in
           let here : drop b (blocksOf s) ≡ t .0 ∷ drop (suc b) (blocksOf s) =
           subst (λ (bs : List Block). drop b bs ≡ t .0 ∷ drop (suc b) bs) (sym (blocks-read (job .job) (job .blocks))) (t .3) in (
             t .0,
             x .same ∙ ap (λ bs. after (rowsOf sets b) made (enterBlocks (registryOf ws) bs)) here,
-            subst (λ (ds : List ReactiveScopeDependency). Fills (enterPaths (noneEntered (registryOf ws)) ds) r us ps)
-                (assumed-are s (getD places b 0) (t .2)) entered,
+            t .1,
+            subst (λ (y : Read Block). EntersAll (mapped assumedOf y) (noneEntered (registryOf ws)) r us ps) (t .2) entered,
           )
 
       pub starting-full : r .full ≡ true → nodeLimit < length (startOf (blocksOf s) .registry)
@@ -155,7 +149,7 @@ module _ {s : List ℕ} {n : ℕ} {places : List ℕ} (job : PlacedJob s n place
       starting-full e =
           let t = next-block in
           let f : nodeLimit < length (enterBlock (registryOf ws) (t .0) .registry) =
-          subst (λ f. FillsBy f (enterBlock (registryOf ws) (t .0)) r us ps) e (t .2) in
+          subst (λ f. FillsBy f (enterBlock (registryOf ws) (t .0)) (t .2) r us ps) e (t .3) in
           let longer = extends-length (blocks-extend (enterBlock (registryOf ws) (t .0) .registry) (drop (suc b) (blocksOf s))) in
           subst (λ (st : Started). nodeLimit < length (st .registry)) (sym (t .1)) (omega arith)
 
@@ -165,10 +159,9 @@ module _ {s : List ℕ} {n : ℕ} {places : List ℕ} (job : PlacedJob s n place
       starting-more e more stored =
           let t = next-block in
           let block = enterBlock (registryOf ws) (t .0) in
-          let is : Held us ps × (block ≡ record { registry = registryOf us; set = membersOf (r .set .words); made = r .made }) =
-          subst (λ f. FillsBy f block r us ps) e (t .2) in
+          let is : FillsBy false block (t .2) r us ps = subst (λ f. FillsBy f block (t .2) r us ps) e (t .3) in
           let longer = subst (λ (y : PathsEntered). length (y .registry) + 0 ≡ length (registryOf ws) + y .made) (is .1)
-          (paths-longer (noneEntered (registryOf ws)) (t .0 .assumed)) in
+          (paths-longer (noneEntered (registryOf ws)) (assumedOf (t .0))) in
           record {
             held = is .0;
             among = let so-far = x .among in omega arith;

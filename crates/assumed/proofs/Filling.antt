@@ -1,26 +1,32 @@
--- The assumed paths that are left of a block: what enters them after those before enters them all.
-use Prim.Native.Nat.{ℕ, _+_, _-_, _≤_, _<_}
+-- The paths that records of one form bring, entered one record after the other: what enters those
+-- that are left after those before enters them all.
+use Prim.Native.Nat.{ℕ, suc, _+_, _-_, _≤_, _<_}
 use native.Mathlib.Omega.{arith}
 use mathlib.Core.Path.{_≡_, refl, sym, ap, subst, _∙_}
-use mathlib.Core.List.{List, [], _∷_}
+use mathlib.Core.Bool.{Bool, true, false}
+use mathlib.Core.List.{List, [], _∷_, _++_}
 use lib.ListN.{length}
 use Rattle.entries.specs.declared.NodeId.{NodeId}
 use Rattle.entries.specs.Path.{ReactiveScopeDependency}
-use Rattle.model.specs.ReadingBytes.{Read, got, refused, readMany}
-use Rattle.model.specs.Job.{PA, readPath}
-use Rattle.model.specs.Sets.{NodeSet, insert}
+use Rattle.model.specs.Lists.{concatMap}
+use Rattle.model.specs.ReadingBytes.{Read, got, refused, ByteReader, mapped, readMany}
+use Rattle.model.specs.Sets.{insert}
 use Rattle.model.specs.Registry.{nodeLimit, PropertyPathRegistry, Reached, ownMark, getOrCreateProperty}
 use Rattle.model.specs.RegistryLaws.{Extends, extends-refl, extends-trans, extends-length, path-extends, property-longer, path-proper}
-use Rattle.model.specs.Stage.{PathsEntered, enterPath, enterPaths, noneEntered}
+use Rattle.model.specs.Stage.{PathsEntered, enterPath, enterPaths}
+use Rattle.model.specs.PropagationLaws.{paths-append, paths-longer}
 use Rattle.registry.specs.Words.{registryOf, Held}
 use Rattle.registry.proofs.View.{registry-length}
 use Rattle.rows.specs.Members.{membersOf}
+use Rattle.job.specs.Kept.{placeAfter}
 use Rattle.job.specs.Passing.{IsRead, orNone}
 use Rattle.job.proofs.Many.{many-first}
+use Rattle.job.proofs.Passing.{not-both}
 use Rattle.paths.specs.declared.EnteredPath.{EnteredPath}
 use Rattle.paths.specs.declared.EnteredPath.the-variants as path
 use Rattle.paths.specs.Enters.{Enters}
-use Rattle.assumed.specs.Start.{pathsAt}
+use Rattle.assumed.specs.declared.EnteredSet.{EnteredSet}
+use Rattle.assumed.specs.Start.{itself, soFar, Entering, FillsBy, Fills, EntersAll}
 
 -- Entering paths only adds nodes.
 pub paths-extend : (e : PathsEntered) (ds : List ReactiveScopeDependency) → Extends (e .registry) (enterPaths e ds .registry)
@@ -28,129 +34,152 @@ unfolding getOrCreateProperty
 paths-extend e [] = extends-refl (e .registry)
 paths-extend e (d ∷ ds) = extends-trans (path-extends ownMark (e .registry) d) (paths-extend (enterPath e d) ds)
 
--- The answers of `enter_path` by their case.
+-- One path, by the answers of `enter_path`.
 
-entered-at : {A : Type 0} (x : Read A) (reach : A → Reached) (k : NodeId) (made n : ℕ) (ws os : List ℕ) → Enters x reach (path.At k made n) ws os
-    → (a : A) × (x ≡ got a n) × Held ws os × (reach a ≡ record { registry = registryOf ws; node = k; made = made })
-entered-at (got a m) reach k made n ws os h = (a, ap (got a) (sym (h .1)), h .0 .0, h .0 .1)
-entered-at (refused r) reach k made n ws os h = absurd h
+module _ (reg : PropertyPathRegistry) (e r : EnteredSet) (us ps : List ℕ) where
+  pub one-full : (x : Read ReactiveScopeDependency) (q : EnteredPath) → Enters x (getOrCreateProperty reg) q us ps → q ≡ path.Full → r .full ≡ true
+      → EntersAll (mapped itself x) (soFar reg e) r us ps
+  one-full (got d n) q h none full =
+      let limit = subst (λ q. Enters (got d n) (getOrCreateProperty reg) q us ps) none h in
+      subst (λ f. FillsBy f (enterPaths (soFar reg e) (d ∷ [])) n r us ps) (sym full) limit
+  one-full (refused y) q h none full = absurd (subst (λ q. Enters (refused y) (getOrCreateProperty reg) q us ps) none h)
 
-entered-full : {A : Type 0} (x : Read A) (reach : A → Reached) (ws os : List ℕ) → Enters x reach path.Full ws os → {a : A} {n : ℕ} → x ≡ got a n
-    → nodeLimit < length (reach a .registry)
-entered-full x reach ws os h {a} {n} e = subst (λ y. Enters y reach path.Full ws os) e h
+  module _ (k : NodeId) (made n : ℕ) where
+    reached : (x : Read ReactiveScopeDependency) (q : EnteredPath) → Enters x (getOrCreateProperty reg) q us ps → q ≡ path.At k made n
+        → (d : ReactiveScopeDependency) × (x ≡ got d n) × Held us ps
+        × (getOrCreateProperty reg d ≡ record { registry = registryOf us; node = k; made = made })
+    reached (got d m) q h at = let there = subst (λ q. Enters (got d m) (getOrCreateProperty reg) q us ps) at h in
+        (d, ap (got d) (sym (there .1)), there .0 .0, there .0 .1)
+    reached (refused y) q h at = absurd (subst (λ q. Enters (refused y) (getOrCreateProperty reg) q us ps) at h)
 
--- The paths that are left.
+    pub one-inside : (ws os : List ℕ) → Held ws os → registryOf ws ≡ reg
+        → (x : Read ReactiveScopeDependency) (q : EnteredPath) → Enters x (getOrCreateProperty reg) q us ps → q ≡ path.At k made n → k .0 < 512
+    unfolding getOrCreateProperty
+    one-inside ws os held same x q h at =
+        let t = reached x q h at in
+        let p = subst (λ (g : PropertyPathRegistry). getOrCreateProperty g (t .0) .node .0 < length (getOrCreateProperty g (t .0) .registry)) same
+        (path-proper ownMark (registryOf ws) (t .0) (held .sound) .inside) in
+        let l = subst (λ (y : Reached). y .node .0 < length (y .registry)) (t .3) p in
+        let size = registry-length us in
+        let room = t .2 .sized .room in
+        omega arith
 
--- how far entering has come
-abbrev soFar : PropertyPathRegistry → NodeSet → ℕ → PathsEntered
-soFar reg s made = record { registry = reg; set = s; made = made }
+    -- what was made is among the nodes, for which the words have room
+    pub one-few : e .made ≤ length reg
+        → (x : Read ReactiveScopeDependency) (q : EnteredPath) → Enters x (getOrCreateProperty reg) q us ps → q ≡ path.At k made n → e .made + made ≤ 512
+    one-few among x q h at =
+        let t = reached x q h at in
+        let longer = subst (λ (y : Reached). length (y .registry) ≡ length reg + y .made) (t .3) (property-longer reg (t .0)) in
+        let size = registry-length us in
+        let room = t .2 .sized .room in
+        omega arith
 
-next-path : (reg more : PropertyPathRegistry) (s t : NodeSet) (made : ℕ) (es rest : List ReactiveScopeDependency) (c d : ReactiveScopeDependency)
-    (k : NodeId) (madeHere : ℕ) → c ∷ rest ≡ es → c ≡ d
-    → getOrCreateProperty reg d ≡ record { registry = more; node = k; made = madeHere } → t ≡ insert k s
-    → enterPaths (soFar reg s made) es ≡ enterPaths (soFar more t (made + madeHere)) rest
-next-path reg more s t made es rest c d k madeHere all same reached inserted =
-    ap (enterPaths (soFar reg s made)) (sym all)
-    ∙ ap (λ (at : Reached). enterPaths (soFar (at .registry) (insert (at .node) s) (made + at .made)) rest) (ap (getOrCreateProperty reg) same ∙ reached)
-    ∙ ap (λ u. enterPaths (soFar more u (made + madeHere)) rest) (sym inserted)
+    pub one-entered : membersOf (r .set .words) ≡ insert k (membersOf (e .set .words)) → r .made ≡ e .made + made → r .at ≡ n → r .full ≡ false
+        → (x : Read ReactiveScopeDependency) (q : EnteredPath) → Enters x (getOrCreateProperty reg) q us ps → q ≡ path.At k made n
+        → EntersAll (mapped itself x) (soFar reg e) r us ps
+    one-entered inserted counted place room x q h at =
+        let t = reached x q h at in
+        let entered = ap {B = PathsEntered} (λ (y : Reached). record {
+          registry = y .registry;
+          set = insert (y .node) (membersOf (e .set .words));
+          made = e .made + y .made;
+        }) (t .3) in
+        let is : enterPath (soFar reg e) (t .0) ≡ soFar (registryOf us) r =
+        entered ∙ (λ i. record { registry = registryOf us; set = sym inserted i; made = sym counted i }) in
+        let fills : FillsBy false (enterPath (soFar reg e) (t .0)) n r us ps = (t .2, is, place) in
+        subst (λ (y : Read ReactiveScopeDependency). EntersAll (mapped itself y) (soFar reg e) r us ps) (sym (t .1))
+        (subst (λ f. FillsBy f (enterPath (soFar reg e) (t .0)) n r us ps) (sym room) fills)
 
--- The paths that are left were read, entering them after those before gives what is wanted, and
--- what was made for those before is among the nodes.
-pub record Filling (want : PathsEntered) (s ws os set : List ℕ) (made at left : ℕ) : Type 0 where
-  pub held : Held ws os
-  pub among : made ≤ length (registryOf ws)
-  pub rest : List ReactiveScopeDependency
-  pub end : ℕ
-  pub read : readMany left (readPath 4 PA) s at ≡ got rest end
-  pub same : want ≡ enterPaths (soFar (registryOf ws) (membersOf set) made) rest
+-- Records of one form, each of which brings some paths.
 
--- the paths that were read
-pub paths-are : (s : List ℕ) (start count : ℕ) {ds : List ReactiveScopeDependency} {end : ℕ} → readMany count (readPath 4 PA) s start ≡ got ds end
-    → pathsAt s start count ≡ ds
-unfolding pathsAt
-paths-are s start count e = ap (λ (x : Read (List ReactiveScopeDependency)). orNone x (λ ds end. ds)) e
+module _ {A : Type 0} (read : ByteReader A) (chosen : A → List ReactiveScopeDependency) where
+  -- the records that were read, and the place after them
+  abbrev pub valuesAt : List ℕ → ℕ → ℕ → List A
+  valuesAt s at n = orNone (readMany n read s at) (λ xs end. xs)
 
-pub filling : (reg : PropertyPathRegistry) (s ws os set : List ℕ) (start count : ℕ) → Held ws os → registryOf ws ≡ reg → membersOf set ≡ []
-    → IsRead (readMany count (readPath 4 PA) s start)
-    → Filling (enterPaths (noneEntered reg) (pathsAt s start count)) s ws os set 0 start count
-filling reg s ws os set start count held is none x = record {
-  held = held;
-  among = omega arith;
-  rest = x .value;
-  end = x .next;
-  read = x .read;
-  same =
-      ap (enterPaths (noneEntered reg)) (paths-are s start count (x .read)) ∙ ap (λ reg. enterPaths (noneEntered reg) (x .value)) (sym is)
-      ∙ ap (λ t. enterPaths (soFar (registryOf ws) t 0) (x .value)) (sym none);
-}
+  abbrev pub endAt : List ℕ → ℕ → ℕ → ℕ
+  endAt s at n = placeAfter (readMany n read s at)
 
-module _ {want : PathsEntered} {s ws os set : List ℕ} {made at left : ℕ} (x : Filling want s ws os set made at left) where
-  pub filling-end : left ≤ 0 → Held ws os × (want ≡ soFar (registryOf ws) (membersOf set) made)
-  filling-end none =
-      let zero-left : left ≡ 0 = omega arith in
-      let nothing : got [] at ≡ got (x .rest) (x .end) = subst (λ n. readMany n (readPath 4 PA) s at ≡ got (x .rest) (x .end)) zero-left (x .read) in
-      let no : [] ≡ x .rest = cc in
-      (x .held, x .same ∙ ap (enterPaths (soFar (registryOf ws) (membersOf set) made)) (sym no))
+  -- The records that are left were read, and entering what they bring after what was entered so far
+  -- gives what is wanted.
+  pub record Filling (want : PathsEntered) (end : ℕ) (s ws os : List ℕ) (e : EnteredSet) (left : ℕ) : Type 0 where
+    pub entering : Entering ws os e
+    pub room : e .full ≡ false
+    pub rest : List A
+    pub there : readMany left read s (e .at) ≡ got rest end
+    pub same : want ≡ enterPaths (soFar (registryOf ws) e) (concatMap chosen rest)
 
-  -- what was made is among the nodes, for which the words have room
-  pub filling-few : made ≤ 512
-  filling-few = let size = registry-length ws in let room = x .held .sized .room in let among = x .among in omega arith
+  pub filling : (s ws os : List ℕ) (e : EnteredSet) (count : ℕ) → Entering ws os e → e .full ≡ false → IsRead (readMany count read s (e .at))
+      → Filling (enterPaths (soFar (registryOf ws) e) (concatMap chosen (valuesAt s (e .at) count))) (endAt s (e .at) count) s ws os e count
+  filling s ws os e count entering room x =
+      subst (λ (y : Read (List A)). Filling (enterPaths (soFar (registryOf ws) e) (concatMap chosen (orNone y (λ xs end. xs)))) (placeAfter y) s ws os e count)
+      (sym (x .read))
+      (record { entering = entering; room = room; rest = x .value; there = x .read; same = refl })
 
-  module _ (some : 0 < left) where
-    -- the first of the paths that are left, and the others
-    first : (d : ReactiveScopeDependency) × (next : ℕ) × (rest : List ReactiveScopeDependency) × (readPath 4 PA s at ≡ got d next)
-        × (readMany (left - 1) (readPath 4 PA) s next ≡ got rest (x .end)) × (d ∷ rest ≡ x .rest)
-    first = many-first (readPath 4 PA) s left at some (x .read)
+  module _ {want : PathsEntered} {end : ℕ} {s ws os : List ℕ} {e : EnteredSet} {left : ℕ} (x : Filling want end s ws os e left) where
+    pub filling-end : left ≤ 0 → Fills want end e ws os
+    filling-end none =
+        let zero-left : left ≡ 0 = omega arith in
+        let nothing : got [] (e .at) ≡ got (x .rest) end = subst (λ n. readMany n read s (e .at) ≡ got (x .rest) end) zero-left (x .there) in
+        let no : [] ≡ x .rest = cc in
+        let last : e .at ≡ end = cc in
+        subst (λ f. FillsBy f want end e ws os) (sym (x .room))
+        (x .entering .held, x .same ∙ ap (λ xs. enterPaths (soFar (registryOf ws) e) (concatMap chosen xs)) (sym no), last)
 
-    pub first-there : IsRead (readPath 4 PA s at)
-    first-there = record { value = first .0; next = first .1; read = first .3 }
+    module _ (some : 0 < left) where
+      -- the first of the records that are left, and the others
+      first : (a : A) × (next : ℕ) × (rest : List A) × (read s (e .at) ≡ got a next)
+          × (readMany (left - 1) read s next ≡ got rest end) × (a ∷ rest ≡ x .rest)
+      first = many-first read s left (e .at) some (x .there)
 
-    module _ (r : EnteredPath) (us ps : List ℕ) (entered : Enters (readPath 4 PA s at) (getOrCreateProperty (registryOf ws)) r us ps) where
-      pub filling-full : r ≡ path.Full → nodeLimit < length (want .registry)
-      filling-full same =
-          let node = getOrCreateProperty (registryOf ws) (first .0) in
-          let so-far = soFar (node .registry) (insert (node .node) (membersOf set)) (made + node .made) in
-          let longer = extends-length (paths-extend so-far (first .2)) in
-          let full = subst (λ q. Enters (readPath 4 PA s at) (getOrCreateProperty (registryOf ws)) q us ps) same entered in
-          let more = entered-full (readPath 4 PA s at) (getOrCreateProperty (registryOf ws)) us ps full (first .3) in
-          rw (x .same, ← (first .5)) (omega (arith, more, longer))
+      pub first-there : IsRead (read s (e .at))
+      first-there = record { value = first .0; next = first .1; read = first .3 }
 
-      module _ (k : NodeId) (madeHere n : ℕ) (same : r ≡ path.At k madeHere n) where
-        reached : (d : ReactiveScopeDependency) × (readPath 4 PA s at ≡ got d n) × Held us ps
-            × (getOrCreateProperty (registryOf ws) d ≡ record { registry = registryOf us; node = k; made = madeHere })
-        reached =
-            entered-at (readPath 4 PA s at) (getOrCreateProperty (registryOf ws)) k madeHere n us ps
-            (subst (λ q. Enters (readPath 4 PA s at) (getOrCreateProperty (registryOf ws)) q us ps) same entered)
+      module _ (r : EnteredSet) (us ps : List ℕ) (entered : EntersAll (mapped chosen (read s (e .at))) (soFar (registryOf ws) e) r us ps) where
+        one : Fills (enterPaths (soFar (registryOf ws) e) (chosen (first .0))) (first .1) r us ps
+        one = subst (λ (y : Read A). EntersAll (mapped chosen y) (soFar (registryOf ws) e) r us ps) (first .3) entered
 
-        pub node-inside : k .0 < 512
-        unfolding getOrCreateProperty
-        node-inside =
-            let p = path-proper ownMark (registryOf ws) (reached .0) (x .held .sound) .inside in
-            let l = subst (λ (y : Reached). y .node .0 < length (y .registry)) (reached .3) p in
-            let size = registry-length us in
-            let room = reached .2 .sized .room in
-            omega arith
+        split : want ≡ enterPaths (enterPaths (soFar (registryOf ws) e) (chosen (first .0))) (concatMap chosen (first .2))
+        split =
+            x .same ∙ ap (λ xs. enterPaths (soFar (registryOf ws) e) (concatMap chosen xs)) (sym (first .5))
+            ∙ paths-append (soFar (registryOf ws) e) (chosen (first .0)) (concatMap chosen (first .2))
 
-        among-more : made + madeHere ≤ length (registryOf us)
-        among-more =
-            let so-far = x .among in
-            let one = subst (λ (y : Reached). length (y .registry) ≡ length (registryOf ws) + y .made) (reached .3)
-            (property-longer (registryOf ws) (reached .0)) in
-            omega arith
+        pub filling-full : r .full ≡ true → Fills want end r us ps
+        filling-full full =
+            let so-far = enterPaths (soFar (registryOf ws) e) (chosen (first .0)) in
+            let limit : nodeLimit < length (so-far .registry) = subst (λ f. FillsBy f so-far (first .1) r us ps) full one in
+            let longer = extends-length (paths-extend so-far (concatMap chosen (first .2))) in
+            let past : nodeLimit < length (want .registry) =
+            subst (λ (y : PathsEntered). nodeLimit < length (y .registry)) (sym split) (omega arith) in
+            subst (λ f. FillsBy f want end r us ps) (sym full) past
 
-        pub filling-more : (more : List ℕ) → membersOf more ≡ insert k (membersOf set) → Filling want s us ps more (made + madeHere) n (left - 1)
-        filling-more more inserted =
-            let there : got (reached .0) n ≡ got (first .0) (first .1) = sym (reached .1) ∙ first .3 in
-            let d-same : first .0 ≡ reached .0 = cc in
-            let n-same : first .1 ≡ n = cc in
+        pub filling-more : r .full ≡ false → Filling want end s us ps r (left - 1)
+        filling-more room =
+            let so-far = enterPaths (soFar (registryOf ws) e) (chosen (first .0)) in
+            let is : FillsBy false so-far (first .1) r us ps = subst (λ f. FillsBy f so-far (first .1) r us ps) room one in
+            let longer = subst (λ (y : PathsEntered). length (y .registry) + e .made ≡ length (registryOf ws) + y .made) (is .1)
+            (paths-longer (soFar (registryOf ws) e) (chosen (first .0))) in
             record {
-              held = reached .2;
-              among = among-more;
+              entering = record { held = is .0; among = let so-far = x .entering .among in omega arith };
+              room = room;
               rest = first .2;
-              end = x .end;
-              read = subst (λ m. readMany (left - 1) (readPath 4 PA) s m ≡ got (first .2) (x .end)) n-same (first .4);
-              same =
-                  x .same
-                  ∙ next-path (registryOf ws) (registryOf us) (membersOf set) (membersOf more) made (x .rest) (first .2) (first .0) (reached .0) k madeHere
-                  (first .5) d-same (reached .3) inserted;
+              there = subst (λ n. readMany (left - 1) read s n ≡ got (first .2) end) (sym (is .2)) (first .4);
+              same = split ∙ ap (λ (y : PathsEntered). enterPaths y (concatMap chosen (first .2))) (is .1);
             }
+
+  -- The whole list was entered, with what all its records bring.
+  pub all-entered : (f : List A → List ReactiveScopeDependency) → ((xs : List A) → f xs ≡ concatMap chosen xs)
+      → (x : Read (List A)) → IsRead x → (start : PathsEntered) (r : EnteredSet) (ws os : List ℕ)
+      → Fills (enterPaths start (concatMap chosen (orNone x (λ xs end. xs)))) (placeAfter x) r ws os → EntersAll (mapped f x) start r ws os
+  all-entered f same (got xs end) there start r ws os h = subst (λ ds. Fills (enterPaths start ds) end r ws os) (sym (same xs)) h
+  all-entered f same (refused y) there start r ws os h = not-both (there .read) refl
+
+-- The same of paths that bring themselves.
+pub paths-entered : (x : Read (List ReactiveScopeDependency)) → IsRead x → (start : PathsEntered) (r : EnteredSet) (ws os : List ℕ)
+    → Fills (enterPaths start (concatMap itself (orNone x (λ xs end. xs)))) (placeAfter x) r ws os → EntersAll x start r ws os
+paths-entered (got ds end) there start r ws os h = subst (λ es. Fills (enterPaths start es) end r ws os) (sym (each-itself ds)) h
+  where
+    each-itself : (ds : List ReactiveScopeDependency) → ds ≡ concatMap itself ds
+    each-itself [] = refl
+    each-itself (d ∷ ds) = ap (λ es. d ∷ es) (each-itself ds)
+paths-entered (refused y) there start r ws os h = not-both (there .read) refl

@@ -1,2 +1,4 @@
 pub mod Filling
+pub mod Records
+pub mod OneBlock
 pub mod Blocks

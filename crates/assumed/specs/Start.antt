@@ -1,43 +1,53 @@
 -- What entering the assumed paths leaves in the lent words.
-use Prim.Native.Nat.{ℕ, _<_}
+use Prim.Native.Nat.{ℕ, _≤_, _<_}
 use mathlib.Core.Path.{_≡_}
 use mathlib.Core.Bool.{Bool, true, false}
-use mathlib.Core.List.{List}
+use mathlib.Core.List.{List, [], _∷_}
 use lib.ListN.{length}
 use Rattle.entries.specs.Path.{ReactiveScopeDependency}
-use Rattle.model.specs.ReadingBytes.{readMany}
-use Rattle.model.specs.Job.{PA, Block, readPath, readBlock}
-use Rattle.model.specs.Answer.{spanWidth}
-use Rattle.model.specs.Registry.{nodeLimit}
+use Rattle.model.specs.ReadingBytes.{Read, got, refused}
+use Rattle.model.specs.RawReads.{RawRead, keptPaths}
+use Rattle.model.specs.Registry.{nodeLimit, PropertyPathRegistry}
 use Rattle.model.specs.Stage as stage
 use Rattle.rows.specs.Members.{membersOf}
 use Rattle.rows.specs.Rows.{Lent, rowsOf}
 use Rattle.registry.specs.Words.{registryOf, Held}
-use Rattle.job.specs.Passing.{orNone}
 use Rattle.assumed.specs.declared.EnteredSet.{EnteredSet}
 use Rattle.assumed.specs.declared.BlocksEntered.{BlocksEntered}
 use Rattle.assumed.specs.declared.BlocksEntered.the-variants.{All, Full}
 
--- so many assumed paths from a place on
-unfoldable pub pathsAt : List ℕ → ℕ → ℕ → List ReactiveScopeDependency
-unfolding readPath
-pathsAt s start count = orNone (readMany count (readPath spanWidth PA) s start) (λ ds end. ds)
+-- one path, as a list
+abbrev pub itself : ReactiveScopeDependency → List ReactiveScopeDependency
+itself d = d ∷ []
 
--- the assumed paths of the block whose record stands at a place
-unfoldable pub assumedAt : List ℕ → ℕ → List ReactiveScopeDependency
-unfolding readBlock
-assumedAt s at = orNone (readBlock spanWidth s at) (λ (b : Block) end. b .assumed)
+-- the path of a raw read, where it is kept
+abbrev pub pathIfKept : RawRead → List ReactiveScopeDependency
+pathIfKept r = keptPaths (r ∷ [])
 
--- The words hold the registry that the paths lead to, the set is that of their nodes, and as many
--- nodes were made for them; or that registry has no room.
-abbrev pub FillsBy : Bool → stage.PathsEntered → EnteredSet → List ℕ → List ℕ → Type 0
-FillsBy true want r ws os = nodeLimit < length (want .registry)
-FillsBy false want r ws os =
-    Held ws os × (want ≡ record { registry = registryOf ws; set = membersOf (r .set .words); made = r .made })
+-- how far entering a block's paths has come, in a registry
+abbrev pub soFar : PropertyPathRegistry → EnteredSet → stage.PathsEntered
+soFar reg e = record { registry = reg; set = membersOf (e .set .words); made = e .made }
+
+-- The words hold a registry, and what was made for a block's paths so far is among its nodes.
+pub record Entering (ws os : List ℕ) (e : EnteredSet) : Type 0 where
+  pub held : Held ws os
+  pub among : e .made ≤ length (registryOf ws)
+
+-- The words hold the registry that the paths lead to, the set is that of their nodes, as many nodes
+-- were made for them, and the place is the one after them; or that registry has no room.
+abbrev pub FillsBy : Bool → stage.PathsEntered → ℕ → EnteredSet → List ℕ → List ℕ → Type 0
+FillsBy true want end r ws os = nodeLimit < length (want .registry)
+FillsBy false want end r ws os = Held ws os × (want ≡ soFar (registryOf ws) r) × (r .at ≡ end)
 
 -- The same, by whether the code says that there was no room.
-abbrev pub Fills : stage.PathsEntered → EnteredSet → List ℕ → List ℕ → Type 0
-Fills want r ws os = FillsBy (r .full) want r ws os
+abbrev pub Fills : stage.PathsEntered → ℕ → EnteredSet → List ℕ → List ℕ → Type 0
+Fills want end r ws os = FillsBy (r .full) want end r ws os
+
+-- The paths that a part of the job brings, which was read, are entered after what was entered so
+-- far.
+abbrev pub EntersAll : Read (List ReactiveScopeDependency) → stage.PathsEntered → EnteredSet → List ℕ → List ℕ → Type 0
+EntersAll (got ds end) start r ws os = Fills (stage.enterPaths start ds) end r ws os
+EntersAll (refused x) start r ws os = ⊥
 
 -- The words hold the registry, and the first n rows the sets, with which propagation starts.
 pub record StartHeld (want : stage.Started) (n : ℕ) (ws os rows : List ℕ) : Type 0 where

@@ -1,86 +1,205 @@
 // All assumed paths of a job entered into the registry, straight from its bytes, and each block's
-// set of them stored in its row.
+// set of them stored in its row: of the raw reads those that are kept, and then the ready paths.
+ghost use mathlib.Core.Path.{_≡_};
+ghost use mathlib.Core.Bool.{true, false};
 ghost use Prim.Native.Nat.{_≤_};
 ghost use Rattle.rows.specs.Rows.{Lent};
 ghost use Rattle.registry.specs.Words.{registryOf, Held, HoldsNone};
-ghost use Rattle.model.specs.ReadingBytes.{readMany};
-ghost use Rattle.model.specs.Job.{PA, readPath, readBlock};
+ghost use Rattle.model.specs.ReadingBytes.{mapped, readMany};
+ghost use Rattle.model.specs.RawReads.{keptPaths};
+ghost use Rattle.model.specs.Job.{PA, readPathFields, readPath, readRawRead, readBlock, assumedOf};
 ghost use Rattle.model.specs.Answer.{spanWidth};
-ghost use Rattle.model.specs.Stage.{enterPaths, noneEntered, startOf};
+ghost use Rattle.model.specs.Stage.{noneEntered, startOf};
 ghost use Rattle.job.specs.Kept.{blocksOf, PlacedJob};
 ghost use Rattle.job.specs.Passing.{IsRead};
-ghost use Rattle.assumed.specs.Start.{pathsAt, assumedAt, Fills, Starts};
+ghost use Rattle.assumed.specs.Start.{itself, pathIfKept, soFar, Entering, EntersAll, Starts};
 use fields::Passed;
 use job::ReadBlockHead;
+use job::ReadRawHead;
 use paths::EnteredPath;
 use rows::NodeBits;
 
-// The nodes of the paths entered, and how many nodes were made for them; or that the registry had
-// no room.
+mod immutable;
+
+// The nodes of the paths entered, how many nodes were made for them, and the place after them; or
+// that the registry had no room.
 pub struct EnteredSet {
     pub set: NodeBits,
     pub made: usize,
+    pub at: usize,
     pub full: bool,
 }
 
-// `count` assumed paths from a place on, which were read before.
-fn enter_paths(
+// That the registry has no room for what follows, or that a field that was read before is refused,
+// which never happens. The other fields mean nothing then.
+fn stopped(so_far: EnteredSet) -> EnteredSet
+    ensures { λ r. ⌜ r .full ≡ true ⌝ }
+{
+    let set = so_far.set;
+    EnteredSet {
+        set,
+        made: so_far.made,
+        at: so_far.at,
+        full: true,
+    }
+}
+
+// One path more, whose fields stand at a place and were read before.
+fn enter_fields(
     s: &[u8],
-    start: usize,
+    at: usize,
+    ws: &mut [u64; 1665],
+    optional: &mut [u64; 8],
+    so_far: EnteredSet,
+) -> EnteredSet
+    requires { ⌜ Entering (now ws) (now optional) «so_far» × IsRead (readPathFields spanWidth (now s) at) ⌝ }
+    ensures { λ r. ⌜ EntersAll (mapped itself (readPathFields spanWidth (now (s .entry)) at))
+        (soFar (registryOf (now (ws .entry))) «so_far») r (now (ws .exit)) (now (optional .exit)) ⌝ }
+{
+    let entered = paths::enter_path(s, at, ws, optional);
+    let EnteredPath::At(node, made_here, next) = entered else {
+        return stopped(so_far);
+    };
+    let set = so_far.set;
+    EnteredSet {
+        set: set.insert(node),
+        made: so_far.made + made_here,
+        at: next,
+        full: false,
+    }
+}
+
+// One ready path more, which was read before.
+fn enter_ready_path(
+    s: &[u8],
+    ws: &mut [u64; 1665],
+    optional: &mut [u64; 8],
+    so_far: EnteredSet,
+) -> EnteredSet
+    requires { ⌜ Entering (now ws) (now optional) «so_far» × IsRead (readPath spanWidth PA (now s) («so_far» .at)) ⌝ }
+    ensures { λ r. ⌜ EntersAll (mapped itself (readPath spanWidth PA (now (s .entry)) («so_far» .at)))
+        (soFar (registryOf (now (ws .entry))) «so_far») r (now (ws .exit)) (now (optional .exit)) ⌝ }
+{
+    let marked = fields::mark_at(s, so_far.at, job::PA);
+    let Passed::To(fields_at) = marked else {
+        return stopped(so_far);
+    };
+    enter_fields(s, fields_at, ws, optional, so_far)
+}
+
+// One raw read more, which was read before: its path is entered where it is kept.
+fn enter_raw_read(
+    s: &[u8],
+    ws: &mut [u64; 1665],
+    optional: &mut [u64; 8],
+    so_far: EnteredSet,
+) -> EnteredSet
+    requires { ⌜ Entering (now ws) (now optional) «so_far» × IsRead (readRawRead spanWidth (now s) («so_far» .at)) ⌝ }
+    ensures { λ r. ⌜ EntersAll (mapped pathIfKept (readRawRead spanWidth (now (s .entry)) («so_far» .at)))
+        (soFar (registryOf (now (ws .entry))) «so_far») r (now (ws .exit)) (now (optional .exit)) ⌝ }
+{
+    let head_field = job::raw_head_at(s, so_far.at);
+    let ReadRawHead::Value(head, fields_at) = head_field else {
+        return stopped(so_far);
+    };
+    if immutable::is_immutable_at_instr(head) {
+        return enter_fields(s, fields_at, ws, optional, so_far);
+    }
+    let path = job::past_path_fields(s, fields_at);
+    let Passed::To(next) = path else {
+        return stopped(so_far);
+    };
+    let set = so_far.set;
+    EnteredSet {
+        set,
+        made: so_far.made,
+        at: next,
+        full: false,
+    }
+}
+
+// `count` raw reads, which were read before.
+fn enter_raw_reads(
+    s: &[u8],
     count: u8,
     ws: &mut [u64; 1665],
     optional: &mut [u64; 8],
+    start: EnteredSet,
 ) -> EnteredSet
-    requires { ⌜ Held (now ws) (now optional) × IsRead (readMany count (readPath spanWidth PA) (now s) start) ⌝ }
-    ensures { λ r. ⌜ Fills (enterPaths (noneEntered (registryOf (now (ws .entry)))) (pathsAt (now (s .entry)) start count)) r
-        (now (ws .exit)) (now (optional .exit)) ⌝ }
+    requires { ⌜ Entering (now ws) (now optional) start × IsRead (readMany count (readRawRead spanWidth) (now s) (start .at)) ⌝ }
+    requires { ⌜ start .full ≡ false ⌝ }
+    ensures { λ r. ⌜ EntersAll (mapped keptPaths (readMany count (readRawRead spanWidth) (now (s .entry)) (start .at)))
+        (soFar (registryOf (now (ws .entry))) start) r (now (ws .exit)) (now (optional .exit)) ⌝ }
 {
-    let mut set = NodeBits::empty();
-    let mut made = 0;
-    let mut at = start;
+    let mut so_far = start;
     let mut left = count;
     while 0 < left {
-        let entered = paths::enter_path(s, at, ws, optional);
-        let EnteredPath::At(node, made_here, next) = entered else {
-            return EnteredSet {
-                set,
-                made,
-                full: true,
-            };
-        };
-        set = set.insert(node);
-        made = made + made_here;
-        at = next;
+        so_far = enter_raw_read(s, ws, optional, so_far);
+        if so_far.full {
+            return so_far;
+        }
         left = left - 1;
     }
-    EnteredSet {
-        set,
-        made,
-        full: false,
+    so_far
+}
+
+// `count` ready paths, which were read before.
+fn enter_ready_paths(
+    s: &[u8],
+    count: u8,
+    ws: &mut [u64; 1665],
+    optional: &mut [u64; 8],
+    start: EnteredSet,
+) -> EnteredSet
+    requires { ⌜ Entering (now ws) (now optional) start × IsRead (readMany count (readPath spanWidth PA) (now s) (start .at)) ⌝ }
+    requires { ⌜ start .full ≡ false ⌝ }
+    ensures { λ r. ⌜ EntersAll (readMany count (readPath spanWidth PA) (now (s .entry)) (start .at))
+        (soFar (registryOf (now (ws .entry))) start) r (now (ws .exit)) (now (optional .exit)) ⌝ }
+{
+    let mut so_far = start;
+    let mut left = count;
+    while 0 < left {
+        so_far = enter_ready_path(s, ws, optional, so_far);
+        if so_far.full {
+            return so_far;
+        }
+        left = left - 1;
     }
+    so_far
 }
 
 // The assumed paths of the block at a place, which was read before.
 fn enter_block(s: &[u8], at: usize, ws: &mut [u64; 1665], optional: &mut [u64; 8]) -> EnteredSet
     requires { ⌜ Held (now ws) (now optional) × IsRead (readBlock spanWidth (now s) at) ⌝ }
-    ensures { λ r. ⌜ Fills (enterPaths (noneEntered (registryOf (now (ws .entry)))) (assumedAt (now (s .entry)) at)) r
-        (now (ws .exit)) (now (optional .exit)) ⌝ }
+    ensures { λ r. ⌜ EntersAll (mapped assumedOf (readBlock spanWidth (now (s .entry)) at))
+        (noneEntered (registryOf (now (ws .entry)))) r (now (ws .exit)) (now (optional .exit)) ⌝ }
 {
-    // A block that was read has its head and its ids, so this is never the answer.
-    let never = EnteredSet {
-        set: NodeBits::empty(),
+    let empty = NodeBits::empty();
+    let none = EnteredSet {
+        set: empty,
         made: 0,
-        full: true,
+        at,
+        full: false,
     };
     let head_field = job::block_head_at(s, at);
     let ReadBlockHead::Value(head, ids_at) = head_field else {
-        return never;
+        return stopped(none);
     };
     let ids = job::past_ids(s, ids_at, head.predecessors);
-    let Passed::To(paths_at) = ids else {
-        return never;
+    let Passed::To(reads_at) = ids else {
+        return stopped(none);
     };
-    enter_paths(s, paths_at, head.assumed, ws, optional)
+    let start = EnteredSet {
+        set: empty,
+        made: 0,
+        at: reads_at,
+        full: false,
+    };
+    let reads = enter_raw_reads(s, head.raw, ws, optional, start);
+    if reads.full {
+        return reads;
+    }
+    enter_ready_paths(s, head.assumed, ws, optional, reads)
 }
 
 // How many nodes were made in all, once every assumed path was entered; or the registry had no

@@ -122,7 +122,7 @@ module _ (s ids places : List ℕ) (n : ℕ) (j : Job) (at : BlocksAt s n places
       let p = block-parts s (getD places b 0) (t .2) in
       let here : blockAt bs b ≡ t .0 = block-first bs b (t .0) (drop (suc b) bs) _ (t .3) in
       row-noted s (getD places b 0) ids n (p .head-read)
-      ∙ notes-ids (placeAmong (idsNoted ids n)) s (p .head .predecessors) (getD places b 0 + 8) (p .predecessors-read)
+      ∙ notes-ids (placeAmong (idsNoted ids n)) s (p .head .predecessors) (getD places b 0 + 9) (p .predecessors-read)
       ∙ ap (λ (c : Block). map (placeAmong (idsNoted ids n)) (c .predecessors)) (sym here)
       ∙ map-same (placeAmong (idsNoted ids n)) (placeOf bs) place-is (blockAt bs b .predecessors)
 

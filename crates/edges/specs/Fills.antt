@@ -13,7 +13,7 @@ use Rattle.graph.specs.Bytes.{sizeIn, neighbours, GraphFits, NeighboursOnce}
 abbrev pub IdsAt : List ℕ → Job → Type 0
 IdsAt ids j = (k : ℕ) → k < length (j .blocks) → getD ids k 0 ≡ blockAt (j .blocks) k .id .0
 
--- A job is read that refusals 3 to 8 let pass, and its n blocks are noted by id and place.
+-- A job is read that refusals 3 to 8 and 10 let pass, and its n blocks are noted by id and place.
 pub record NotedJob (s ids places : List ℕ) (n : ℕ) : Type 0 where
   pub job : Job
   pub blocks : BlocksAt s n places job

@@ -1,4 +1,4 @@
--- Document 01, "Turning a job back": the number of each refusal.
+-- Document 01, "Turning a job back", and document 02, E5: the number of each refusal.
 use Prim.Native.Nat.{ℕ, _<_}
 use native.Mathlib.Omega.{arith}
 use Rattle.entries.specs.declared.Refusal.{Refusal}
@@ -12,9 +12,10 @@ use Rattle.entries.specs.declared.Refusal.the-variants.{
   RepeatedId,
   UnknownBlock,
   ManyNodes,
+  LargestStart,
 }
 
--- 1 to 9, in the order of that list.
+-- 1 to 9, in the order of that list, and 10, "a range start of 4,294,967,295".
 abbrev pub refusalNumber : Refusal → ℕ
 refusalNumber ShortBuffer = 1
 refusalNumber LongJob = 2
@@ -25,6 +26,7 @@ refusalNumber ExtraByte = 6
 refusalNumber RepeatedId = 7
 refusalNumber UnknownBlock = 8
 refusalNumber ManyNodes = 9
+refusalNumber LargestStart = 10
 
 pub number-positive : (r : Refusal) → 0 < refusalNumber r
 number-positive ShortBuffer = omega arith
@@ -36,3 +38,4 @@ number-positive ExtraByte = omega arith
 number-positive RepeatedId = omega arith
 number-positive UnknownBlock = omega arith
 number-positive ManyNodes = omega arith
+number-positive LargestStart = omega arith

@@ -179,7 +179,8 @@ pub enum HoistableAccessType {
     NonNull,
 }
 
-// Why a job is turned back, in the order of document 01's numbers 1 to 9.
+// Why a job is turned back, in the order of the numbers: document 01's 1 to 9, and document 02's
+// 10.
 pub enum Refusal {
     ShortBuffer,
     LongJob,
@@ -190,10 +191,11 @@ pub enum Refusal {
     RepeatedId,
     UnknownBlock,
     ManyNodes,
+    LargestStart,
 }
 
 impl Refusal {
-    // Document 01's number.
+    // The number of document 01, or of document 02.
     pub fn number(self) -> u8
         ensures { λ r. ⌜ r ≡ refusalNumber self ⌝ }
     {
@@ -207,6 +209,7 @@ impl Refusal {
             Refusal::RepeatedId => 7,
             Refusal::UnknownBlock => 8,
             Refusal::ManyNodes => 9,
+            Refusal::LargestStart => 10,
         }
     }
 }

@@ -27,7 +27,7 @@ abbrev pub gotU16 : ReadU16 → Read ℕ
 gotU16 (u16.Value x next) = got x next
 gotU16 (u16.Refused r) = refused r
 
--- The same of `u32_at`.
+-- The same of `u32_at` and `range_start_at`.
 abbrev pub gotU32 : ReadU32 → Read ℕ
 gotU32 (u32.Value x next) = got x next
 gotU32 (u32.Refused r) = refused r

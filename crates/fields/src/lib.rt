@@ -1,11 +1,12 @@
-// The fields of a job: numbers of one to eight bytes, flags and marks, each read as a value and the
-// place after it, or a refusal.
+// The fields of a job: numbers of one to eight bytes, starts of ranges, flags and marks, each read
+// as a value and the place after it, or a refusal.
 use entries::Refusal;
 ghost use mathlib.Core.Path.{_≡_};
 ghost use Prim.Native.Nat.{_+_, _≤_};
 ghost use lib.Dec.{leb};
 ghost use lib.ListN.{length};
 ghost use Rattle.model.specs.ReadingBytes.{readNumber, readMark, readWithin, readFlag};
+ghost use Rattle.model.specs.Job.{readRangeStart};
 ghost use Rattle.fields.specs.Number.{numberAt};
 ghost use Rattle.fields.specs.Answer.{gotU8, gotU16, gotU32, gotU64, gotFlag, gotPlace, refusalOf};
 
@@ -220,6 +221,21 @@ pub fn u16_within(s: &[u8], at: usize, least: u16, most: u16) -> ReadU16
         ReadU16::Value(found, next)
     } else {
         ReadU16::Refused(Refusal::OutOfRange)
+    }
+}
+
+// The start of a mutable range. The largest number is refused, since one more would not fit.
+pub fn range_start_at(s: &[u8], at: usize) -> ReadU32
+    ensures { λ r. ⌜ gotU32 r ≡ readRangeStart (now (s .entry)) at ⌝ }
+{
+    let field = u32_at(s, at);
+    let ReadU32::Value(found, next) = field else {
+        return field;
+    };
+    if found == 4294967295 {
+        ReadU32::Refused(Refusal::LargestStart)
+    } else {
+        ReadU32::Value(found, next)
     }
 }
 

@@ -59,7 +59,8 @@ predecessors-most s at =
     holds-after P (readMark BL s at) _ (λ _ idAt.
     holds-after P (readBlockId s idAt) _ (λ id countAt.
     holds-then (λ x. x ≤ 64) P (readWithin 0 64 (readNumber 1) s countAt) _ (within-most 0 64 (readNumber 1) s countAt) (λ count assumedAt few.
-    holds-after P (readNumber 1 s assumedAt) _ (λ assumed next. few))))
+    holds-after P (readNumber 1 s assumedAt) _ (λ assumed rawAt.
+    holds-after P (readNumber 1 s rawAt) _ (λ raw next. few)))))
 
 pub entries-most : (s : List ℕ) (at : ℕ) → HoldsIfRead (λ (h : PathHead). h .entries ≤ 16) (readPathHead s at)
 unfolding readPathHead

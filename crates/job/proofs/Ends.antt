@@ -9,13 +9,13 @@ use borrow.Author.Tests.{leb-true, leb-false}
 use lib.Dec.{eqb, leb}
 use lib.ListN.{length}
 use Rattle.entries.specs.declared.Refusal.{Refusal}
-use Rattle.entries.specs.declared.Refusal.the-variants.{WrongMark, OutOfRange}
+use Rattle.entries.specs.declared.Refusal.the-variants.{WrongMark, OutOfRange, LargestStart}
 use Rattle.model.specs.ReadingBytes.{Read, got, refused, ByteReader, andThen, mapped, readMany, readNumber, readMark, readWithin, readFlag}
-use Rattle.model.specs.Job.{BL, readBlockId, readEntry}
+use Rattle.model.specs.Job.{BL, RD, readBlockId, readEntry, largestStart, readRangeStart}
 use Rattle.model.specs.Tests.{decide}
 use Rattle.fields.proofs.Number.{number-got, number-missing}
-use Rattle.fields.proofs.Within.{mark-fields, within-fields, flag-fields}
-use Rattle.job.specs.Head.{readPathHead, readBlockHead}
+use Rattle.fields.proofs.Within.{mark-fields, within-fields, flag-fields, start-fields}
+use Rattle.job.specs.Head.{readPathHead, readInstructionAndRange, readScopeAndKnown, readRawHead, readBlockHead}
 use Rattle.job.specs.declared.BlockHead.{BlockHead}
 use Rattle.job.proofs.Fields.{entry-fields}
 
@@ -60,16 +60,17 @@ flag-ends s at = rw flag-fields
 pub id-ends : (s : List ℕ) (at : ℕ) → EndsAt (at + 4) (readBlockId s at)
 id-ends s at = ends-mapped (at + 4) _ (readNumber 4 s at) (number-ends 3 s at)
 
--- a block's predecessors start 8 bytes after its mark
-pub block-head-ends : (s : List ℕ) (at : ℕ) → EndsAt (at + 8) (readBlockHead s at)
+-- a block's predecessors start 9 bytes after its start
+pub block-head-ends : (s : List ℕ) (at : ℕ) → EndsAt (at + 9) (readBlockHead s at)
 unfolding readBlockHead
 block-head-ends s at =
-    let e : at + 2 + 4 + 1 + 1 ≡ at + 8 = omega arith in
-    ends-then (at + 2) (at + 8) (readMark BL s at) _ (mark-ends BL s at) (λ _.
-    ends-then (at + 2 + 4) (at + 8) (readBlockId s (at + 2)) _ (id-ends s (at + 2)) (λ id.
-    ends-then (at + 2 + 4 + 1) (at + 8) (readWithin 0 64 (readNumber 1) s (at + 2 + 4)) _
+    let e : at + 2 + 4 + 1 + 1 + 1 ≡ at + 9 = omega arith in
+    ends-then (at + 2) (at + 9) (readMark BL s at) _ (mark-ends BL s at) (λ _.
+    ends-then (at + 2 + 4) (at + 9) (readBlockId s (at + 2)) _ (id-ends s (at + 2)) (λ id.
+    ends-then (at + 2 + 4 + 1) (at + 9) (readWithin 0 64 (readNumber 1) s (at + 2 + 4)) _
     (within-ends (at + 2 + 4 + 1) 0 64 (readNumber 1) s (at + 2 + 4) (number-ends 0 s (at + 2 + 4))) (λ count.
-    ends-then (at + 2 + 4 + 1 + 1) (at + 8) (readNumber 1 s (at + 2 + 4 + 1)) _ (number-ends 0 s (at + 2 + 4 + 1)) (λ assumed. e))))
+    ends-then (at + 2 + 4 + 1 + 1) (at + 9) (readNumber 1 s (at + 2 + 4 + 1)) _ (number-ends 0 s (at + 2 + 4 + 1)) (λ assumed.
+    ends-then (at + 2 + 4 + 1 + 1 + 1) (at + 9) (readNumber 1 s (at + 2 + 4 + 1 + 1)) _ (number-ends 0 s (at + 2 + 4 + 1 + 1)) (λ reads. e)))))
 
 -- and no later than at the job's end
 abbrev EndsIn : {A : Type 0} → List ℕ → Read A → Type 0
@@ -98,7 +99,8 @@ block-head-ends-in s at =
     ends-in-after s (readMark BL s at) _ (λ _ idAt.
     ends-in-after s (readBlockId s idAt) _ (λ id countAt.
     ends-in-after s (readWithin 0 64 (readNumber 1) s countAt) _ (λ count assumedAt.
-    ends-in-last s (readNumber 1 s assumedAt) _ (number-ends-in 0 s assumedAt))))
+    ends-in-after s (readNumber 1 s assumedAt) _ (λ assumed rawAt.
+    ends-in-last s (readNumber 1 s rawAt) _ (number-ends-in 0 s rawAt)))))
 
 pub block-head-within : (s : List ℕ) (at : ℕ) {head : BlockHead} {n : ℕ} → readBlockHead s at ≡ got head n → n ≤ length s
 block-head-within s at e = rw e at (block-head-ends-in s at)
@@ -113,6 +115,42 @@ path-head-ends s at =
     ends-then (at + 4 + 1 + 4) (at + 10) (readNumber 4 s (at + 4 + 1)) _ (number-ends 3 s (at + 4 + 1)) (λ span.
     ends-then (at + 4 + 1 + 4 + 1) (at + 10) (readWithin 0 16 (readNumber 1) s (at + 4 + 1 + 4)) _
     (within-ends (at + 4 + 1 + 4 + 1) 0 16 (readNumber 1) s (at + 4 + 1 + 4) (number-ends 0 s (at + 4 + 1 + 4))) (λ entries. e))))
+
+start-ends : (s : List ℕ) (at : ℕ) → EndsAt (at + 4) (readRangeStart s at)
+start-ends s at =
+    rw start-fields
+    (ends-then (at + 4) (at + 4) (readNumber 4 s at) _ (number-ends 3 s at) (λ found.
+    ends-refused (at + 4) (eqb found largestStart) found LargestStart))
+  where
+    ends-refused : {A : Type 0} (n : ℕ) (b : Bool) (a : A) (r : Refusal) → EndsAt n (cond b (refused r) (got a n))
+    ends-refused n true a r = tt
+    ends-refused n false a r = refl
+
+instruction-and-range-ends : (s : List ℕ) (at : ℕ) → EndsAt (at + 14) (readInstructionAndRange s at)
+unfolding readInstructionAndRange
+instruction-and-range-ends s at =
+    let e : at + 2 + 4 + 4 + 4 ≡ at + 14 = omega arith in
+    ends-then (at + 2) (at + 14) (readMark RD s at) _ (mark-ends RD s at) (λ _.
+    ends-then (at + 2 + 4) (at + 14) (readNumber 4 s (at + 2)) _ (number-ends 3 s (at + 2)) (λ instruction.
+    ends-then (at + 2 + 4 + 4) (at + 14) (readRangeStart s (at + 2 + 4)) _ (start-ends s (at + 2 + 4)) (λ start.
+    ends-then (at + 2 + 4 + 4 + 4) (at + 14) (readNumber 4 s (at + 2 + 4 + 4)) _ (number-ends 3 s (at + 2 + 4 + 4)) (λ end. e))))
+
+scope-and-known-ends : (s : List ℕ) (at : ℕ) → EndsAt (at + 10) (readScopeAndKnown s at)
+unfolding readScopeAndKnown
+scope-and-known-ends s at =
+    let e : at + 1 + 4 + 4 + 1 ≡ at + 10 = omega arith in
+    ends-then (at + 1) (at + 10) (readFlag s at) _ (flag-ends s at) (λ hasScope.
+    ends-then (at + 1 + 4) (at + 10) (readNumber 4 s (at + 1)) _ (number-ends 3 s (at + 1)) (λ start.
+    ends-then (at + 1 + 4 + 4) (at + 10) (readNumber 4 s (at + 1 + 4)) _ (number-ends 3 s (at + 1 + 4)) (λ end.
+    ends-then (at + 1 + 4 + 4 + 1) (at + 10) (readFlag s (at + 1 + 4 + 4)) _ (flag-ends s (at + 1 + 4 + 4)) (λ known. e))))
+
+-- the fields of a raw read's path start 24 bytes after the read's start
+pub raw-head-ends : (s : List ℕ) (at : ℕ) → EndsAt (at + 24) (readRawHead s at)
+unfolding readRawHead
+raw-head-ends s at =
+    let e : at + 14 + 10 ≡ at + 24 = omega arith in
+    ends-then (at + 14) (at + 24) (readInstructionAndRange s at) _ (instruction-and-range-ends s at) (λ range.
+    ends-then (at + 14 + 10) (at + 24) (readScopeAndKnown s (at + 14)) _ (scope-and-known-ends s (at + 14)) (λ scope. e))
 
 -- "entries of 14 bytes"
 pub entry-ends : (s : List ℕ) (at : ℕ) → EndsAt (at + 14) (readEntry 4 s at)

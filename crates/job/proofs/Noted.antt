@@ -8,15 +8,15 @@ use Rattle.entries.specs.declared.BlockId.{BlockId}
 use Rattle.entries.specs.declared.Refusal.the-variants.{RepeatedId, UnknownBlock}
 use Rattle.model.specs.Lists.{anyOf}
 use Rattle.model.specs.ReadingBytes.{Read, got, refused, andThen, mapped, both, readMany, readNumber}
-use Rattle.model.specs.Job.{PA, Block, Job, readBlockId, readPath, readBlock, repeats, idsOf, hasRepeat, hasUnknown, acceptIds, blockId}
+use Rattle.model.specs.Job.{PA, Block, Job, readBlockId, readPath, readRawRead, readBlock, repeats, idsOf, hasRepeat, hasUnknown, acceptIds, blockId}
 use Rattle.job.specs.Passing.{notes, orNone, noteValue}
 use Rattle.job.specs.Head.{readBlockHead}
 use Rattle.job.specs.Ids.{blockIds, anyUnknown, predecessorsAt, checkedBy}
 use Rattle.job.specs.Kept.{notePlace, noteNumber, blockNotes, blockPlaces, blockNumbers, headOf, keptOf}
 use Rattle.job.specs.declared.BlockHead.{BlockHead}
-use Rattle.laws.specs.Fits.{HoldsIfRead, holds-got}
+use Rattle.laws.specs.Fits.{HoldsIfRead, holds-then, holds-got}
 use Rattle.job.proofs.Passing.{mapped-got}
-use Rattle.job.proofs.Heads.{blockOf, block-by-head}
+use Rattle.job.proofs.Heads.{blockOf, restOf, block-by-head}
 use Rattle.job.proofs.Many.{many-holds, many-all}
 use Rattle.job.proofs.Records.{Parts}
 
@@ -44,6 +44,11 @@ holds-both {B = B} P Q f h (got a n) rest p = any (rest n)
     any (refused r) = tt
 holds-both P Q f h (refused r) rest p = tt
 
+-- what holds anyhow holds of a value that was read
+all-values : {A : Type 0} (P : Type 0) → P → (x : Read A) → HoldsIfRead (λ a. P) x
+all-values P p (got a n) = p
+all-values P p (refused r) = tt
+
 -- the predecessors at a block's place are the block's
 pub predecessors-are : (s : List ℕ) (at : ℕ) → HoldsIfRead (λ (b : Block). blockIds (predecessorsAt s at) ≡ b .predecessors) (readBlock 4 s at)
 unfolding predecessorsAt
@@ -52,12 +57,15 @@ predecessors-are s at = rw block-by-head (by-head (readBlockHead s at))
     by-head : (x : Read BlockHead)
         → HoldsIfRead
         (λ (b : Block). blockIds (orNone x (λ (head : BlockHead) idsAt. notes noteValue (head .predecessors) (readNumber 4) s idsAt)) ≡ b .predecessors)
-        (andThen x (λ (head : BlockHead) idsAt. both (blockOf head) (readMany (head .predecessors) readBlockId s idsAt)
-        (readMany (head .assumed) (readPath 4 PA) s)))
+        (andThen x (λ (head : BlockHead) idsAt.
+        andThen (readMany (head .predecessors) readBlockId s idsAt) (λ ids readsAt. restOf s head ids readsAt)))
     by-head (got head idsAt) =
         let ids : List BlockId = blockIds (notes noteValue (head .predecessors) (readNumber 4) s idsAt) in
-        holds-both (λ l. ids ≡ l) (λ (b : Block). ids ≡ b .predecessors) (blockOf head) (λ l paths e. e)
-        (readMany (head .predecessors) readBlockId s idsAt) (readMany (head .assumed) (readPath 4 PA) s) (numbers-noted s (head .predecessors) idsAt)
+        holds-then (λ l. ids ≡ l) (λ (b : Block). ids ≡ b .predecessors) (readMany (head .predecessors) readBlockId s idsAt) _
+        (numbers-noted s (head .predecessors) idsAt) (λ l readsAt e.
+        holds-both (λ reads. ids ≡ l) (λ (b : Block). ids ≡ b .predecessors) (blockOf head l) (λ reads paths same. same)
+        (readMany (head .raw) (readRawRead 4) s readsAt) (readMany (head .assumed) (readPath 4 PA) s)
+        (all-values (ids ≡ l) e (readMany (head .raw) (readRawRead 4) s readsAt)))
     by-head (refused r) = tt
 
 -- a test of the predecessors at each place is the test of each block's

@@ -66,6 +66,12 @@ viewed-both {B = B} view f d h (got a n) rest = viewed (rest n)
     viewed (refused r) = refl
 viewed-both view f d h (refused r) rest = refl
 
+-- and of what follows a part whose value it does not need
+pub viewed-then : {A B C : Type 0} (view : B → C) (f : ℕ → Read C) (x : Read A) (rest : A → ℕ → Read B) → ((a : A) (n : ℕ) → mapped view (rest a n) ≡ f n)
+    → mapped view (andThen x rest) ≡ andThen (passed x) (λ _ next. f next)
+viewed-then view f (got a n) rest h = h a n
+viewed-then view f (refused r) rest h = refl
+
 module _ {A : Type 0} (read : ByteReader A) (s : List ℕ) where
   -- a loop that counts down
   pub many-end : (n at : ℕ) → n ≤ 0 → passed (readMany n read s at) ≡ got tt at

@@ -8,14 +8,14 @@ use lib.ListN.{length, length-map}
 use Rattle.entries.specs.declared.BlockId.{BlockId}
 use Rattle.entries.specs.declared.Refusal.{Refusal}
 use Rattle.model.specs.ReadingBytes.{Read, got, refused, readMany, readNumber}
-use Rattle.model.specs.Job.{PA, readBlockId, readPath, readBlock, blockId}
+use Rattle.model.specs.Job.{readBlockId, readBlock, blockId}
 use Rattle.laws.specs.Fits.{holds-got}
 use Rattle.job.specs.Passing.{IsRead, notes, noteValue}
 use Rattle.job.specs.Head.{readBlockHead}
 use Rattle.job.specs.Ids.{blockIds}
 use Rattle.job.specs.declared.BlockHead.{BlockHead}
-use Rattle.job.proofs.Passing.{not-both, mapped-got, then-got, both-got}
-use Rattle.job.proofs.Heads.{blockOf, block-by-head}
+use Rattle.job.proofs.Passing.{not-both, mapped-got, then-got}
+use Rattle.job.proofs.Heads.{block-by-head}
 use Rattle.job.proofs.Many.{many-first, many-length}
 use Rattle.job.proofs.Noted.{numbers-noted}
 
@@ -28,8 +28,8 @@ pub ids-again : (s : List ℕ) (at : ℕ) {head : BlockHead} {idsAt : ℕ} → I
     → IsRead (readMany (head .predecessors) readBlockId s idsAt)
 ids-again s at {head} {idsAt} b e =
     let parts = rw e at (sym (block-by-head s at) ∙ b .read) in
-    let t = both-got (blockOf head) (readMany (head .predecessors) readBlockId s idsAt) (readMany (head .assumed) (readPath 4 PA) s) parts in
-    record { value = t .0; next = t .1; read = t .3 }
+    let t = then-got (readMany (head .predecessors) readBlockId s idsAt) _ parts in
+    record { value = t .0; next = t .1; read = t .2 }
 
 same-place : {A : Type 0} {a b : A} {n m : ℕ} → got a n ≡ got b m → n ≡ m
 same-place e = cc

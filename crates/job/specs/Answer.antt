@@ -8,6 +8,15 @@ use Rattle.job.specs.declared.ReadEntry.the-variants as entry
 use Rattle.job.specs.declared.PathHead.{PathHead}
 use Rattle.job.specs.declared.ReadPathHead.{ReadPathHead}
 use Rattle.job.specs.declared.ReadPathHead.the-variants as pathHead
+use Rattle.job.specs.declared.InstructionAndRange.{InstructionAndRange}
+use Rattle.job.specs.declared.ReadInstructionAndRange.{ReadInstructionAndRange}
+use Rattle.job.specs.declared.ReadInstructionAndRange.the-variants as range
+use Rattle.job.specs.declared.ScopeAndKnown.{ScopeAndKnown}
+use Rattle.job.specs.declared.ReadScopeAndKnown.{ReadScopeAndKnown}
+use Rattle.job.specs.declared.ReadScopeAndKnown.the-variants as scope
+use Rattle.job.specs.declared.RawHead.{RawHead}
+use Rattle.job.specs.declared.ReadRawHead.{ReadRawHead}
+use Rattle.job.specs.declared.ReadRawHead.the-variants as rawHead
 use Rattle.job.specs.declared.BlockHead.{BlockHead}
 use Rattle.job.specs.declared.ReadBlockHead.{ReadBlockHead}
 use Rattle.job.specs.declared.ReadBlockHead.the-variants as blockHead
@@ -24,6 +33,19 @@ gotEntry (entry.Refused r) = refused r
 abbrev pub gotPathHead : ReadPathHead → Read PathHead
 gotPathHead (pathHead.Value x next) = got x next
 gotPathHead (pathHead.Refused r) = refused r
+
+-- The same of `instruction_and_range_at`, of `scope_and_known_at` and of `raw_head_at`.
+abbrev pub gotInstructionAndRange : ReadInstructionAndRange → Read InstructionAndRange
+gotInstructionAndRange (range.Value x next) = got x next
+gotInstructionAndRange (range.Refused r) = refused r
+
+abbrev pub gotScopeAndKnown : ReadScopeAndKnown → Read ScopeAndKnown
+gotScopeAndKnown (scope.Value x next) = got x next
+gotScopeAndKnown (scope.Refused r) = refused r
+
+abbrev pub gotRawHead : ReadRawHead → Read RawHead
+gotRawHead (rawHead.Value x next) = got x next
+gotRawHead (rawHead.Refused r) = refused r
 
 -- The same of `block_head_at`.
 abbrev pub gotBlockHead : ReadBlockHead → Read BlockHead

@@ -1,5 +1,5 @@
-// Reads a job: the records field by field and refusals 3 to 6 in one pass over the bytes; then 7
-// and 8, by the blocks' ids, and by their predecessors, read again at the blocks' places.
+// Reads a job: the records field by field and refusals 3 to 6 and 10 in one pass over the bytes;
+// then 7 and 8, by the blocks' ids, and by their predecessors, read again at the blocks' places.
 use entries::BlockId;
 use entries::DependencyPathEntry;
 use entries::IdentifierId;
@@ -15,12 +15,14 @@ ghost use mathlib.Core.Path.{_≡_};
 ghost use Prim.Native.Nat.{_≤_};
 ghost use lib.Seq.{sets};
 ghost use Rattle.model.specs.ReadingBytes.{readMany, mapped};
-ghost use Rattle.model.specs.Job.{HD, Block, readBlockId, readEntry, readPath, readBlock, readHeader, readRecords};
+ghost use Rattle.model.specs.Job.{HD, Block, readBlockId, readEntry, readPathFields, readPath, readRawRead};
+ghost use Rattle.model.specs.Job.{readBlock, readHeader, readRecords};
 ghost use Rattle.model.specs.Answer.{spanWidth};
 ghost use Rattle.fields.specs.Answer.{gotPlace, refusalOf};
 ghost use Rattle.job.specs.Passing.{passed, notes};
-ghost use Rattle.job.specs.Head.{readPathHead, readBlockHead};
-ghost use Rattle.job.specs.Answer.{gotEntry, gotPathHead, gotBlockHead, gotBlockId, gotHeader};
+ghost use Rattle.job.specs.Head.{readPathHead, readInstructionAndRange, readScopeAndKnown, readRawHead, readBlockHead};
+ghost use Rattle.job.specs.Answer.{gotEntry, gotPathHead, gotInstructionAndRange, gotScopeAndKnown, gotRawHead};
+ghost use Rattle.job.specs.Answer.{gotBlockHead, gotBlockId, gotHeader};
 ghost use Rattle.job.specs.Kept.{notePlace, noteNumber, blockPlaces, blockNumbers, keptOf, afterHeader, BehindHeader, ReadsJob};
 
 mod ids;
@@ -29,6 +31,8 @@ mod ids;
 pub const BL: u16 = 0x4C42;
 
 pub const PA: u16 = 0x4150;
+
+pub const RD: u16 = 0x4452;
 
 pub const CA: u16 = 0x4143;
 
@@ -56,11 +60,50 @@ pub enum ReadPathHead {
     Refused(Refusal),
 }
 
-// What stands before a block's predecessors, and how many predecessors and paths there are.
+// Of a raw read, the instruction at which the path is read, and the mutable range of its
+// identifier.
+pub struct InstructionAndRange {
+    pub instruction: u32,
+    pub start: u32,
+    pub end: u32,
+}
+
+pub enum ReadInstructionAndRange {
+    Value(InstructionAndRange, usize),
+    Refused(Refusal),
+}
+
+// Of a raw read, the identifier's scope, and whether the identifier is known to be immutable.
+pub struct ScopeAndKnown {
+    pub has_scope: bool,
+    pub start: u32,
+    pub end: u32,
+    pub known_immutable: bool,
+}
+
+pub enum ReadScopeAndKnown {
+    Value(ScopeAndKnown, usize),
+    Refused(Refusal),
+}
+
+// What stands before the path of a raw read.
+pub struct RawHead {
+    pub range: InstructionAndRange,
+    pub scope: ScopeAndKnown,
+}
+
+pub enum ReadRawHead {
+    Value(RawHead, usize),
+    Refused(Refusal),
+}
+
+// What stands before a block's predecessors, and how many predecessors, paths and raw reads there
+// are.
 pub struct BlockHead {
     pub id: BlockId,
     pub predecessors: u8,
     pub assumed: u8,
+    pub raw: u8,
 }
 
 pub enum ReadBlockHead {
@@ -111,6 +154,39 @@ impl ReadPathHead {
         match self {
             ReadPathHead::Value(_, _) => Refusal::MissingByte,
             ReadPathHead::Refused(refusal) => refusal,
+        }
+    }
+}
+
+impl ReadInstructionAndRange {
+    pub fn refusal(self) -> Refusal
+        ensures { λ r. ⌜ r ≡ refusalOf (gotInstructionAndRange self) ⌝ }
+    {
+        match self {
+            ReadInstructionAndRange::Value(_, _) => Refusal::MissingByte,
+            ReadInstructionAndRange::Refused(refusal) => refusal,
+        }
+    }
+}
+
+impl ReadScopeAndKnown {
+    pub fn refusal(self) -> Refusal
+        ensures { λ r. ⌜ r ≡ refusalOf (gotScopeAndKnown self) ⌝ }
+    {
+        match self {
+            ReadScopeAndKnown::Value(_, _) => Refusal::MissingByte,
+            ReadScopeAndKnown::Refused(refusal) => refusal,
+        }
+    }
+}
+
+impl ReadRawHead {
+    pub fn refusal(self) -> Refusal
+        ensures { λ r. ⌜ r ≡ refusalOf (gotRawHead self) ⌝ }
+    {
+        match self {
+            ReadRawHead::Value(_, _) => Refusal::MissingByte,
+            ReadRawHead::Refused(refusal) => refusal,
         }
     }
 }
@@ -225,19 +301,26 @@ pub fn path_head_at(s: &[u8], at: usize) -> ReadPathHead
     )
 }
 
+// Past the fields of a path, from its identifier on.
+pub fn past_path_fields(s: &[u8], at: usize) -> Passed
+    ensures { λ r. ⌜ gotPlace r ≡ passed (readPathFields spanWidth (now (s .entry)) at) ⌝ }
+{
+    let head_field = path_head_at(s, at);
+    let ReadPathHead::Value(head, entries_at) = head_field else {
+        return Passed::Refused(head_field.refusal());
+    };
+    past_entries(s, entries_at, head.entries)
+}
+
 // Past a path under its mark.
 pub fn past_path(s: &[u8], at: usize, mark: u16) -> Passed
     ensures { λ r. ⌜ gotPlace r ≡ passed (readPath spanWidth mark (now (s .entry)) at) ⌝ }
 {
     let marked = fields::mark_at(s, at, mark);
-    let Passed::To(head_at) = marked else {
+    let Passed::To(fields_at) = marked else {
         return marked;
     };
-    let head_field = path_head_at(s, head_at);
-    let ReadPathHead::Value(head, entries_at) = head_field else {
-        return Passed::Refused(head_field.refusal());
-    };
-    past_entries(s, entries_at, head.entries)
+    past_path_fields(s, fields_at)
 }
 
 // Past `count` paths under one mark.
@@ -250,6 +333,110 @@ pub fn past_paths(s: &[u8], start: usize, count: u16, mark: u16) -> Passed
         let path = past_path(s, at, mark);
         let Passed::To(next) = path else {
             return path;
+        };
+        at = next;
+        left = left - 1;
+    }
+    Passed::To(at)
+}
+
+// A raw read's mark and the fields up to the end of its identifier's mutable range.
+fn instruction_and_range_at(s: &[u8], at: usize) -> ReadInstructionAndRange
+    ensures { λ r. ⌜ gotInstructionAndRange r ≡ readInstructionAndRange (now (s .entry)) at ⌝ }
+{
+    let marked = fields::mark_at(s, at, RD);
+    let Passed::To(instruction_at) = marked else {
+        return ReadInstructionAndRange::Refused(marked.refusal());
+    };
+    let instruction_field = fields::u32_at(s, instruction_at);
+    let ReadU32::Value(instruction, start_at) = instruction_field else {
+        return ReadInstructionAndRange::Refused(instruction_field.refusal());
+    };
+    let start_field = fields::range_start_at(s, start_at);
+    let ReadU32::Value(start, end_at) = start_field else {
+        return ReadInstructionAndRange::Refused(start_field.refusal());
+    };
+    let end_field = fields::u32_at(s, end_at);
+    let ReadU32::Value(end, next) = end_field else {
+        return ReadInstructionAndRange::Refused(end_field.refusal());
+    };
+    ReadInstructionAndRange::Value(
+        InstructionAndRange {
+            instruction,
+            start,
+            end,
+        },
+        next,
+    )
+}
+
+// The fields behind them, up to the path's.
+fn scope_and_known_at(s: &[u8], at: usize) -> ReadScopeAndKnown
+    ensures { λ r. ⌜ gotScopeAndKnown r ≡ readScopeAndKnown (now (s .entry)) at ⌝ }
+{
+    let has_scope_field = fields::flag_at(s, at);
+    let ReadFlag::Value(has_scope, start_at) = has_scope_field else {
+        return ReadScopeAndKnown::Refused(has_scope_field.refusal());
+    };
+    let start_field = fields::u32_at(s, start_at);
+    let ReadU32::Value(start, end_at) = start_field else {
+        return ReadScopeAndKnown::Refused(start_field.refusal());
+    };
+    let end_field = fields::u32_at(s, end_at);
+    let ReadU32::Value(end, known_at) = end_field else {
+        return ReadScopeAndKnown::Refused(end_field.refusal());
+    };
+    let known_field = fields::flag_at(s, known_at);
+    let ReadFlag::Value(known_immutable, next) = known_field else {
+        return ReadScopeAndKnown::Refused(known_field.refusal());
+    };
+    ReadScopeAndKnown::Value(
+        ScopeAndKnown {
+            has_scope,
+            start,
+            end,
+            known_immutable,
+        },
+        next,
+    )
+}
+
+// A raw read up to its path's fields.
+pub fn raw_head_at(s: &[u8], at: usize) -> ReadRawHead
+    ensures { λ r. ⌜ gotRawHead r ≡ readRawHead (now (s .entry)) at ⌝ }
+{
+    let range_field = instruction_and_range_at(s, at);
+    let ReadInstructionAndRange::Value(range, scope_at) = range_field else {
+        return ReadRawHead::Refused(range_field.refusal());
+    };
+    let scope_field = scope_and_known_at(s, scope_at);
+    let ReadScopeAndKnown::Value(scope, next) = scope_field else {
+        return ReadRawHead::Refused(scope_field.refusal());
+    };
+    ReadRawHead::Value(RawHead { range, scope }, next)
+}
+
+// Past a raw read.
+fn past_raw_read(s: &[u8], at: usize) -> Passed
+    ensures { λ r. ⌜ gotPlace r ≡ passed (readRawRead spanWidth (now (s .entry)) at) ⌝ }
+{
+    let head_field = raw_head_at(s, at);
+    let ReadRawHead::Value(_, fields_at) = head_field else {
+        return Passed::Refused(head_field.refusal());
+    };
+    past_path_fields(s, fields_at)
+}
+
+// Past `count` raw reads.
+pub fn past_raw_reads(s: &[u8], start: usize, count: u8) -> Passed
+    ensures { λ r. ⌜ gotPlace r ≡ passed (readMany count (readRawRead spanWidth) (now (s .entry)) start) ⌝ }
+{
+    let mut at = start;
+    let mut left = count;
+    while 0 < left {
+        let read = past_raw_read(s, at);
+        let Passed::To(next) = read else {
+            return read;
         };
         at = next;
         left = left - 1;
@@ -288,20 +475,25 @@ pub fn block_head_at(s: &[u8], at: usize) -> ReadBlockHead
         return ReadBlockHead::Refused(count_field.refusal());
     };
     let assumed_field = fields::u8_at(s, assumed_at);
-    let ReadU8::Value(assumed, next) = assumed_field else {
+    let ReadU8::Value(assumed, raw_at) = assumed_field else {
         return ReadBlockHead::Refused(assumed_field.refusal());
+    };
+    let raw_field = fields::u8_at(s, raw_at);
+    let ReadU8::Value(raw, next) = raw_field else {
+        return ReadBlockHead::Refused(raw_field.refusal());
     };
     ReadBlockHead::Value(
         BlockHead {
             id: BlockId(id),
             predecessors,
             assumed,
+            raw,
         },
         next,
     )
 }
 
-// The head of a block, and the place after its paths.
+// The id of a block, in a head of which nothing else is asked, and the place after its paths.
 fn block_at(s: &[u8], at: usize) -> ReadBlockHead
     ensures { λ r. ⌜ gotBlockId r ≡ mapped (λ (b : Block). b .id) (readBlock spanWidth (now (s .entry)) at) ⌝ }
 {
@@ -310,8 +502,12 @@ fn block_at(s: &[u8], at: usize) -> ReadBlockHead
         return head_field;
     };
     let ids = past_ids(s, ids_at, head.predecessors);
-    let Passed::To(paths_at) = ids else {
+    let Passed::To(reads_at) = ids else {
         return ReadBlockHead::Refused(ids.refusal());
+    };
+    let reads = past_raw_reads(s, reads_at, head.raw);
+    let Passed::To(paths_at) = reads else {
+        return ReadBlockHead::Refused(reads.refusal());
     };
     let paths = past_paths(s, paths_at, head.assumed as u16, PA);
     let Passed::To(next) = paths else {

@@ -17,7 +17,7 @@ use Rattle.model.specs.RoundsLaws.{rounds-most}
 use Rattle.model.specs.Reduction.{reduceMaybeOptionalChains}
 use Rattle.model.specs.Propagation.{JoiningRule, hasChanged, roundStart, round, propagateWith, propagateNonNull}
 use Rattle.model.specs.Stage.{graphOf, startOf, propagated}
-use Rattle.model.specs.Tests.{by-cond, never, test-passes, and-first, and-second}
+use Rattle.model.specs.Tests.{by-cond, never, test-passes, eqb-false, and-first, and-second}
 use Rattle.model.specs.ListLaws.{All, all-map, all-both, all-getD}
 use Rattle.model.specs.ReadingBytes.{
   Read,
@@ -38,7 +38,11 @@ use Rattle.model.specs.ReadingBytes.{
 use Rattle.entries.specs.Property.{propertyOf, valueOf}
 use Rattle.model.specs.Job.{
   readEntry,
+  readPathFields,
   readPath,
+  largestStart,
+  readRangeStart,
+  readRawRead,
   readBlock,
   Header,
   readHeader,
@@ -49,6 +53,7 @@ use Rattle.model.specs.Job.{
   acceptIds,
   BL,
   PA,
+  RD,
   CA,
   blockId,
   readBlockId,
@@ -82,7 +87,7 @@ use Rattle.laws.specs.CountLaws.{no-more}
 use Rattle.laws.specs.ForestLaws.{WayAlong, firsts-along, along-addAll}
 use Rattle.laws.specs.TreeLaws.{returned-one, returned-some}
 use Rattle.laws.specs.ReadBack.{EntryFits, PathFits}
-use Rattle.laws.specs.JobBack.{IdFits, BlockFits, JobFits}
+use Rattle.laws.specs.JobBack.{IdFits, RawReadFits, BlockFits, JobFits}
 
 -- What holds of the value and of the place after it, where a value is read.
 abbrev pub HoldsAfter : {A : Type 0} → (A → ℕ → Type 0) → Read A → Type 0
@@ -98,6 +103,11 @@ pub after-mapped : {A B : Type 0} (P : A → ℕ → Type 0) (Q : B → ℕ → 
     ((a : A) (next : ℕ) → P a next → Q (f a) next) → HoldsAfter Q (mapped f x)
 after-mapped P Q f (got a next) h g = g a next h
 after-mapped P Q f (refused r) h g = tt
+
+pub after-all : {A : Type 0} (P Q : A → ℕ → Type 0) (x : Read A) → HoldsAfter P x → ((a : A) (next : ℕ) → P a next → Q a next)
+    → HoldsAfter Q x
+after-all P Q (got a next) h f = f a next h
+after-all P Q (refused r) h f = tt
 
 pub after-got : {A : Type 0} (P : A → ℕ → Type 0) {x : Read A} {a : A} {next : ℕ} → HoldsAfter P x → x ≡ got a next → P a next
 after-got P h e = rw e at h
@@ -115,8 +125,7 @@ holds-mapped : {A B : Type 0} (P : A → Type 0) (Q : B → Type 0) (f : A → B
 holds-mapped P Q f x h g = after-mapped (λ a next. P a) (λ b next. Q b) f x h (λ a next. g a)
 
 holds-weaker : {A : Type 0} (P Q : A → Type 0) (x : Read A) → HoldsIfRead P x → ((a : A) → P a → Q a) → HoldsIfRead Q x
-holds-weaker P Q (got a next) h f = f a h
-holds-weaker P Q (refused r) h f = tt
+holds-weaker P Q x h f = after-all (λ a next. P a) (λ a next. Q a) x h (λ a next. f a)
 
 pub holds-got : {A : Type 0} (P : A → Type 0) {x : Read A} {a : A} {next : ℕ} → x ≡ got a next → HoldsIfRead P x → P a
 holds-got P e h = rw e at h
@@ -149,7 +158,7 @@ record HeaderFits (h : Header) : Type 0 where
   few-candidates : h .candidates ≤ 64
   scope : IdFits (h .scope)
 
--- a job that refusals 3 to 8 let through
+-- a job that refusals 3 to 8 and 10 let through
 pub record Acceptable (spanBytes : ℕ) (j : Job) : Type 0 where
   pub fits : JobFits spanBytes j
   pub no-repeat : hasRepeat j ≡ false
@@ -202,18 +211,48 @@ module _ (s : List ℕ) (bytes : All (λ b. b < 256) s) where
       holds-then (λ x. x < 256 ^ w) (EntryFits w) (readNumber w s spanAt) _ (number-fits w spanAt) (λ span next h.
       record { value = property-fits kind value v; span = h }))))
 
-  pub path-fits : (w mark at : ℕ) → HoldsIfRead (PathFits w) (readPath w mark s at)
-  unfolding readPath
-  path-fits w mark at =
-      holds-then (λ x. Unit {0}) (PathFits w) (readMark mark s at) _ (any-value (readMark mark s at)) (λ _ identifierAt _.
-      holds-then (λ x. x < 256 ^ 4) (PathFits w) (readNumber 4 s identifierAt) _ (number-fits 4 identifierAt) (λ identifier reactiveAt i.
+  fields-fit : (w at : ℕ) → HoldsIfRead (PathFits w) (readPathFields w s at)
+  unfolding readPathFields
+  fields-fit w at =
+      holds-then (λ x. x < 256 ^ 4) (PathFits w) (readNumber 4 s at) _ (number-fits 4 at) (λ identifier reactiveAt i.
       holds-then (λ x. Unit {0}) (PathFits w) (readFlag s reactiveAt) _ (any-value (readFlag s reactiveAt)) (λ reactive spanAt _.
       holds-then (λ x. x < 256 ^ w) (PathFits w) (readNumber w s spanAt) _ (number-fits w spanAt) (λ span countAt h.
       holds-then _ (PathFits w) (readWithin 0 16 readU8 s countAt) _ (within-fits 0 16 readU8 countAt) (λ count entriesAt c.
       holds-mapped (λ es. (length es ≡ count) × All (EntryFits w) es) (PathFits w)
       (λ entries. record { identifier = record { 0 = identifier }; reactive = reactive; path = entries; span = span })
       (readMany count (readEntry w) s entriesAt) (many-holds (EntryFits w) (readEntry w) s (entry-fits w) count entriesAt)
-      (λ es e. record { identifier = i; span = h; few = rw (e .0) (c .1); entries = e .1 }))))))
+      (λ es e. record { identifier = i; span = h; few = rw (e .0) (c .1); entries = e .1 })))))
+
+  pub path-fits : (w mark at : ℕ) → HoldsIfRead (PathFits w) (readPath w mark s at)
+  unfolding readPath
+  path-fits w mark at =
+      holds-then (λ x. Unit {0}) (PathFits w) (readMark mark s at) _ (any-value (readMark mark s at))
+      (λ _ fieldsAt _. fields-fit w fieldsAt)
+
+  -- a number of four bytes that is not the largest is below it
+  start-fits : (at : ℕ) → HoldsIfRead (λ x. x < largestStart) (readRangeStart s at)
+  unfolding readRangeStart
+  start-fits at =
+      holds-then (λ x. x < 256 ^ 4) (λ x. x < largestStart) (readNumber 4 s at) _ (number-fits 4 at)
+      (λ x next l. by-cond (HoldsIfRead (λ y. y < largestStart)) (eqb x largestStart) (λ e. tt)
+      (λ e. below x l (eqb-false x largestStart e)))
+    where
+      below : (x : ℕ) → x < 256 ^ 4 → (x ≡ largestStart → ⊥) → x < largestStart
+      below x l other = omega arith
+
+  raw-read-fits : (w at : ℕ) → HoldsIfRead (RawReadFits w) (readRawRead w s at)
+  unfolding readRawRead
+  raw-read-fits w at =
+      holds-then (λ x. Unit {0}) (RawReadFits w) (readMark RD s at) _ (any-value (readMark RD s at)) (λ _ instructionAt _.
+      holds-then (λ x. x < 256 ^ 4) (RawReadFits w) (readNumber 4 s instructionAt) _ (number-fits 4 instructionAt) (λ instruction startAt i.
+      holds-then (λ x. x < largestStart) (RawReadFits w) (readRangeStart s startAt) _ (start-fits startAt) (λ start endAt a.
+      holds-then (λ x. x < 256 ^ 4) (RawReadFits w) (readNumber 4 s endAt) _ (number-fits 4 endAt) (λ end hasScopeAt e.
+      holds-then (λ x. Unit {0}) (RawReadFits w) (readFlag s hasScopeAt) _ (any-value (readFlag s hasScopeAt)) (λ hasScope scopeStartAt _.
+      holds-then (λ x. x < 256 ^ 4) (RawReadFits w) (readNumber 4 s scopeStartAt) _ (number-fits 4 scopeStartAt) (λ scopeStart scopeEndAt b.
+      holds-then (λ x. x < 256 ^ 4) (RawReadFits w) (readNumber 4 s scopeEndAt) _ (number-fits 4 scopeEndAt) (λ scopeEnd knownAt c.
+      holds-then (λ x. Unit {0}) (RawReadFits w) (readFlag s knownAt) _ (any-value (readFlag s knownAt)) (λ known fieldsAt _.
+      holds-mapped (PathFits w) (RawReadFits w) _ (readPathFields w s fieldsAt) (fields-fit w fieldsAt) (λ d p.
+      record { instruction = i; range-start = a; range-end = e; scope-start = b; scope-end = c; path = p })))))))))
 
   block-fits : (w at : ℕ) → HoldsIfRead (BlockFits w) (readBlock w s at)
   unfolding readBlock
@@ -221,17 +260,22 @@ module _ (s : List ℕ) (bytes : All (λ b. b < 256) s) where
       holds-then (λ x. Unit {0}) (BlockFits w) (readMark BL s at) _ (any-value (readMark BL s at)) (λ _ idAt _.
       holds-then IdFits (BlockFits w) (readBlockId s idAt) _ (id-fits idAt) (λ id countAt i.
       holds-then _ (BlockFits w) (readWithin 0 64 readU8 s countAt) _ (within-fits 0 64 readU8 countAt) (λ count assumedAt c.
-      holds-then (λ x. x < 256 ^ 1) (BlockFits w) (readU8 s assumedAt) _ (number-fits 1 assumedAt) (λ assumed idsAt a.
+      holds-then (λ x. x < 256 ^ 1) (BlockFits w) (readU8 s assumedAt) _ (number-fits 1 assumedAt) (λ assumed rawAt a.
+      holds-then (λ x. x < 256 ^ 1) (BlockFits w) (readU8 s rawAt) _ (number-fits 1 rawAt) (λ raw idsAt b.
       holds-then _ (BlockFits w) (readMany count readBlockId s idsAt) _
-      (many-holds IdFits readBlockId s id-fits count idsAt) (λ ids pathsAt p.
+      (many-holds IdFits readBlockId s id-fits count idsAt) (λ ids readsAt p.
+      holds-then _ (BlockFits w) (readMany raw (readRawRead w) s readsAt) _
+      (many-holds (RawReadFits w) (readRawRead w) s (raw-read-fits w) raw readsAt) (λ reads pathsAt r.
       holds-mapped _ (BlockFits w) _ (readMany assumed (readPath w PA) s pathsAt)
       (many-holds (PathFits w) (readPath w PA) s (path-fits w PA) assumed pathsAt) (λ paths d. record {
         id = i;
         few = rw (p .0) (c .1);
         predecessors = p .1;
-        few-assumed = rw (d .0) (omega arith);
-        assumed = d .1;
-      }))))))
+        few-raw = rw (r .0) (omega arith);
+        raw = r .1;
+        few-ready = rw (d .0) (omega arith);
+        ready = d .1;
+      }))))))))
 
   header-fits : (mark at : ℕ) → HoldsIfRead HeaderFits (readHeader mark s at)
   unfolding readHeader

@@ -1,17 +1,17 @@
 -- A job's bytes read to the job, for any mark of the header and any width of a span, where each
--- number fits its width.
+-- number fits its width and no range start is the largest number.
 use Prim.Native.Nat.{ℕ, _^_, _≤_, _<_}
 use native.Mathlib.Omega.{arith}
-use mathlib.Core.Path.{_≡_, refl}
+use mathlib.Core.Path.{_≡_, refl, sym, ap, subst, _∙_}
 use mathlib.Core.Bool.{false, cond}
 use mathlib.Core.List.{List, _++_, append-assoc}
 use lib.ListN.{length}
 use lib.Dec.{eqb}
 use Rattle.entries.specs.declared.BlockId.{BlockId}
-use Rattle.entries.specs.declared.Refusal.the-variants.{ExtraByte}
+use Rattle.entries.specs.declared.Refusal.the-variants.{ExtraByte, LargestStart}
 use Rattle.entries.specs.Path.{ReactiveScopeDependency}
 use Rattle.model.specs.Lists.{concatMap}
-use Rattle.model.specs.Tests.{eqb-same}
+use Rattle.model.specs.Tests.{eqb-same, eqb-apart}
 use Rattle.model.specs.ListLaws.{All, all-map}
 use Rattle.model.specs.ReadingBytes.{
   Read,
@@ -25,12 +25,19 @@ use Rattle.model.specs.ReadingBytes.{
   readU16,
   readMark,
   readWithin,
+  readFlag,
 }
+use Rattle.model.specs.RawReads.{RawRead}
 use Rattle.model.specs.Job.{
   BL,
   PA,
+  RD,
   CA,
+  readPathFields,
   readPath,
+  largestStart,
+  readRangeStart,
+  readRawRead,
   Block,
   blockId,
   readBlockId,
@@ -44,8 +51,8 @@ use Rattle.model.specs.Job.{
   acceptIds,
   readJob,
 }
-use Rattle.model.specs.Answer.{u16, u32, pathBytes}
-use Rattle.model.specs.JobBytes.{blockBytes, jobBytes}
+use Rattle.model.specs.Answer.{u8, u16, u32, flag, pathFieldBytes, pathBytes}
+use Rattle.model.specs.JobBytes.{rawReadBytes, blockBytes, jobBytes}
 use Rattle.laws.specs.ReadBack.{
   ReadsBack,
   reads-whole,
@@ -54,9 +61,11 @@ use Rattle.laws.specs.ReadBack.{
   end-back,
   number-back,
   value-back,
+  flag-back,
   mark-back,
   many-back,
   PathFits,
+  fields-back,
   path-back,
 }
 
@@ -64,12 +73,23 @@ use Rattle.laws.specs.ReadBack.{
 abbrev pub IdFits : BlockId → Type 0
 IdFits i = i .0 < 256 ^ 4
 
+-- the numbers of a raw read; its range start is not the largest number
+pub record RawReadFits (spanBytes : ℕ) (r : RawRead) : Type 0 where
+  pub instruction : r .instruction < 256 ^ 4
+  pub range-start : r .rangeStart < largestStart
+  pub range-end : r .rangeEnd < 256 ^ 4
+  pub scope-start : r .scopeStart < 256 ^ 4
+  pub scope-end : r .scopeEnd < 256 ^ 4
+  pub path : PathFits spanBytes (r .path)
+
 pub record BlockFits (spanBytes : ℕ) (b : Block) : Type 0 where
   pub id : IdFits (b .id)
   pub few : length (b .predecessors) ≤ 64
   pub predecessors : All IdFits (b .predecessors)
-  pub few-assumed : length (b .assumed) < 256
-  pub assumed : All (PathFits spanBytes) (b .assumed)
+  pub few-raw : length (b .rawReads) < 256
+  pub raw : All (RawReadFits spanBytes) (b .rawReads)
+  pub few-ready : length (b .readyPaths) < 256
+  pub ready : All (PathFits spanBytes) (b .readyPaths)
 
 pub record JobFits (spanBytes : ℕ) (j : Job) : Type 0 where
   pub scope : IdFits (j .scope)
@@ -92,20 +112,56 @@ paths-back : (w mark : ℕ) (ds : List ReactiveScopeDependency) → mark < 256 ^
 paths-back w mark ds m h = many-back (readPath w mark) (pathBytes w mark) ds
     (all-map (PathFits w) _ (λ d f. path-back w mark d m f) ds h)
 
+start-back : (x : ℕ) → x < largestStart → ReadsBack readRangeStart x (u32 x)
+unfolding readRangeStart
+start-back x h = record {
+  back = λ front rest.
+      ap (λ y. andThen y (λ found next. cond (eqb found largestStart) (refused LargestStart) (got found next)))
+      (number-back 4 x (omega arith) .back front rest)
+      ∙ rw (eqb-apart x largestStart (λ e. omega arith));
+}
+
+-- nine parts one after the other
+nine-parts : (a b c d e f g h i : List ℕ)
+    → a ++ b ++ c ++ d ++ e ++ f ++ g ++ h ++ i ≡ a ++ (b ++ (c ++ (d ++ (e ++ (f ++ (g ++ (h ++ i)))))))
+nine-parts a b c d e f g h i = simp append-assoc
+
+raw-read-back : (w : ℕ) (r : RawRead) → RawReadFits w r → ReadsBack (readRawRead w) r (rawReadBytes w r)
+unfolding readRawRead rawReadBytes
+raw-read-back w r f =
+    subst (ReadsBack (readRawRead w) r) (sym (nine-parts (u16 RD) (u32 (r .instruction)) (u32 (r .rangeStart)) (u32 (r .rangeEnd))
+    (u8 (flag (r .hasScope))) (u32 (r .scopeStart)) (u32 (r .scopeEnd)) (u8 (flag (r .knownImmutable))) (pathFieldBytes w (r .path))))
+    (then-back (readMark RD) _ tt r _ _ (mark-back RD (omega arith))
+    (then-back (readNumber 4) _ (r .instruction) r _ _ (number-back 4 (r .instruction) (f .instruction))
+    (then-back readRangeStart _ (r .rangeStart) r _ _ (start-back (r .rangeStart) (f .range-start))
+    (then-back (readNumber 4) _ (r .rangeEnd) r _ _ (number-back 4 (r .rangeEnd) (f .range-end))
+    (then-back readFlag _ (r .hasScope) r _ _ (flag-back (r .hasScope))
+    (then-back (readNumber 4) _ (r .scopeStart) r _ _ (number-back 4 (r .scopeStart) (f .scope-start))
+    (then-back (readNumber 4) _ (r .scopeEnd) r _ _ (number-back 4 (r .scopeEnd) (f .scope-end))
+    (then-back readFlag _ (r .knownImmutable) r _ _ (flag-back (r .knownImmutable))
+    (mapped-back (readPathFields w) _ (r .path) _ (fields-back w (r .path) (f .path)))))))))))
+
+raw-reads-back : (w : ℕ) (rs : List RawRead) → All (RawReadFits w) rs
+    → ReadsBack (readMany (length rs) (readRawRead w)) rs (concatMap (rawReadBytes w) rs)
+raw-reads-back w rs h = many-back (readRawRead w) (rawReadBytes w) rs (all-map (RawReadFits w) _ (raw-read-back w) rs h)
+
 pub block-back : (w : ℕ) (b : Block) → BlockFits w b → ReadsBack (readBlock w) b (blockBytes w b)
 unfolding readBlock blockBytes
 block-back w b f =
     let few = f .few in
-    let few-assumed = f .few-assumed in
+    let few-raw = f .few-raw in
+    let few-ready = f .few-ready in
     simp append-assoc
     (then-back (readMark BL) _ tt b _ _ (mark-back BL (omega arith))
     (then-back readBlockId _ (b .id) b _ _ (id-back (b .id) (f .id))
     (then-back (readWithin 0 64 readU8) _ (length (b .predecessors)) b _ _
     (value-back 1 (length (b .predecessors)) 0 64 (omega arith) (omega arith) few)
-    (then-back readU8 _ (length (b .assumed)) b _ _ (number-back 1 (length (b .assumed)) (omega arith))
+    (then-back readU8 _ (length (b .readyPaths)) b _ _ (number-back 1 (length (b .readyPaths)) (omega arith))
+    (then-back readU8 _ (length (b .rawReads)) b _ _ (number-back 1 (length (b .rawReads)) (omega arith))
     (then-back (readMany (length (b .predecessors)) readBlockId) _ (b .predecessors) b _ _ (ids-back (b .predecessors) (f .predecessors))
-    (mapped-back (readMany (length (b .assumed)) (readPath w PA)) _ (b .assumed) _
-    (paths-back w PA (b .assumed) (omega arith) (f .assumed))))))))
+    (then-back (readMany (length (b .rawReads)) (readRawRead w)) _ (b .rawReads) b _ _ (raw-reads-back w (b .rawReads) (f .raw))
+    (mapped-back (readMany (length (b .readyPaths)) (readPath w PA)) _ (b .readyPaths) _
+    (paths-back w PA (b .readyPaths) (omega arith) (f .ready))))))))))
 
 -- The fields of HD, written.
 abbrev pub headerBytes : ℕ → Header → List ℕ

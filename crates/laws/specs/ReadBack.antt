@@ -33,9 +33,9 @@ use Rattle.model.specs.ReadingBytes.{
 use Rattle.model.specs.Rounds.{Rounds}
 use Rattle.model.specs.Propagation.{Work}
 use Rattle.entries.specs.Property.{propertyOf, isNumber, valueOf, property-back}
-use Rattle.model.specs.Job.{Job, readEntry, readPath}
+use Rattle.model.specs.Job.{Job, readEntry, readPathFields, readPath}
 use Rattle.model.specs.Stage.{returnedPaths}
-use Rattle.model.specs.Answer.{numberBytes, flag, AN, DE, stepBytes, entryBytes, pathBytes, answerBytes, Answered, readAnswer}
+use Rattle.model.specs.Answer.{numberBytes, flag, AN, DE, entryBytes, pathFieldBytes, pathBytes, answerBytes, Answered, readAnswer}
 
 -- the reader gives the value where these bytes begin, whatever stands before and after them
 pub record ReadsBack {A : Type 0} (read : ByteReader A) (a : A) (bytes : List ℕ) : Type 0 where
@@ -117,7 +117,7 @@ value-back n x least most h low high = record {
       ∙ rw (inside, below);
 }
 
-flag-back : (b : Bool) → ReadsBack readFlag b (numberBytes 1 (flag b))
+pub flag-back : (b : Bool) → ReadsBack readFlag b (numberBytes 1 (flag b))
 unfolding readFlag readNumber
 flag-back true = mapped-back (readWithin 0 1 (readNumber 1)) (λ x. eqb x 1) 1 (numberBytes 1 1)
     (value-back 1 1 0 1 (omega arith) (omega arith) (omega arith))
@@ -206,64 +206,24 @@ entry-back w e f = subst (ReadsBack (readEntry w) e) (sym regroup)
         (made (e .optional) (isNumber (e .property)) (valueOf (e .property)) (e .span)) kind-bytes (value-bytes ++ span-bytes)
         (flag-back (isNumber (e .property))) value-on)
 
+pub fields-back : (w : ℕ) (d : ReactiveScopeDependency) → PathFits w d → ReadsBack (readPathFields w) d (pathFieldBytes w d)
+unfolding readPathFields pathFieldBytes
+fields-back w d f =
+    simp append-assoc
+    (then-back (readNumber 4) _ (d .identifier .0) d _ _ (number-back 4 (d .identifier .0) (f .identifier))
+    (then-back readFlag _ (d .reactive) d _ _ (flag-back (d .reactive))
+    (then-back (readNumber w) _ (d .span) d _ _ (number-back w (d .span) (f .span))
+    (then-back (readWithin 0 16 readU8) _ (length (d .path)) d _ _
+    (value-back 1 (length (d .path)) 0 16 (let few = f .few in omega arith) (omega arith) (f .few))
+    (mapped-back (readMany (length (d .path)) (readEntry w)) _ (d .path) _
+    (many-back (readEntry w) (entryBytes w) (d .path)
+    (all-map (EntryFits w) (λ e. ReadsBack (readEntry w) e (entryBytes w e)) (entry-back w) (d .path) (f .entries))))))))
+
 pub path-back : (w mark : ℕ) (d : ReactiveScopeDependency) → mark < 256 ^ 2 → PathFits w d → ReadsBack (readPath w mark) d
     (pathBytes w mark d)
 unfolding readPath pathBytes
 path-back w mark d m f =
-    subst (ReadsBack (readPath w mark) d) (sym regroup)
-    (then-back (readMark mark) (λ _. afterMark) tt d (numberBytes 2 mark)
-    (identifier-bytes ++ (reactive-bytes ++ (span-bytes ++ (count-bytes ++ entries-bytes)))) (mark-back mark m)
-    (then-back (readNumber 4) afterIdentifier (d .identifier .0) d identifier-bytes
-    (reactive-bytes ++ (span-bytes ++ (count-bytes ++ entries-bytes))) (number-back 4 (d .identifier .0) (f .identifier))
-    (then-back readFlag (afterReactive (d .identifier .0)) (d .reactive) d reactive-bytes
-    (span-bytes ++ (count-bytes ++ entries-bytes)) (flag-back (d .reactive))
-    (then-back (readNumber w) (afterSpan (d .identifier .0) (d .reactive)) (d .span) d span-bytes (count-bytes ++ entries-bytes)
-    (number-back w (d .span) (f .span))
-    (then-back (readWithin 0 16 readU8) (afterCount (d .identifier .0) (d .reactive) (d .span))
-    (length (d .path)) d count-bytes entries-bytes
-    (value-back 1 (length (d .path)) 0 16 (let few = f .few in omega arith) (omega arith) (f .few))
-    (mapped-back (readMany (length (d .path)) (readEntry w)) (made (d .identifier .0) (d .reactive) (d .span)) (d .path) entries-bytes
-    (many-back (readEntry w) (entryBytes w) (d .path)
-    (all-map (EntryFits w) (λ e. ReadsBack (readEntry w) e (entryBytes w e)) (entry-back w) (d .path) (f .entries)))))))))
-  where
-    identifier-bytes : List ℕ
-    identifier-bytes = numberBytes 4 (d .identifier .0)
-
-    reactive-bytes : List ℕ
-    reactive-bytes = numberBytes 1 (flag (d .reactive))
-
-    span-bytes : List ℕ
-    span-bytes = numberBytes w (d .span)
-
-    count-bytes : List ℕ
-    count-bytes = numberBytes 1 (length (d .path))
-
-    entries-bytes : List ℕ
-    entries-bytes = concatMap (entryBytes w) (d .path)
-
-    regroup : pathBytes w mark d ≡ numberBytes 2
-        mark ++ (identifier-bytes ++ (reactive-bytes ++ (span-bytes ++ (count-bytes ++ entries-bytes))))
-    regroup = simp append-assoc
-
-    made : ℕ → Bool → ℕ → List DependencyPathEntry → ReactiveScopeDependency
-    made identifier reactive span entries = record
-        { identifier = record { 0 = identifier }; reactive = reactive; path = entries; span = span }
-
-    afterCount : ℕ → Bool → ℕ → ℕ → ByteReader ReactiveScopeDependency
-    afterCount identifier reactive span count s at = mapped (made identifier reactive span) (readMany count (readEntry w) s at)
-
-    afterSpan : ℕ → Bool → ℕ → ByteReader ReactiveScopeDependency
-    afterSpan identifier reactive span s at = andThen (readWithin 0 16 readU8 s at)
-        (λ count next. afterCount identifier reactive span count s next)
-
-    afterReactive : ℕ → Bool → ByteReader ReactiveScopeDependency
-    afterReactive identifier reactive s at = andThen (readNumber w s at) (λ span next. afterSpan identifier reactive span s next)
-
-    afterIdentifier : ℕ → ByteReader ReactiveScopeDependency
-    afterIdentifier identifier s at = andThen (readFlag s at) (λ reactive next. afterReactive identifier reactive s next)
-
-    afterMark : ByteReader ReactiveScopeDependency
-    afterMark s at = andThen (readNumber 4 s at) (λ identifier next. afterIdentifier identifier s next)
+    then-back (readMark mark) (λ _. readPathFields w) tt d (numberBytes 2 mark) (pathFieldBytes w d) (mark-back mark m) (fields-back w d f)
 
 -- The answer holds the returned paths, the rounds and whether they settled.
 pub answer-back : (w : ℕ) (job : Job) (p : Rounds Work) → length (returnedPaths job (p .work)) < 256 ^ 2 → p .rounds < 256 → All

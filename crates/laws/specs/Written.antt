@@ -16,12 +16,18 @@ use Rattle.model.specs.Lists.{concatMap}
 use Rattle.model.specs.Tests.{by-cond, test-passes, eqb-true, ltb-true, and-second}
 use Rattle.model.specs.ListLaws.{All, all-getD}
 use Rattle.model.specs.ReadingBytes.{got, ByteReader, readMany, readByte, readNumber, readU8, readU16, readMark, readWithin, readFlag}
+use Rattle.model.specs.RawReads.{RawRead}
 use Rattle.model.specs.Job.{
   BL,
   PA,
+  RD,
   CA,
   readEntry,
+  readPathFields,
   readPath,
+  largestStart,
+  readRangeStart,
+  readRawRead,
   Block,
   blockId,
   readBlockId,
@@ -33,10 +39,10 @@ use Rattle.model.specs.Job.{
   acceptIds,
   readJob,
 }
-use Rattle.model.specs.Answer.{numberBytes, u8, u16, u32, flag, entryBytes, pathBytes}
-use Rattle.model.specs.JobBytes.{blockBytes, jobBytes}
+use Rattle.model.specs.Answer.{numberBytes, u8, u16, u32, flag, entryBytes, pathFieldBytes, pathBytes}
+use Rattle.model.specs.JobBytes.{rawReadBytes, blockBytes, jobBytes}
 use Rattle.laws.specs.JobBack.{headerBytes, readParts, endsThere, records-parts, job-reads}
-use Rattle.laws.specs.Fits.{HoldsAfter, after-then, after-mapped, after-got, ids-let-through, Acceptable, read-acceptable}
+use Rattle.laws.specs.Fits.{HoldsAfter, after-then, after-mapped, after-all, after-got, ids-let-through, Acceptable, read-acceptable}
 
 -- Bytes between two places.
 
@@ -151,17 +157,43 @@ module _ (s : List ℕ) (bytes : All (λ b. b < 256) s) where
       after-then _ (λ e next. Stand s at (entryBytes w e) next) (readNumber w s spanAt) _ (number-stands w spanAt) (λ span next h.
       simp (is-number, value-of) (stand-then (stand-then (stand-then o k) v) h)))))
 
-  pub path-stands : (w mark : ℕ) → Written (pathBytes w mark) s (readPath w mark)
-  unfolding readPath pathBytes
-  path-stands w mark at =
-      after-then _ _ (readMark mark s at) _ (mark-stands mark at) (λ _ identifierAt m.
-      after-then _ _ (readNumber 4 s identifierAt) _ (number-stands 4 identifierAt) (λ identifier reactiveAt i.
+  fields-stand : (w : ℕ) → Written (pathFieldBytes w) s (readPathFields w)
+  unfolding readPathFields pathFieldBytes
+  fields-stand w at =
+      after-then _ _ (readNumber 4 s at) _ (number-stands 4 at) (λ identifier reactiveAt i.
       after-then _ _ (readFlag s reactiveAt) _ (flag-stands reactiveAt) (λ reactive spanAt r.
       after-then _ _ (readNumber w s spanAt) _ (number-stands w spanAt) (λ span countAt h.
       after-then _ _ (readWithin 0 16 readU8 s countAt) _ (within-stands 0 16 1 countAt) (λ count entriesAt c.
-      after-mapped _ (λ d next. Stand s at (pathBytes w mark d) next) _ (readMany count (readEntry w) s entriesAt)
+      after-mapped _ (λ d next. Stand s at (pathFieldBytes w d) next) _ (readMany count (readEntry w) s entriesAt)
       (many-stand (entryBytes w) s (readEntry w) (entry-stands w) count entriesAt) (λ es next e.
-      rw (e .0) (stand-then (stand-then (stand-then (stand-then (stand-then m i) r) h) (c .1)) (e .1))))))))
+      rw (e .0) (stand-then (stand-then (stand-then (stand-then i r) h) (c .1)) (e .1)))))))
+
+  pub path-stands : (w mark : ℕ) → Written (pathBytes w mark) s (readPath w mark)
+  unfolding readPath pathBytes
+  path-stands w mark at =
+      after-then _ (λ d next. Stand s at (pathBytes w mark d) next) (readMark mark s at) _ (mark-stands mark at) (λ _ fieldsAt m.
+      after-all (λ d next. Stand s fieldsAt (pathFieldBytes w d) next) _ (readPathFields w s fieldsAt) (fields-stand w fieldsAt)
+      (λ d next f. stand-then m f))
+
+  start-stands : Written u32 s readRangeStart
+  unfolding readRangeStart
+  start-stands at =
+      after-then (λ x next. Stand s at (u32 x) next) _ (readNumber 4 s at) _ (number-stands 4 at) (λ x next h.
+      by-cond (HoldsAfter (λ y end. Stand s at (u32 y) end)) (eqb x largestStart) (λ e. tt) (λ e. h))
+
+  pub raw-read-stands : (w : ℕ) → Written (rawReadBytes w) s (readRawRead w)
+  unfolding readRawRead rawReadBytes
+  raw-read-stands w at =
+      after-then _ _ (readMark RD s at) _ (mark-stands RD at) (λ _ instructionAt m.
+      after-then _ _ (readNumber 4 s instructionAt) _ (number-stands 4 instructionAt) (λ instruction startAt i.
+      after-then _ _ (readRangeStart s startAt) _ (start-stands startAt) (λ start endAt a.
+      after-then _ _ (readNumber 4 s endAt) _ (number-stands 4 endAt) (λ end hasScopeAt e.
+      after-then _ _ (readFlag s hasScopeAt) _ (flag-stands hasScopeAt) (λ hasScope scopeStartAt h.
+      after-then _ _ (readNumber 4 s scopeStartAt) _ (number-stands 4 scopeStartAt) (λ scopeStart scopeEndAt b.
+      after-then _ _ (readNumber 4 s scopeEndAt) _ (number-stands 4 scopeEndAt) (λ scopeEnd knownAt c.
+      after-then _ _ (readFlag s knownAt) _ (flag-stands knownAt) (λ known fieldsAt k.
+      after-mapped _ (λ r next. Stand s at (rawReadBytes w r) next) _ (readPathFields w s fieldsAt) (fields-stand w fieldsAt) (λ d next f.
+      stand-then (stand-then (stand-then (stand-then (stand-then (stand-then (stand-then (stand-then m i) a) e) h) b) c) k) f)))))))))
 
   pub block-stands : (w : ℕ) → Written (blockBytes w) s (readBlock w)
   unfolding readBlock blockBytes
@@ -169,12 +201,17 @@ module _ (s : List ℕ) (bytes : All (λ b. b < 256) s) where
       after-then _ _ (readMark BL s at) _ (mark-stands BL at) (λ _ idAt m.
       after-then _ _ (readBlockId s idAt) _ (id-stands idAt) (λ id countAt i.
       after-then _ _ (readWithin 0 64 readU8 s countAt) _ (within-stands 0 64 1 countAt) (λ predecessors assumedAt p.
-      after-then _ _ (readU8 s assumedAt) _ (number-stands 1 assumedAt) (λ assumed idsAt a.
+      after-then _ _ (readU8 s assumedAt) _ (number-stands 1 assumedAt) (λ assumed rawAt a.
+      after-then _ _ (readU8 s rawAt) _ (number-stands 1 rawAt) (λ raw idsAt r.
       after-then _ _ (readMany predecessors readBlockId s idsAt) _
-      (many-stand (λ (i : BlockId). u32 (i .0)) s readBlockId id-stands predecessors idsAt) (λ ids pathsAt is.
+      (many-stand (λ (i : BlockId). u32 (i .0)) s readBlockId id-stands predecessors idsAt) (λ ids readsAt is.
+      after-then _ _ (readMany raw (readRawRead w) s readsAt) _
+      (many-stand (rawReadBytes w) s (readRawRead w) (raw-read-stands w) raw readsAt) (λ reads pathsAt rs.
       after-mapped _ (λ b next. Stand s at (blockBytes w b) next) _ (readMany assumed (readPath w PA) s pathsAt)
       (many-stand (pathBytes w PA) s (readPath w PA) (path-stands w PA) assumed pathsAt) (λ paths next ps.
-      rw (is .0, ps .0) (stand-then (stand-then (stand-then (stand-then (stand-then m i) (p .1)) a) (is .1)) (ps .1))))))))
+      rw (is .0, rs .0, ps .0)
+      (stand-then
+      (stand-then (stand-then (stand-then (stand-then (stand-then (stand-then m i) (p .1)) a) r) (is .1)) (rs .1)) (ps .1))))))))))
 
   pub header-stands : (head : ℕ) → Written (headerBytes head) s (readHeader head)
   unfolding readHeader
@@ -222,6 +259,10 @@ module _ (s : List ℕ) (bytes : All (λ b. b < 256) s) where
       → Stand s at (concatMap (pathBytes w mark) ds) next
   paths-written w mark = many-written (pathBytes w mark) s (readPath w mark) (path-stands w mark)
 
+  pub raw-reads-written : (w n at : ℕ) {rs : List RawRead} {next : ℕ} → readMany n (readRawRead w) s at ≡ got rs next
+      → Stand s at (concatMap (rawReadBytes w) rs) next
+  raw-reads-written w = many-written (rawReadBytes w) s (readRawRead w) (raw-read-stands w)
+
   pub ids-written : (n at : ℕ) {ids : List BlockId} {next : ℕ} → readMany n readBlockId s at ≡ got ids next
       → Stand s at (concatMap (λ (i : BlockId). u32 (i .0)) ids) next
   ids-written = many-written (λ i. u32 (i .0)) s readBlockId id-stands
@@ -251,7 +292,7 @@ job-reads-again head w s bytes j end e =
     rw (← job-written head w s bytes j end e) (e ∙ ap (got j) (job-end head w s bytes j end e))
 
 -- Reading and writing are inverse: bytes read to a job if and only if it is one that refusals 3 to
--- 8 let through and they are its bytes. The reading ends where they end.
+-- 8 and 10 let through and they are its bytes. The reading ends where they end.
 pub read-written-inverse : (head w : ℕ) (s : List ℕ) (j : Job)
     → (All (λ b. b < 256) s → (end : ℕ) → readJob head w s ≡ got j end
     → Acceptable w j × (s ≡ jobBytes head w j) × (end ≡ length s))

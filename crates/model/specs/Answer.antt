@@ -94,12 +94,17 @@ stepBytes e = u8 (flag (e .optional)) ++ u8 (flag (isNumber (e .property))) ++ u
 abbrev pub entryBytes : ℕ → DependencyPathEntry → List ℕ
 entryBytes spanBytes e = stepBytes e ++ numberBytes spanBytes (e .span)
 
--- a path under a mark, "fields as PA"
-unfoldable pub pathBytes : ℕ → ℕ → ReactiveScopeDependency → List ℕ
+-- "Fields as PA": "identifier u32, reactive u8 (0 or 1), span u32, entry count u8 .., then entries"
+unfoldable pub pathFieldBytes : ℕ → ReactiveScopeDependency → List ℕ
 unfolding numberBytes
-pathBytes spanBytes mark d =
-    u16 mark ++ u32 (d .identifier .0) ++ u8 (flag (d .reactive)) ++ numberBytes spanBytes (d .span) ++ u8 (length (d .path))
+pathFieldBytes spanBytes d =
+    u32 (d .identifier .0) ++ u8 (flag (d .reactive)) ++ numberBytes spanBytes (d .span) ++ u8 (length (d .path))
     ++ concatMap (entryBytes spanBytes) (d .path)
+
+-- a path under a mark
+unfoldable pub pathBytes : ℕ → ℕ → ReactiveScopeDependency → List ℕ
+unfolding numberBytes pathFieldBytes
+pathBytes spanBytes mark d = u16 mark ++ pathFieldBytes spanBytes d
 
 -- "The answer is AN, count u16, rounds u8, settled u8 (1 or 0), then a DE record per returned path,
 -- fields as PA."
@@ -205,8 +210,8 @@ withinLengths leastOut mostJob job out rest =
 abbrev pub withinNodes : Rounds Work → List ℕ → Verdict
 withinNodes p bytes = cond (ltb nodeLimit (length (p .work .registry))) (turnsBack ManyNodes) (writes bytes)
 
--- A job that was read is propagated, 9 is looked at, and the bytes are written; 3 to 8 stay what
--- they are.
+-- A job that was read is propagated, 9 is looked at, and the bytes are written; 3 to 8 and 10 stay
+-- what they are.
 abbrev pub onJob : JoiningRule → (Job → Started → Rounds Work → List ℕ) → Read Job → Verdict
 onJob rule bytes (got job next) = let p = propagated rule (job .blocks) in withinNodes p (bytes job (startOf (job .blocks)) p)
 onJob rule bytes (refused r) = turnsBack r
@@ -223,8 +228,8 @@ longestJob = 32768
 abbrev pub spanWidth : ℕ
 spanWidth = 4
 
--- 1 and 2, then 3 to 8, and 9: of a job with a header of this mark and spans of so many bytes,
--- under a joining rule; `bytes` says what is written.
+-- 1 and 2, then 3 to 8 and 10, and 9: of a job with a header of this mark and spans of so many
+-- bytes, under a joining rule; `bytes` says what is written.
 unfoldable pub verdict : ℕ → ℕ → JoiningRule → Writing → List ℕ → List ℕ → Verdict
 unfolding readJob enterBlocks propagated
 verdict head spanBytes rule bytes job out =

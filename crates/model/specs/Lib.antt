@@ -10,6 +10,7 @@ pub mod Propagation
 pub mod Forest
 pub mod Tree
 pub mod ReadingBytes
+pub mod RawReads
 pub mod Job
 pub mod Stage
 pub mod Answer
@@ -22,6 +23,7 @@ pub mod Examples
 pub mod ThinExamples
 pub mod StrictExamples
 pub mod SheetExamples
+pub mod RawReadExamples
 -- laws
 pub mod Tests
 pub mod ListLaws

@@ -36,7 +36,7 @@ use Rattle.model.specs.Propagation.{
   propagateWith,
   propagateNonNull,
 }
-use Rattle.model.specs.Job.{Block}
+use Rattle.model.specs.Job.{Block, assumedOf}
 use Rattle.model.specs.Stage.{
   PathsEntered,
   enterPath,
@@ -324,7 +324,7 @@ unfolding enterBlocks
 blocks-begun reg [] h = record { sound = h; extends = extends-refl reg; members = tt }
 blocks-begun reg (b ∷ bs) h =
     let e = enterBlock reg b in
-    let first = paths-filled (noneEntered reg) (b .assumed) h (members-empty reg) in
+    let first = paths-filled (noneEntered reg) (assumedOf b) h (members-empty reg) in
     let rest = blocks-begun (e .registry) bs (first .sound) in
     record {
       sound = rest .sound;
@@ -332,6 +332,11 @@ blocks-begun reg (b ∷ bs) h =
           (rest .extends);
       members = (members-extends (e .set) (rest .extends) (first .members), rest .members);
     }
+
+-- Paths are entered one list after the other.
+pub paths-append : (e : PathsEntered) (ds es : List ReactiveScopeDependency) → enterPaths e (ds ++ es) ≡ enterPaths (enterPaths e ds) es
+paths-append e [] es = refl
+paths-append e (d ∷ ds) es = paths-append (enterPath e d) ds es
 
 -- What was made for paths, and for all blocks, is how much longer the registry is.
 pub paths-longer : (e : PathsEntered) (ds : List ReactiveScopeDependency)
@@ -350,7 +355,7 @@ unfolding enterBlocks
 blocks-longer reg [] = omega arith
 blocks-longer reg (b ∷ bs) =
     let e = enterBlock reg b in
-    let first : length (e .registry) + 0 ≡ length reg + e .made = paths-longer (noneEntered reg) (b .assumed) in
+    let first : length (e .registry) + 0 ≡ length reg + e .made = paths-longer (noneEntered reg) (assumedOf b) in
     let rest = blocks-longer (e .registry) bs in
     omega arith
 

@@ -125,7 +125,8 @@ none-added-by-strict = (refl, refl, refl)
 
 -- Sheets.
 
--- the sheet of document 01's job in hex: one node, there before the first round
+-- the sheet of document 01's job in hex, with the count of raw reads: one node, there before the
+-- first round
 pub example-sheet :
     sheetOf thinExamples.thin (replicate leastBuffer 0)
     ≡ writes (
@@ -140,7 +141,7 @@ example-sheet = refl
 abbrev pub smallest : List ℕ
 smallest =
     0x48 ∷ 0x44 ∷ 1 ∷ 0 ∷ 1 ∷ 0 ∷ 7 ∷ 0 ∷ 0 ∷ 0 ∷
-    0x42 ∷ 0x4C ∷ 7 ∷ 0 ∷ 0 ∷ 0 ∷ 0 ∷ 2 ∷
+    0x42 ∷ 0x4C ∷ 7 ∷ 0 ∷ 0 ∷ 0 ∷ 0 ∷ 2 ∷ 0 ∷
     0x50 ∷ 0x41 ∷ 1 ∷ 0 ∷ 0 ∷ 0 ∷ 1 ∷ 0 ∷ 0 ∷ 0 ∷ 0 ∷ 0 ∷
     0x50 ∷ 0x41 ∷ 1 ∷ 0 ∷ 0 ∷ 0 ∷ 1 ∷ 0 ∷ 0 ∷ 0 ∷ 0 ∷ 1 ∷ 1 ∷ 0 ∷ 10 ∷ 0 ∷ 0 ∷ 0 ∷ 0 ∷ 0 ∷ 0 ∷ 0 ∷ 3 ∷ 0 ∷ 0 ∷ 0 ∷
     0x43 ∷ 0x41 ∷ 1 ∷ 0 ∷ 0 ∷ 0 ∷ 1 ∷ 5 ∷ 0 ∷ 0 ∷ 0 ∷ 1 ∷ 0 ∷ 0 ∷ 10 ∷ 0 ∷ 0 ∷ 0 ∷ 0 ∷ 0 ∷ 0 ∷ 0 ∷ 6 ∷ 0 ∷ 0 ∷ 0 ∷ []

@@ -12,13 +12,13 @@ use Rattle.model.specs.Registry.{PropertyPathRegistry, getOrCreateProper
 use Rattle.model.specs.Rounds.{Rounds, jobOrder}
 use Rattle.model.specs.Propagation.{Work, Graph, JoiningRule, setOf, propagateNonNull}
 use Rattle.model.specs.Tree.{deriveMinimalDependencies}
-use Rattle.model.specs.Job.{Block, Job, sameBlock, containsId}
+use Rattle.model.specs.Job.{Block, Job, assumedOf, sameBlock, containsId}
 
 -- The graph, by places in the job.
 
 -- the block at a place; the default stands for no block of the job
 abbrev pub blockAt : List Block → ℕ → Block
-blockAt bs k = getD bs k (record { id = record { 0 = zero }; predecessors = []; assumed = [] })
+blockAt bs k = getD bs k (record { id = record { 0 = zero }; predecessors = []; rawReads = []; readyPaths = [] })
 
 -- the place of the block with an id; behind the last where there is none
 abbrev pub placeOf : List Block → BlockId → ℕ
@@ -79,9 +79,10 @@ enterPaths e (d ∷ ds) = enterPaths (enterPath e d) ds
 abbrev pub noneEntered : PropertyPathRegistry → PathsEntered
 noneEntered reg = record { registry = reg; set = []; made = 0 }
 
--- a block's set at the start: its assumed paths
+-- a block's set at the start: its assumed paths. E5: "A path that is not kept enters no registry;
+-- kept ones are entered in their place, before the block's PA paths."
 abbrev pub enterBlock : PropertyPathRegistry → Block → PathsEntered
-enterBlock reg b = enterPaths (noneEntered reg) (b .assumed)
+enterBlock reg b = enterPaths (noneEntered reg) (assumedOf b)
 
 -- the registry, the blocks' sets in job order, and how many nodes were made for them
 pub record Started : Type 0 where

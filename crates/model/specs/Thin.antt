@@ -1,4 +1,5 @@
--- Document 02, E1 (thin jobs for the cache): a job without repeats, and its bytes.
+-- Document 02, E1 (thin jobs for the cache) and E5 (raw reads in a job): a job without repeats, and
+-- its bytes.
 use Prim.Native.Nat.{ℕ}
 use mathlib.Core.Bool.{Bool, _&&_, cond}
 use mathlib.Core.List.{List, [], _∷_, map}
@@ -25,9 +26,10 @@ thinnedAfter earlier (d ∷ ds) = cond (anyOf (samePath d) earlier) (thinnedAfte
 abbrev pub thinnedPaths : List ReactiveScopeDependency → List ReactiveScopeDependency
 thinnedPaths ds = thinnedAfter [] ds
 
--- "In each block": its assumed paths.
+-- "In each block": its assumed paths. E5: "Thinning a block compares its PA records alone and
+-- copies its RD records unchanged".
 abbrev pub thinnedBlock : Block → Block
-thinnedBlock b = record { id = b .id; predecessors = b .predecessors; assumed = thinnedPaths (b .assumed) }
+thinnedBlock b = record { id = b .id; predecessors = b .predecessors; rawReads = b .rawReads; readyPaths = thinnedPaths (b .readyPaths) }
 
 -- A job "without repeats: in each block, and among candidates".
 unfoldable pub thinned : Job → Job
@@ -38,20 +40,21 @@ thinned j = record { scope = j .scope; blocks = map thinnedBlock (j .blocks); ca
 abbrev pub leastThinBuffer : ℕ
 leastThinBuffer = 32768
 
--- "Writes it without repeats .., and counts follow"; "refuses any other by those numbers": 3 to 8.
+-- "Writes it without repeats .., and counts follow"; "refuses any other by those numbers": 3 to 8,
+-- and E5: "the writer refuses by 10 too".
 abbrev pub onThinJob : ℕ → ℕ → Read Job → Verdict
 onThinJob head spanBytes (got job next) = writes (jobBytes head spanBytes (thinned job))
 onThinJob head spanBytes (refused r) = turnsBack r
 
--- 1 and 2, then 3 to 8: of a job with a header of this mark and spans of so many bytes. Nothing is
--- propagated, so that 9 does not arise.
+-- 1 and 2, then 3 to 8 and 10: of a job with a header of this mark and spans of so many bytes.
+-- Nothing is propagated, so that 9 does not arise.
 unfoldable pub thinVerdict : ℕ → ℕ → List ℕ → List ℕ → Verdict
 unfolding readJob jobBytes thinned
 thinVerdict head spanBytes job out =
     withinLengths leastThinBuffer longestJob job out (onThinJob head spanBytes (readJob head spanBytes job))
 
 -- "A writer that takes a job which passes 2 to 8, refuses any other by those numbers, and writes it
--- without repeats".
+-- without repeats"; E5: "the writer refuses by 10 too".
 unfoldable pub thinOf : List ℕ → List ℕ → Verdict
 unfolding thinVerdict
 thinOf job out = thinVerdict HD spanWidth job out

@@ -10,11 +10,11 @@ use Rattle.entries.specs.declared.IdentifierId.{IdentifierId}
 use Rattle.entries.specs.declared.NodeId.{NodeId}
 use Rattle.entries.specs.declared.Refusal.{Refusal}
 use Rattle.entries.specs.declared.DependencyPathEntry.{DependencyPathEntry}
-use Rattle.model.specs.ReadingBytes.{Read, got, refused, mapped, both, readMany, readMark}
-use Rattle.model.specs.Job.{PA, readEntry, readPath}
+use Rattle.model.specs.ReadingBytes.{Read, got, refused, mapped, both, readMany}
+use Rattle.model.specs.Job.{readEntry, readPathFields}
 use Rattle.job.specs.declared.PathHead.{PathHead}
 use Rattle.job.specs.Head.{readPathHead, pathOf}
-use Rattle.job.proofs.Heads.{path-by-head}
+use Rattle.job.proofs.Heads.{fields-by-head}
 use Rattle.job.proofs.Many.{many-first}
 use Rattle.job.proofs.Passing.{not-both, mapped-got}
 use Rattle.model.specs.Registry.{nodeLimit, PropertyPathRegistry, Reached, fullPathOf, isRootFor, isChildBy, rootNode, childNode, walkFrom, ownMark}
@@ -156,49 +156,43 @@ module _ {A : Type 0} {whole : Read A} {reach : A → Reached} {s ws os : List �
             (sym (m .is)) h);
       }
 
--- The whole path: its mark, its head, and its entries from its root.
+-- The whole path: its head, and its entries from its root.
 
-module _ (s : List ℕ) (at : ℕ) (there : IsRead (readPath 4 PA s at)) where
-  pub mark-there : {B : Type 0} {r : Refusal} → readMark PA s at ≡ refused r → B
-  mark-there {r = r} e =
-      let none : readPath 4 PA s at ≡ refused r = rw (path-by-head, e) in
+module _ (s : List ℕ) (at : ℕ) (there : IsRead (readPathFields 4 s at)) where
+  pub head-there : {B : Type 0} {r : Refusal} → readPathHead s at ≡ refused r → B
+  head-there {r = r} e =
+      let none : readPathFields 4 s at ≡ refused r = rw (fields-by-head, e) in
       not-refused there none
 
-  module _ {headAt : ℕ} (marked : readMark PA s at ≡ got tt headAt) where
-    pub head-there : {B : Type 0} {r : Refusal} → readPathHead s headAt ≡ refused r → B
-    head-there {r = r} e =
-        let none : readPath 4 PA s at ≡ refused r = rw (path-by-head, marked, e) in
-        not-refused there none
+  module _ {head : PathHead} {entriesAt : ℕ} (read : readPathHead s at ≡ got head entriesAt) where
+    parts : readPathFields 4 s at ≡ mapped (pathOf head) (readMany (head .entries) (readEntry 4) s entriesAt)
+    parts = rw (fields-by-head, read)
 
-    module _ {head : PathHead} {entriesAt : ℕ} (read : readPathHead s headAt ≡ got head entriesAt) where
-      parts : readPath 4 PA s at ≡ mapped (pathOf head) (readMany (head .entries) (readEntry 4) s entriesAt)
-      parts = rw (path-by-head, marked, read)
+    pub entries-there : IsRead (readMany (head .entries) (readEntry 4) s entriesAt)
+    entries-there =
+        let m = mapped-got (pathOf head) (readMany (head .entries) (readEntry 4) s entriesAt) (sym parts ∙ there .read) in
+        record { value = m .0; next = there .next; read = m .1 }
 
-      pub entries-there : IsRead (readMany (head .entries) (readEntry 4) s entriesAt)
-      entries-there =
-          let m = mapped-got (pathOf head) (readMany (head .entries) (readEntry 4) s entriesAt) (sym parts ∙ there .read) in
-          record { value = m .0; next = there .next; read = m .1 }
+    module _ (reg : PropertyPathRegistry) where
+      abbrev root : Reached
+      root = getOrCreateIdentifier reg (head .identifier) (head .reactive) (head .span)
 
-      module _ (reg : PropertyPathRegistry) where
-        abbrev root : Reached
-        root = getOrCreateIdentifier reg (head .identifier) (head .reactive) (head .span)
+      path-entered : (r : EnteredPath) (us ps : List ℕ) → Enters (readMany (head .entries) (readEntry 4) s entriesAt) (λ es. walkFrom ownMark root es) r us ps
+          → Enters (readPathFields 4 s at) (getOrCreateProperty reg) r us ps
+      unfolding getOrCreateProperty
+      path-entered r us ps h =
+          rw parts (enters-mapped (pathOf head) (readMany (head .entries) (readEntry 4) s entriesAt) (getOrCreateProperty reg) r us ps h)
 
-        path-entered : (r : EnteredPath) (us ps : List ℕ) → Enters (readMany (head .entries) (readEntry 4) s entriesAt) (λ es. walkFrom ownMark root es) r us ps
-            → Enters (readPath 4 PA s at) (getOrCreateProperty reg) r us ps
-        unfolding getOrCreateProperty
-        path-entered r us ps h =
-            rw parts (enters-mapped (pathOf head) (readMany (head .entries) (readEntry 4) s entriesAt) (getOrCreateProperty reg) r us ps h)
+      pub path-full : (us ps : List ℕ) → nodeLimit < length (root .registry) → Enters (readPathFields 4 s at) (getOrCreateProperty reg) Full us ps
+      path-full us ps full =
+          path-entered Full us ps
+          (enters-full (readMany (head .entries) (readEntry 4) s entriesAt) (λ es. walkFrom ownMark root es) us ps entries-there
+          (λ es. let longer = extends-length (walk-extends ownMark root es) in omega arith))
 
-        pub path-full : (us ps : List ℕ) → nodeLimit < length (root .registry) → Enters (readPath 4 PA s at) (getOrCreateProperty reg) Full us ps
-        path-full us ps full =
-            path-entered Full us ps
-            (enters-full (readMany (head .entries) (readEntry 4) s entriesAt) (λ es. walkFrom ownMark root es) us ps entries-there
-            (λ es. let longer = extends-length (walk-extends ownMark root es) in omega arith))
-
-        pub path-rooted : (vs : List ℕ) (k : NodeId) (made : ℕ) → root ≡ record { registry = registryOf vs; node = k; made = made }
-            → (r : EnteredPath) (us ps : List ℕ)
-            → Enters (readMany (head .entries) (readEntry 4) s entriesAt) (walkOwn (registryOf vs) k made) r us ps
-            → Enters (readPath 4 PA s at) (getOrCreateProperty reg) r us ps
-        path-rooted vs k made is r us ps h =
-            path-entered r us ps
-            (subst (λ (y : Reached). Enters (readMany (head .entries) (readEntry 4) s entriesAt) (λ es. walkFrom ownMark y es) r us ps) (sym is) h)
+      pub path-rooted : (vs : List ℕ) (k : NodeId) (made : ℕ) → root ≡ record { registry = registryOf vs; node = k; made = made }
+          → (r : EnteredPath) (us ps : List ℕ)
+          → Enters (readMany (head .entries) (readEntry 4) s entriesAt) (walkOwn (registryOf vs) k made) r us ps
+          → Enters (readPathFields 4 s at) (getOrCreateProperty reg) r us ps
+      path-rooted vs k made is r us ps h =
+          path-entered r us ps
+          (subst (λ (y : Reached). Enters (readMany (head .entries) (readEntry 4) s entriesAt) (λ es. walkFrom ownMark y es) r us ps) (sym is) h)

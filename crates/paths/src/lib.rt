@@ -1,16 +1,15 @@
-// Enters an assumed path of a job into the registry, straight from its bytes. The path was read
-// before, with the whole job, so that no record is refused here.
-ghost use mathlib.Core.Path.{_≡_};
+// Enters a path of a job into the registry, straight from its bytes: the fields that a ready path
+// and a raw read have in common. The path was read before, with the whole job, so that no field is
+// refused here.
 ghost use Prim.Native.Nat.{_≤_, _<_};
 ghost use Rattle.model.specs.ReadingBytes.{readMany};
-ghost use Rattle.model.specs.Job.{PA, readEntry, readPath};
+ghost use Rattle.model.specs.Job.{readEntry, readPathFields};
 ghost use Rattle.model.specs.Registry.{getOrCreateProperty};
 ghost use Rattle.model.specs.Answer.{spanWidth};
 ghost use Rattle.registry.specs.Words.{countIn, registryOf, Held};
 ghost use Rattle.job.specs.Passing.{IsRead};
 ghost use Rattle.paths.specs.Enters.{walkOwn, Enters};
 use entries::NodeId;
-use fields::Passed;
 use job::ReadEntry;
 use job::ReadPathHead;
 use registry::NodeEntered;
@@ -59,17 +58,13 @@ fn enter_entries(
     EnteredPath::At(node, made, at)
 }
 
-// The assumed path at a place.
+// The path whose fields, from the identifier on, stand at a place.
 pub fn enter_path(s: &[u8], at: usize, ws: &mut [u64; 1665], optional: &mut [u64; 8]) -> EnteredPath
-    requires { ⌜ Held (now ws) (now optional) × IsRead (readPath spanWidth PA (now s) at) ⌝ }
-    ensures { λ r. ⌜ Enters (readPath spanWidth PA (now (s .entry)) at) (getOrCreateProperty (registryOf (now (ws .entry)))) r
+    requires { ⌜ Held (now ws) (now optional) × IsRead (readPathFields spanWidth (now s) at) ⌝ }
+    ensures { λ r. ⌜ Enters (readPathFields spanWidth (now (s .entry)) at) (getOrCreateProperty (registryOf (now (ws .entry)))) r
         (now (ws .exit)) (now (optional .exit)) ⌝ }
 {
-    let marked = fields::mark_at(s, at, job::PA);
-    let Passed::To(head_at) = marked else {
-        return EnteredPath::Full;
-    };
-    let field = job::path_head_at(s, head_at);
+    let field = job::path_head_at(s, at);
     let ReadPathHead::Value(head, entries_at) = field else {
         return EnteredPath::Full;
     };

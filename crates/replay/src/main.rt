@@ -275,7 +275,7 @@ fn replay() -> Tally {
 // How many were written, and how many refused by each number.
 fn lines(written: &[u8], refused: &[u8], counts: [u64; 16]) {
     line(written, counts[0]);
-    for k in 1..10 {
+    for k in 1..11 {
         io::write_all(1, refused);
         io::print_decimal(1, k as u64);
         line(b": ", counts[k]);

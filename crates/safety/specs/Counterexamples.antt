@@ -19,6 +19,7 @@ use Rattle.model.specs.ListLaws.{All, all-map, all-select}
 use Rattle.model.specs.ReadingPaths.{null, Store, read, Throws, NonNullish}
 use Rattle.model.specs.ReadingBytes.{refused}
 use Rattle.model.specs.Propagation.{doneNeighbours}
+use Rattle.model.specs.RawReads.{RawRead}
 use Rattle.model.specs.Job.{Block, Job, readJob}
 use Rattle.model.specs.Stage.{propagated, hoistablePaths, returnedPaths}
 use Rattle.model.specs.Answer.{Verdict, spanWidth, answerOf, Answered, readAnswer}
@@ -42,6 +43,7 @@ use Rattle.safety.specs.Notation.{
   not-named,
   AnsweredJob,
   answered-meets,
+  Returns5,
   Returns5-10,
 }
 use Rattle.safety.specs.Witness.{no-loops}
@@ -179,6 +181,70 @@ assumed-needed = existing-refuted WithoutAssumed assumed-case
 
 pub strict-assumed-needed : SafeUnder strictAnswerOf (InLoopFreeJobs WithoutAssumed) → ⊥
 strict-assumed-needed = strict-refuted WithoutAssumed assumed-case
+
+-- the kept raw reads among the assumed paths: the run's one block reads 5 where it is immutable,
+-- and has no PA record
+abbrev pub readOf5 : ℕ → ℕ → RawRead
+readOf5 rangeStart rangeEnd = record {
+  instruction = 3;
+  rangeStart = rangeStart;
+  rangeEnd = rangeEnd;
+  hasScope = true;
+  scopeStart = 0;
+  scopeEnd = 9;
+  knownImmutable = false;
+  path = path5;
+}
+
+abbrev pub reading : RawRead → Block
+reading r = record { id = record { 0 = 0 }; predecessors = []; rawReads = r ∷ []; readyPaths = [] }
+
+abbrev pub OnlyPathsHold : Hypotheses
+OnlyPathsHold X S j s = Run j s × All (λ b. All (λ d. NonNullish (read S d)) (b .readyPaths)) s
+
+kept-case : Counterexample OnlyPathsHold
+unfolding jobBytes readJob answerOf readAnswer
+kept-case =
+    let b = reading (readOf5 0 1) in
+    record {
+      job = jobOf 0 (b ∷ []);
+      rounds = 1;
+      returns = record { bytes = all-bytes (bytesOf (jobOf 0 (b ∷ []))) refl; reads = refl; answers = refl; holds = refl };
+      noLoops = no-loops (b ∷ []) (tt, tt);
+      sequence = b ∷ [];
+      meets = (
+        record {
+          sequence = record { blocks = (inl refl, tt); some = tt; linked = tt };
+          starts = refl;
+          ends = not-named (b ∷ []) b refl;
+          passes = inl refl;
+        },
+        (tt, tt),
+      );
+    }
+
+pub kept-needed : SafeUnder answerOf (InLoopFreeJobs OnlyPathsHold) → ⊥
+kept-needed = existing-refuted OnlyPathsHold kept-case
+
+pub strict-kept-needed : SafeUnder strictAnswerOf (InLoopFreeJobs OnlyPathsHold) → ⊥
+strict-kept-needed = strict-refuted OnlyPathsHold kept-case
+
+-- What is read where it is mutable is no hypothesis: where nothing is there the assumed paths of
+-- such a block hold all the same. And nobody relies on it: 5 is returned, by both.
+abbrev pub readingMutable : Block
+readingMutable = reading (readOf5 0 2)
+
+pub mutable-not-assumed : AssumedHold nothing (readingMutable ∷ [])
+mutable-not-assumed = (tt, tt)
+
+pub mutable-returns : Returns5 answerOf (jobOf 0 (readingMutable ∷ [])) 1
+unfolding jobBytes readJob answerOf readAnswer
+mutable-returns = record { bytes = all-bytes (bytesOf (jobOf 0 (readingMutable ∷ []))) refl; reads = refl; answers = refl; holds = refl }
+
+pub strict-mutable-returns : Returns5 strictAnswerOf (jobOf 0 (readingMutable ∷ [])) 1
+unfolding jobBytes readJob strictAnswerOf readAnswer
+strict-mutable-returns =
+    record { bytes = all-bytes (bytesOf (jobOf 0 (readingMutable ∷ []))) refl; reads = refl; answers = refl; holds = refl }
 
 -- the first block has no predecessor: 1 comes after 0, which assumes 5; the sequence is 1 alone
 abbrev pub after : Block

@@ -36,7 +36,7 @@ path5-10 = record {
 
 abbrev pub block : ℕ → List ℕ → List ReactiveScopeDependency → Block
 block id predecessors assumed = record
-    { id = record { 0 = id }; predecessors = map (λ i. record { 0 = i }) predecessors; assumed = assumed }
+    { id = record { 0 = id }; predecessors = map (λ i. record { 0 = i }) predecessors; rawReads = []; readyPaths = assumed }
 
 -- a job with the candidate 5.10
 abbrev pub jobOf : ℕ → List Block → Job

@@ -3,7 +3,7 @@
 use mathlib.Core.Path.{_≡_}
 use mathlib.Core.List.{List, [], _∷_, _++_}
 use Rattle.entries.specs.declared.BlockId.{BlockId}
-use Rattle.model.specs.Job.{Block, Job}
+use Rattle.model.specs.Job.{Block, Job, assumedOf}
 use Rattle.model.specs.ReadingPaths.{Store, read, NonNullish}
 use Rattle.model.specs.ListLaws.{All}
 use Rattle.laws.specs.Membership.{Some, Member}
@@ -66,6 +66,8 @@ pub record RunVia (bs : List Block) (via : BlockId) (s : List Block) : Type 0 wh
 abbrev pub Run : Job → List Block → Type 0
 Run j s = RunVia (j .blocks) (j .scope) s
 
--- Demand 3: each assumed path of each block on it reads to a value neither null nor undefined.
+-- Demand 3: each assumed path of each block on it reads to a value neither null nor undefined. E5:
+-- "The assumed paths of the safety property are then the kept and the PA ones", as they are
+-- entered.
 abbrev pub AssumedHold : {X : Type 0} → Store X → List Block → Type 0
-AssumedHold S s = All (λ b. All (λ d. NonNullish (read S d)) (b .assumed)) s
+AssumedHold S s = All (λ b. All (λ d. NonNullish (read S d)) (assumedOf b)) s

@@ -11,7 +11,7 @@ use Rattle.model.specs.Sets.{NodeSet, insert}
 use Rattle.model.specs.Registry.{PropertyPathRegistry, ownMark, getOrCreateProperty, fullPathOf}
 use Rattle.model.specs.Propagation.{Work, JoiningRule, setOf, roundStart, doneNeighbours, propagateNonNull}
 use Rattle.model.specs.Strict.{strictNeighbours}
-use Rattle.model.specs.Job.{Block, Job}
+use Rattle.model.specs.Job.{Block, Job, assumedOf}
 use Rattle.model.specs.Stage.{
   blockAt,
   placeOf,
@@ -51,16 +51,16 @@ module _ {X : Type 0} (S : Store X) where
       (set-extends S (e .set) (path-extends ownMark (e .registry) d) a)) (p .1)
 
   -- the set of a block whose assumed paths hold
-  blocks-safe : (reg : PropertyPathRegistry) (bs : List Block) (c : ℕ) → Sound reg → All (NonNull S) (blockAt bs c .assumed)
+  blocks-safe : (reg : PropertyPathRegistry) (bs : List Block) (c : ℕ) → Sound reg → All (NonNull S) (assumedOf (blockAt bs c))
       → NonNullSet S (enterBlocks reg bs .registry) (setOf (enterBlocks reg bs .sets) c)
   unfolding enterBlocks
   blocks-safe reg [] c h p = tt
   blocks-safe reg (b ∷ bs) zero h p =
       let e = enterBlock reg b in
-      let first = paths-filled (noneEntered reg) (b .assumed) h (members-empty reg) in
-      set-extends S (e .set) (blocks-begun (e .registry) bs (first .sound) .extends) (paths-safe (noneEntered reg) (b .assumed) h tt p)
+      let first = paths-filled (noneEntered reg) (assumedOf b) h (members-empty reg) in
+      set-extends S (e .set) (blocks-begun (e .registry) bs (first .sound) .extends) (paths-safe (noneEntered reg) (assumedOf b) h tt p)
   blocks-safe reg (b ∷ bs) (suc c) h p = blocks-safe (enterBlock reg b .registry) bs c
-      (paths-filled (noneEntered reg) (b .assumed) h (members-empty reg) .sound) p
+      (paths-filled (noneEntered reg) (assumedOf b) h (members-empty reg) .sound) p
 
   -- under any rule under which propagation keeps the run's sets non-nullish
   module _ (rule : JoiningRule) (j : Job) (ok : ProperBlocks (j .blocks)) (s : List Block) (run : Run j s) (assumed : AssumedHold S s) where
@@ -78,7 +78,7 @@ module _ {X : Type 0} (S : Store X) where
         let end = keeps (start .registry) (start .sets) (record {
           sound = blocks-begun [] (j .blocks) sound-empty .sound;
           safe = λ c m. blocks-safe [] (j .blocks) c sound-empty
-              (all-at (λ b. All (NonNull S) (b .assumed)) s (blockAt (j .blocks) c) assumed m);
+              (all-at (λ b. All (NonNull S) (assumedOf b)) s (blockAt (j .blocks) c) assumed m);
         }) in
         all-of-map (NonNull S) (fullPathOf (w .registry)) (setOf (w .sets) place)
         (all-map (NonNullNode S (w .registry)) (λ k. NonNull S (fullPathOf (w .registry) k)) (λ k n. n .safe)

@@ -8,7 +8,7 @@ use mathlib.Core.List.{List, [], _∷_}
 use lib.ListN.{getD}
 use Rattle.model.specs.ListLaws.{All}
 use Rattle.model.specs.ReadingPaths.{read, Throws}
-use Rattle.model.specs.Job.{Block, Job, readJob}
+use Rattle.model.specs.Job.{Block, Job, assumedOf, readJob}
 use Rattle.model.specs.JobBytes.{jobBytes}
 use Rattle.model.specs.Tree.{deriveMinimalDependencies}
 use Rattle.model.specs.Answer.{Verdict, writes, turnsBack, answerOf, sheetOf, readAnswer}
@@ -95,7 +95,7 @@ looped-no-throw = strict-met .safety tt (Unit {0}) store twiceRound looped-run l
 
 -- The strict rule is no stock answer: only propagation brings 5 to the scope block, which itself
 -- assumes nothing. By that alone 5 would be returned, and not 5.10.
-pub body-alone : deriveMinimalDependencies (body .assumed) (looped .candidates) ≡ path5 ∷ []
+pub body-alone : deriveMinimalDependencies (assumedOf body) (looped .candidates) ≡ path5 ∷ []
 unfolding deriveMinimalDependencies
 body-alone = refl
 

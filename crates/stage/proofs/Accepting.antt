@@ -31,7 +31,7 @@ ids-at : (ids : List ℕ) (n : ℕ) (j : Job) → length (j .blocks) ≡ n → m
 ids-at ids n j count listed k l =
     sym (getD-take n ids k 0 (omega arith))
     ∙ ap (λ (i : BlockId). i .0) (sym (getD-map blockId (take n ids) k 0) ∙ ap (λ (is : List BlockId). getD is k (blockId 0)) listed ∙ getD-map
-    (λ (b : Block). b .id) (j .blocks) k (record { id = record { 0 = 0 }; predecessors = []; assumed = [] }))
+    (λ (b : Block). b .id) (j .blocks) k (record { id = record { 0 = 0 }; predecessors = []; rawReads = []; readyPaths = [] }))
 
 pub accepts : (s : List ℕ) {head : JobHead} → Value head ≡ keptOf s (readJob HD 4 s) → length s ≤ longestJob → (l₁ l₂ ids places : List ℕ)
     → length l₁ ≡ 128 → length l₂ ≡ 128

@@ -21,6 +21,7 @@ use Rattle.entries.specs.declared.Refusal.the-variants.{
   RepeatedId,
   UnknownBlock,
   ManyNodes,
+  LargestStart,
 }
 use Rattle.entries.specs.Refusals.{refusalNumber}
 use Rattle.model.specs.Answer.{Verdict, writes, turnsBack, numberReturned, bufferAfter}
@@ -39,6 +40,7 @@ below-zero ExtraByte = sfits-lit tt
 below-zero RepeatedId = sfits-lit tt
 below-zero UnknownBlock = sfits-lit tt
 below-zero ManyNodes = sfits-lit tt
+below-zero LargestStart = sfits-lit tt
 
 minus : (r : Refusal) → pos 0 -ℤ toZ w64 (refusalNumber r) ≡ negℤ (pos (refusalNumber r))
 minus ShortBuffer = refl
@@ -50,6 +52,7 @@ minus ExtraByte = refl
 minus RepeatedId = refl
 minus UnknownBlock = refl
 minus ManyNodes = refl
+minus LargestStart = refl
 
 pub refusal-fits : (r : Refusal) {k : ℕ} → k ≡ refusalNumber r → SFits w64 (pos 0 -ℤ toZ w64 k)
 refusal-fits r e = subst (λ k. SFits w64 (pos 0 -ℤ toZ w64 k)) (sym e) (below-zero r)

@@ -60,7 +60,7 @@ unfoldable pub verdictOf : JoiningRule → Operation → List ℕ → List ℕ �
 unfolding verdict
 verdictOf rule op s out = verdict HD spanWidth rule (operationBytes op) s out
 
--- 3 to 9: the verdict where 1 and 2 turn nothing back.
+-- 3 to 10: the verdict where 1 and 2 turn nothing back.
 unfoldable pub jobVerdict : JoiningRule → Operation → List ℕ → Verdict
 unfolding readJob propagated
 jobVerdict rule op s = onJob rule (operationBytes op spanWidth) (readJob HD spanWidth s)

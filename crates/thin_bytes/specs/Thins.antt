@@ -127,7 +127,7 @@ pub record PartThinned (bytes : List ℕ) (first end : ℕ) (before after : List
   pub from : r .from ≡ end
   pub near : r .to + first ≤ to + end
 
--- The block is written with the assumed paths that stay.
+-- The block is written with its raw reads and the ready paths that stay.
 pub record ThinsBlock (s : List ℕ) (at : ℕ) (before after : List ℕ) (to : ℕ) (r : Places) : Type 0 where
   pub is : (b : Block) (next : ℕ) → readBlock spanWidth s at ≡ got b next
       → PartThinned (blockBytes spanWidth (thinnedBlock b)) at next before after to r

@@ -189,20 +189,24 @@ fn put_recounted(
     put_bytes(out, rest_to, s, count_at + bytes, until)
 }
 
-// A block with the assumed paths that stay. What stands before the paths is written last, since it
-// has their number.
+// A block with the ready paths that stay. What stands before the paths, its raw reads among it, is
+// written last, since it has their number.
 fn thin_block(s: &[u8], at: usize, out: &mut [u8], to: usize) -> Places
     requires { ⌜ BlockThere (now s) at (now out) to ⌝ }
     ensures { λ r. ⌜ ThinsBlock (now (s .entry)) at (now (out .entry)) (now (out .exit)) to r ⌝ }
 {
-    // A block that was read has its head and its ids, so this is never the answer.
+    // A block that was read has its head, its ids and its reads, so this is never the answer.
     let never = Places { from: at, to };
     let head_field = job::block_head_at(s, at);
     let ReadBlockHead::Value(head, ids_at) = head_field else {
         return never;
     };
     let ids = job::past_ids(s, ids_at, head.predecessors);
-    let Passed::To(paths_at) = ids else {
+    let Passed::To(reads_at) = ids else {
+        return never;
+    };
+    let reads = job::past_raw_reads(s, reads_at, head.raw);
+    let Passed::To(paths_at) = reads else {
         return never;
     };
     let paths = thin_paths(

@@ -1,4 +1,4 @@
--- Reading a job refuses by 3 to 8 only.
+-- Reading a job refuses by 3 to 8 and 10 only.
 use Prim.Native.Nat.{ℕ, zero, suc, _≤_}
 use native.Mathlib.Omega.{arith}
 use mathlib.Core.Path.{_≡_}
@@ -27,9 +27,14 @@ use Rattle.model.specs.ReadingBytes.{
 use Rattle.model.specs.Job.{
   BL,
   PA,
+  RD,
   CA,
   readEntry,
+  readPathFields,
   readPath,
+  largestStart,
+  readRangeStart,
+  readRawRead,
   readBlockId,
   readBlock,
   readHeader,
@@ -40,107 +45,130 @@ use Rattle.model.specs.Job.{
   readJob,
 }
 
--- 3 to 8
+-- 3 to 8, or 10
 abbrev pub OfReading : Refusal → Type 0
-OfReading r = (3 ≤ refusalNumber r) × (refusalNumber r ≤ 8)
+OfReading r = (3 ≤ refusalNumber r) × (refusalNumber r ≤ 10) × (refusalNumber r ≡ 9 → ⊥)
 
 -- a value, or a refusal by one of these
-abbrev Low : {A : Type 0} → Read A → Type 0
-Low (got a next) = Unit {0}
-Low (refused r) = OfReading r
+abbrev ByReading : {A : Type 0} → Read A → Type 0
+ByReading (got a next) = Unit {0}
+ByReading (refused r) = OfReading r
 
-then-low : {A B : Type 0} (x : Read A) (k : A → ℕ → Read B) → Low x → ((a : A) (next : ℕ) → Low (k a next)) → Low (andThen x k)
-then-low (got a next) k h f = f a next
-then-low (refused r) k h f = h
+then-by : {A B : Type 0} (x : Read A) (k : A → ℕ → Read B) → ByReading x → ((a : A) (next : ℕ) → ByReading (k a next))
+    → ByReading (andThen x k)
+then-by (got a next) k h f = f a next
+then-by (refused r) k h f = h
 
-mapped-low : {A B : Type 0} (f : A → B) (x : Read A) → Low x → Low (mapped f x)
-mapped-low f (got a next) h = tt
-mapped-low f (refused r) h = h
+mapped-by : {A B : Type 0} (f : A → B) (x : Read A) → ByReading x → ByReading (mapped f x)
+mapped-by f (got a next) h = tt
+mapped-by f (refused r) h = h
 
-cond-low : {A : Type 0} (b : Bool) (x y : Read A) → Low x → Low y → Low (cond b x y)
-cond-low true x y h g = h
-cond-low false x y h g = g
+cond-by : {A : Type 0} (b : Bool) (x y : Read A) → ByReading x → ByReading y → ByReading (cond b x y)
+cond-by true x y h g = h
+cond-by false x y h g = g
 
 module _ (s : List ℕ) where
-  many-low : {A : Type 0} (read : ByteReader A) → ((at : ℕ) → Low (read s at)) → (n at : ℕ) → Low (readMany n read s at)
-  many-low read h zero at = tt
-  many-low read h (suc n) at = then-low (read s at) _ (h at) (λ a next. mapped-low _ (readMany n read s next) (many-low read h n next))
+  many-by : {A : Type 0} (read : ByteReader A) → ((at : ℕ) → ByReading (read s at)) → (n at : ℕ) → ByReading (readMany n read s at)
+  many-by read h zero at = tt
+  many-by read h (suc n) at = then-by (read s at) _ (h at) (λ a next. mapped-by _ (readMany n read s next) (many-by read h n next))
 
-  byte-low : (at : ℕ) → Low (readByte s at)
+  byte-by : (at : ℕ) → ByReading (readByte s at)
   unfolding readByte
-  byte-low at = cond-low (ltb at (length s)) _ _ tt (omega arith)
+  byte-by at = cond-by (ltb at (length s)) _ _ tt (omega arith)
 
-  number-low : (n at : ℕ) → Low (readNumber n s at)
+  number-by : (n at : ℕ) → ByReading (readNumber n s at)
   unfolding readNumber
-  number-low zero at = tt
-  number-low (suc n) at = then-low (readByte s at) _ (byte-low at) (λ low next. mapped-low _ (readNumber n s next) (number-low n next))
+  number-by zero at = tt
+  number-by (suc n) at = then-by (readByte s at) _ (byte-by at) (λ low next. mapped-by _ (readNumber n s next) (number-by n next))
 
-  mark-low : (mark at : ℕ) → Low (readMark mark s at)
+  mark-by : (mark at : ℕ) → ByReading (readMark mark s at)
   unfolding readMark
-  mark-low mark at = then-low (readU16 s at) _ (number-low 2 at) (λ found next. cond-low (eqb found mark) _ _ tt (omega arith))
+  mark-by mark at = then-by (readU16 s at) _ (number-by 2 at) (λ found next. cond-by (eqb found mark) _ _ tt (omega arith))
 
-  within-low : (least most n at : ℕ) → Low (readWithin least most (readNumber n) s at)
+  within-by : (least most n at : ℕ) → ByReading (readWithin least most (readNumber n) s at)
   unfolding readWithin
-  within-low least most n at = then-low (readNumber n s at) _ (number-low n at)
-      (λ found next. cond-low (leb least found && leb found most) _ _ tt (omega arith))
+  within-by least most n at = then-by (readNumber n s at) _ (number-by n at)
+      (λ found next. cond-by (leb least found && leb found most) _ _ tt (omega arith))
 
-  flag-low : (at : ℕ) → Low (readFlag s at)
+  flag-by : (at : ℕ) → ByReading (readFlag s at)
   unfolding readFlag
-  flag-low at = mapped-low _ (readWithin 0 1 readU8 s at) (within-low 0 1 1 at)
+  flag-by at = mapped-by _ (readWithin 0 1 readU8 s at) (within-by 0 1 1 at)
 
-  entry-low : (w at : ℕ) → Low (readEntry w s at)
+  entry-by : (w at : ℕ) → ByReading (readEntry w s at)
   unfolding readEntry
-  entry-low w at =
-      then-low (readFlag s at) _ (flag-low at) (λ optional kindAt.
-      then-low (readFlag s kindAt) _ (flag-low kindAt) (λ kind valueAt.
-      then-low (readNumber 8 s valueAt) _ (number-low 8 valueAt) (λ value spanAt.
-      then-low (readNumber w s spanAt) _ (number-low w spanAt) (λ span next. tt))))
+  entry-by w at =
+      then-by (readFlag s at) _ (flag-by at) (λ optional kindAt.
+      then-by (readFlag s kindAt) _ (flag-by kindAt) (λ kind valueAt.
+      then-by (readNumber 8 s valueAt) _ (number-by 8 valueAt) (λ value spanAt.
+      then-by (readNumber w s spanAt) _ (number-by w spanAt) (λ span next. tt))))
 
-  path-low : (w mark at : ℕ) → Low (readPath w mark s at)
+  fields-by : (w at : ℕ) → ByReading (readPathFields w s at)
+  unfolding readPathFields
+  fields-by w at =
+      then-by (readNumber 4 s at) _ (number-by 4 at) (λ identifier reactiveAt.
+      then-by (readFlag s reactiveAt) _ (flag-by reactiveAt) (λ reactive spanAt.
+      then-by (readNumber w s spanAt) _ (number-by w spanAt) (λ span countAt.
+      then-by (readWithin 0 16 readU8 s countAt) _ (within-by 0 16 1 countAt) (λ count entriesAt.
+      mapped-by _ (readMany count (readEntry w) s entriesAt) (many-by (readEntry w) (entry-by w) count entriesAt)))))
+
+  path-by : (w mark at : ℕ) → ByReading (readPath w mark s at)
   unfolding readPath
-  path-low w mark at =
-      then-low (readMark mark s at) _ (mark-low mark at) (λ _ identifierAt.
-      then-low (readNumber 4 s identifierAt) _ (number-low 4 identifierAt) (λ identifier reactiveAt.
-      then-low (readFlag s reactiveAt) _ (flag-low reactiveAt) (λ reactive spanAt.
-      then-low (readNumber w s spanAt) _ (number-low w spanAt) (λ span countAt.
-      then-low (readWithin 0 16 readU8 s countAt) _ (within-low 0 16 1 countAt) (λ count entriesAt.
-      mapped-low _ (readMany count (readEntry w) s entriesAt) (many-low (readEntry w) (entry-low w) count entriesAt))))))
+  path-by w mark at = then-by (readMark mark s at) _ (mark-by mark at) (λ _ fieldsAt. fields-by w fieldsAt)
 
-  id-low : (at : ℕ) → Low (readBlockId s at)
-  id-low at = mapped-low _ (readNumber 4 s at) (number-low 4 at)
+  start-by : (at : ℕ) → ByReading (readRangeStart s at)
+  unfolding readRangeStart
+  start-by at = then-by (readNumber 4 s at) _ (number-by 4 at) (λ found next. cond-by (eqb found largestStart) _ _ (omega arith) tt)
 
-  block-low : (w at : ℕ) → Low (readBlock w s at)
+  raw-read-by : (w at : ℕ) → ByReading (readRawRead w s at)
+  unfolding readRawRead
+  raw-read-by w at =
+      then-by (readMark RD s at) _ (mark-by RD at) (λ _ instructionAt.
+      then-by (readNumber 4 s instructionAt) _ (number-by 4 instructionAt) (λ instruction startAt.
+      then-by (readRangeStart s startAt) _ (start-by startAt) (λ start endAt.
+      then-by (readNumber 4 s endAt) _ (number-by 4 endAt) (λ end hasScopeAt.
+      then-by (readFlag s hasScopeAt) _ (flag-by hasScopeAt) (λ hasScope scopeStartAt.
+      then-by (readNumber 4 s scopeStartAt) _ (number-by 4 scopeStartAt) (λ scopeStart scopeEndAt.
+      then-by (readNumber 4 s scopeEndAt) _ (number-by 4 scopeEndAt) (λ scopeEnd knownAt.
+      then-by (readFlag s knownAt) _ (flag-by knownAt) (λ known fieldsAt.
+      mapped-by _ (readPathFields w s fieldsAt) (fields-by w fieldsAt)))))))))
+
+  id-by : (at : ℕ) → ByReading (readBlockId s at)
+  id-by at = mapped-by _ (readNumber 4 s at) (number-by 4 at)
+
+  block-by : (w at : ℕ) → ByReading (readBlock w s at)
   unfolding readBlock
-  block-low w at =
-      then-low (readMark BL s at) _ (mark-low BL at) (λ _ idAt.
-      then-low (readBlockId s idAt) _ (id-low idAt) (λ id countAt.
-      then-low (readWithin 0 64 readU8 s countAt) _ (within-low 0 64 1 countAt) (λ predecessors assumedAt.
-      then-low (readU8 s assumedAt) _ (number-low 1 assumedAt) (λ assumed idsAt.
-      then-low (readMany predecessors readBlockId s idsAt) _ (many-low readBlockId id-low predecessors idsAt) (λ ids next.
-      mapped-low _ (readMany assumed (readPath w PA) s next) (many-low (readPath w PA) (path-low w PA) assumed next))))))
+  block-by w at =
+      then-by (readMark BL s at) _ (mark-by BL at) (λ _ idAt.
+      then-by (readBlockId s idAt) _ (id-by idAt) (λ id countAt.
+      then-by (readWithin 0 64 readU8 s countAt) _ (within-by 0 64 1 countAt) (λ predecessors assumedAt.
+      then-by (readU8 s assumedAt) _ (number-by 1 assumedAt) (λ assumed rawAt.
+      then-by (readU8 s rawAt) _ (number-by 1 rawAt) (λ raw idsAt.
+      then-by (readMany predecessors readBlockId s idsAt) _ (many-by readBlockId id-by predecessors idsAt) (λ ids readsAt.
+      then-by (readMany raw (readRawRead w) s readsAt) _ (many-by (readRawRead w) (raw-read-by w) raw readsAt) (λ reads next.
+      mapped-by _ (readMany assumed (readPath w PA) s next) (many-by (readPath w PA) (path-by w PA) assumed next))))))))
 
-  header-low : (mark at : ℕ) → Low (readHeader mark s at)
+  header-by : (mark at : ℕ) → ByReading (readHeader mark s at)
   unfolding readHeader
-  header-low mark at =
-      then-low (readMark mark s at) _ (mark-low mark at) (λ _ blocksAt.
-      then-low (readWithin 1 128 readU16 s blocksAt) _ (within-low 1 128 2 blocksAt) (λ blocks candidatesAt.
-      then-low (readWithin 0 64 readU16 s candidatesAt) _ (within-low 0 64 2 candidatesAt) (λ candidates scopeAt.
-      then-low (readBlockId s scopeAt) _ (id-low scopeAt) (λ scope next. tt))))
+  header-by mark at =
+      then-by (readMark mark s at) _ (mark-by mark at) (λ _ blocksAt.
+      then-by (readWithin 1 128 readU16 s blocksAt) _ (within-by 1 128 2 blocksAt) (λ blocks candidatesAt.
+      then-by (readWithin 0 64 readU16 s candidatesAt) _ (within-by 0 64 2 candidatesAt) (λ candidates scopeAt.
+      then-by (readBlockId s scopeAt) _ (id-by scopeAt) (λ scope next. tt))))
 
-  records-low : (head w : ℕ) → Low (readRecords head w s)
+  records-by : (head w : ℕ) → ByReading (readRecords head w s)
   unfolding readRecords
-  records-low head w =
-      then-low (readHeader head s 0) _ (header-low head 0) (λ header blocksAt.
-      then-low (readMany (header .blocks) (readBlock w) s blocksAt) _ (many-low (readBlock w) (block-low w) (header .blocks) blocksAt)
+  records-by head w =
+      then-by (readHeader head s 0) _ (header-by head 0) (λ header blocksAt.
+      then-by (readMany (header .blocks) (readBlock w) s blocksAt) _ (many-by (readBlock w) (block-by w) (header .blocks) blocksAt)
       (λ blocks candidatesAt.
-      then-low (readMany (header .candidates) (readPath w CA) s candidatesAt) _
-      (many-low (readPath w CA) (path-low w CA) (header .candidates) candidatesAt) (λ candidates next.
-      cond-low (eqb next (length s)) _ _ tt (omega arith))))
+      then-by (readMany (header .candidates) (readPath w CA) s candidatesAt) _
+      (many-by (readPath w CA) (path-by w CA) (header .candidates) candidatesAt) (λ candidates next.
+      cond-by (eqb next (length s)) _ _ tt (omega arith))))
 
-  job-low : (head w : ℕ) → Low (readJob head w s)
+  job-by : (head w : ℕ) → ByReading (readJob head w s)
   unfolding readJob acceptIds
-  job-low head w = then-low (readRecords head w s) acceptIds (records-low head w)
-      (λ j next. cond-low (hasRepeat j) _ _ (omega arith) (cond-low (hasUnknown j) _ _ (omega arith) tt))
+  job-by head w = then-by (readRecords head w s) acceptIds (records-by head w)
+      (λ j next. cond-by (hasRepeat j) _ _ (omega arith) (cond-by (hasUnknown j) _ _ (omega arith) tt))
 
 pub reading-refuses : (head w : ℕ) (s : List ℕ) (r : Refusal) → readJob head w s ≡ refused r → OfReading r
-reading-refuses head w s r e = rw e at (job-low s head w)
+reading-refuses head w s r e = rw e at (job-by s head w)

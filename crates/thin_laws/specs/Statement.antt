@@ -1,5 +1,5 @@
--- Document 02, E1 (thin jobs for the cache): what is promised of the thin writer, for any bytes of
--- a job and any out buffers. `Theorems` has the proofs.
+-- Document 02, E1 (thin jobs for the cache) and E5 (raw reads in a job): what is promised of the
+-- thin writer, for any bytes of a job and any out buffers. `Theorems` has the proofs.
 use Prim.Native.Nat.{ℕ, _≤_, _<_}
 use mathlib.Core.Path.{_≡_}
 use mathlib.Core.Logic.{_⊎_}
@@ -52,13 +52,15 @@ pub record Once (ds ts : List ReactiveScopeDependency) : Type 0 where
   pub first-stays : (before : List ReactiveScopeDependency) (d : ReactiveScopeDependency) (after : List ReactiveScopeDependency)
       → ds ≡ before ++ d ∷ after → anyOf (samePath d) before ≡ false → Stays before d after ts
 
--- the same blocks, and of the assumed paths of each those that stay
+-- the same blocks with the same raw reads (E5: "copies its RD records unchanged"), and of the paths
+-- of each those that stay ("compares its PA records alone")
 abbrev pub BlocksOnce : List Block → List Block → Type 0
 BlocksOnce [] [] = Unit {0}
 BlocksOnce [] (c ∷ cs) = ⊥
 BlocksOnce (b ∷ bs) [] = ⊥
 BlocksOnce (b ∷ bs) (c ∷ cs) =
-    (c .id ≡ b .id) × (c .predecessors ≡ b .predecessors) × Once (b .assumed) (c .assumed) × BlocksOnce bs cs
+    (c .id ≡ b .id) × (c .predecessors ≡ b .predecessors) × (c .rawReads ≡ b .rawReads)
+    × Once (b .readyPaths) (c .readyPaths) × BlocksOnce bs cs
 
 -- "Writes it without repeats: in each block, and among candidates": the job reads to `whole`, and
 -- what is written reads to `part`.
@@ -102,18 +104,18 @@ pub record Lengths (job o t : List ℕ) : Type 0 where
 abbrev pub ThinLengths : Type 0
 ThinLengths = (job o t : List ℕ) → All (λ b. b < 256) job → thinOf job o ≡ writes t → Lengths job o t
 
--- bytes, or refusal 9: the job has passed 2 to 8
-abbrev pub PassedEight : Verdict → Type 0
-PassedEight v = ((bytes : List ℕ) × (v ≡ writes bytes)) ⊎ (v ≡ turnsBack ManyNodes)
+-- bytes, or refusal 9: the job has passed 2 to 8 and 10
+abbrev pub PassedReading : Verdict → Type 0
+PassedReading v = ((bytes : List ℕ) × (v ≡ writes bytes)) ⊎ (v ≡ turnsBack ManyNodes)
 
--- "Takes a job which passes 2 to 8, refuses any other by those numbers": where neither buffer is
--- too short for its operation, what the thin writer turns back the answer turns back by the same
--- number, what the answer turns back by another number than 9 the thin writer turns back by that
--- number, and any other job the thin writer takes.
+-- "Takes a job which passes 2 to 8, refuses any other by those numbers", and E5: "the writer
+-- refuses by 10 too": where neither buffer is too short for its operation, what the thin writer
+-- turns back the answer turns back by the same number, what the answer turns back by another number
+-- than 9 the thin writer turns back by that number, and any other job the thin writer takes.
 pub record SameRefusals (job o out : List ℕ) : Type 0 where
   pub from-thin : (r : Refusal) → thinOf job o ≡ turnsBack r → answerOf job out ≡ turnsBack r
   pub from-answer : (r : Refusal) → (r ≡ ManyNodes → ⊥) → answerOf job out ≡ turnsBack r → thinOf job o ≡ turnsBack r
-  pub takes : PassedEight (answerOf job out) → (t : List ℕ) × (thinOf job o ≡ writes t)
+  pub takes : PassedReading (answerOf job out) → (t : List ℕ) × (thinOf job o ≡ writes t)
 
 abbrev pub ThinRefuses : Type 0
 ThinRefuses = (job o out : List ℕ) → leastThinBuffer ≤ length o → leastBuffer ≤ length out → SameRefusals job o out

@@ -46,7 +46,7 @@ use Rattle.thin_laws.specs.Statement.{
   ThinSame,
   ThinAgain,
   ThinLengths,
-  PassedEight,
+  PassedReading,
   ThinRefuses,
   NeverNine,
   ShortAlone,
@@ -201,7 +201,7 @@ never-nine-verdict head w job o e =
     (λ b. let f : turnsBack ShortBuffer ≡ turnsBack ManyNodes = rw b at e in let z : _≡_ {A = ℕ} 0 1 = cc in omega arith)
     (λ b. decide (ltb longestJob (length job))
     (λ c. let f : turnsBack LongJob ≡ turnsBack ManyNodes = rw (b, c) at e in let z : _≡_ {A = ℕ} 0 1 = cc in omega arith)
-    (λ c. on-other head w (readJob head w job) (reading-refuses head w job) ManyNodes (λ h. let most = h .1 in omega arith)
+    (λ c. on-other head w (readJob head w job) (reading-refuses head w job) ManyNodes (λ h. h .2 refl)
     (rw (b, c) at e)))
 
 -- 1 comes of the out buffer's length, and of nothing else
@@ -220,7 +220,7 @@ verdict-short head w job o e =
 
 -- What is turned back by nothing but what turns back `a`, and not by 9, is written where `a` has
 -- passed.
-taken : (v a : Verdict) → ((r : Refusal) → v ≡ turnsBack r → a ≡ turnsBack r) → (v ≡ turnsBack ManyNodes → ⊥) → PassedEight a
+taken : (v a : Verdict) → ((r : Refusal) → v ≡ turnsBack r → a ≡ turnsBack r) → (v ≡ turnsBack ManyNodes → ⊥) → PassedReading a
     → (t : List ℕ) × (v ≡ writes t)
 taken (writes t) a back not-nine p = (t, refl)
 taken (turnsBack r) a back not-nine (inl w) =
@@ -229,7 +229,7 @@ taken (turnsBack r) a back not-nine (inr nine) = absurd (not-nine (sym (back r r
 
 -- the thin writer takes what an operation takes or turns back by 9
 pub thin-takes : (head w : ℕ) (rule : JoiningRule) (writing : Writing) (job o out : List ℕ)
-    → leastThinBuffer ≤ length o → leastBuffer ≤ length out → PassedEight (verdict head w rule writing job out)
+    → leastThinBuffer ≤ length o → leastBuffer ≤ length out → PassedReading (verdict head w rule writing job out)
     → (t : List ℕ) × (thinVerdict head w job o ≡ writes t)
 thin-takes head w rule writing job o out wide roomy = taken (thinVerdict head w job o) (verdict head w rule writing job out)
     (λ r. thin-turned head w rule writing r job o out wide roomy) (never-nine-verdict head w job o)

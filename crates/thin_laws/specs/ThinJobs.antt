@@ -1,5 +1,5 @@
--- A thin job: it has no repeats and is its own thin job, refusals 3 to 8 let it through where they
--- do the job, and it has no more bytes than the job.
+-- A thin job: it has no repeats and is its own thin job, refusals 3 to 8 and 10 let it through
+-- where they do the job, and it has no more bytes than the job.
 use Prim.Native.Nat.{ℕ, zero, suc, _+_, _/_, _≤_, _<_}
 use native.Mathlib.Nat.{le-refl}
 use native.Mathlib.Omega.{arith}
@@ -12,9 +12,10 @@ use Rattle.entries.specs.declared.DependencyPathEntry.{DependencyPathEntry}
 use Rattle.entries.specs.Path.{ReactiveScopeDependency}
 use Rattle.model.specs.Lists.{anyOf, sumOf, concatMap}
 use Rattle.model.specs.ListLaws.{All, all-append}
+use Rattle.model.specs.RawReads.{RawRead}
 use Rattle.model.specs.Job.{Block, Job, PA, CA, containsId, repeats, idsOf, hasRepeat, hasUnknown}
-use Rattle.model.specs.Answer.{numberBytes, entryBytes, pathBytes}
-use Rattle.model.specs.JobBytes.{blockBytes, jobBytes}
+use Rattle.model.specs.Answer.{numberBytes, entryBytes, pathFieldBytes, pathBytes}
+use Rattle.model.specs.JobBytes.{rawReadBytes, blockBytes, jobBytes}
 use Rattle.model.specs.Thin.{thinnedPaths, thinnedBlock, thinned}
 use Rattle.laws.specs.ReadBack.{PathFits}
 use Rattle.laws.specs.JobBack.{BlockFits, JobFits}
@@ -26,7 +27,7 @@ use Rattle.thin_laws.specs.Repeats.{thinned-once, thinned-all, thinned-l
 
 blocks-once : (bs : List Block) → BlocksOnce bs (map thinnedBlock bs)
 blocks-once [] = tt
-blocks-once (b ∷ bs) = (refl, refl, thinned-once (b .assumed), blocks-once bs)
+blocks-once (b ∷ bs) = (refl, refl, refl, thinned-once (b .readyPaths), blocks-once bs)
 
 pub scope-thinned : (j : Job) → thinned j .scope ≡ j .scope
 unfolding thinned
@@ -45,7 +46,9 @@ candidates-thinned-once j = thinned-once (j .candidates)
 blocks-twice : (bs : List Block) → map thinnedBlock (map thinnedBlock bs) ≡ map thinnedBlock bs
 blocks-twice [] = refl
 blocks-twice (b ∷ bs) =
-    λ i. record { id = b .id; predecessors = b .predecessors; assumed = thinned-again (b .assumed) i } ∷ blocks-twice bs i
+    λ i.
+    record { id = b .id; predecessors = b .predecessors; rawReads = b .rawReads; readyPaths = thinned-again (b .readyPaths) i }
+    ∷ blocks-twice bs i
 
 pub thinned-twice : (j : Job) → thinned (thinned j) ≡ thinned j
 unfolding thinned
@@ -80,8 +83,10 @@ block-fits w b f = record {
   id = f .id;
   few = f .few;
   predecessors = f .predecessors;
-  few-assumed = let less = thinned-length [] (b .assumed) in let few = f .few-assumed in omega arith;
-  assumed = thinned-all (PathFits w) [] (b .assumed) (f .assumed);
+  few-raw = f .few-raw;
+  raw = f .raw;
+  few-ready = let less = thinned-length [] (b .readyPaths) in let few = f .few-ready in omega arith;
+  ready = thinned-all (PathFits w) [] (b .readyPaths) (f .ready);
 }
 
 blocks-fit : (w : ℕ) (bs : List Block) → All (BlockFits w) bs → All (BlockFits w) (map thinnedBlock bs)
@@ -118,7 +123,7 @@ paths-no-longer f ds = rw (concat-length f (thinnedPaths ds), concat-length f ds
 
 block-no-longer : (w : ℕ) (b : Block) → length (blockBytes w (thinnedBlock b)) ≤ length (blockBytes w b)
 unfolding blockBytes
-block-no-longer w b = simp length-append (omega (arith, paths-no-longer (pathBytes w PA) (b .assumed)))
+block-no-longer w b = simp length-append (omega (arith, paths-no-longer (pathBytes w PA) (b .readyPaths)))
 
 blocks-no-longer : (w : ℕ) (bs : List Block)
     → length (concatMap (blockBytes w) (map thinnedBlock bs)) ≤ length (concatMap (blockBytes w) bs)
@@ -150,13 +155,21 @@ bytes-concat f h (x ∷ xs) = bytes-then (h x) (bytes-concat f h xs)
 entry-bytes : (w : ℕ) (e : DependencyPathEntry) → Bytes (entryBytes w e)
 entry-bytes w e = search (bytes-then, bytes-number)
 
+field-bytes : (w : ℕ) (d : ReactiveScopeDependency) → Bytes (pathFieldBytes w d)
+unfolding pathFieldBytes
+field-bytes w d = search (bytes-then, bytes-number, bytes-concat, entry-bytes) depth 8
+
 path-bytes : (w mark : ℕ) (d : ReactiveScopeDependency) → Bytes (pathBytes w mark d)
 unfolding pathBytes
-path-bytes w mark d = search (bytes-then, bytes-number, bytes-concat, entry-bytes) depth 8
+path-bytes w mark d = bytes-then (bytes-number 2 mark) (field-bytes w d)
+
+raw-read-bytes : (w : ℕ) (r : RawRead) → Bytes (rawReadBytes w r)
+unfolding rawReadBytes
+raw-read-bytes w r = search (bytes-then, bytes-number, field-bytes) depth 12
 
 block-bytes : (w : ℕ) (b : Block) → Bytes (blockBytes w b)
 unfolding blockBytes
-block-bytes w b = search (bytes-then, bytes-number, bytes-concat, path-bytes) depth 8
+block-bytes w b = search (bytes-then, bytes-number, bytes-concat, raw-read-bytes, path-bytes) depth 12
 
 pub job-bytes : (head w : ℕ) (j : Job) → All (λ b. b < 256) (jobBytes head w j)
 unfolding jobBytes

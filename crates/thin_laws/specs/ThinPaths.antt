@@ -32,6 +32,7 @@ use Rattle.model.specs.Tree.{
   dependencyOf,
   deriveMinimalDependencies,
 }
+use Rattle.model.specs.RawReads.{keptPaths}
 use Rattle.model.specs.Job.{Block, Job, sameBlock, containsId}
 use Rattle.model.specs.Stage.{
   blockAt,
@@ -53,6 +54,7 @@ use Rattle.model.specs.Stage.{
   hoistablePaths,
   returnedPaths,
 }
+use Rattle.model.specs.PropagationLaws.{paths-append}
 use Rattle.model.specs.Answer.{answerBytes, setBytes, sheetBytes}
 use Rattle.model.specs.Thin.{samePath, thinnedAfter, thinnedPaths, thinnedBlock, thinned}
 use Rattle.laws.specs.AddedAgain.{walk-again}
@@ -102,6 +104,21 @@ enter-thinned start ds up =
     (λ x d h. insert-from zero (getOrCreateProperty (x .registry) d .node) (x .set) (omega arith) h) entered-own entered-kept entered-again
     start ds up ∙ sym (enter-each start ds)
 
+ascending-entered : (start : PathsEntered) (ds : List ReactiveScopeDependency) → Ascending (start .set)
+    → Ascending (enterPaths start ds .set)
+ascending-entered start [] up = up
+ascending-entered start (d ∷ ds) up =
+    ascending-entered (enterPath start d) ds
+    (insert-from zero (getOrCreateProperty (start .registry) d .node) (start .set) (omega arith) up)
+
+-- A block's raw reads stay, and what is kept of them is entered before its paths.
+block-entered : (reg : PropertyPathRegistry) (b : Block) → enterBlock reg (thinnedBlock b) ≡ enterBlock reg b
+block-entered reg b =
+    let kept = enterPaths (noneEntered reg) (keptPaths (b .rawReads)) in
+    paths-append (noneEntered reg) (keptPaths (b .rawReads)) (thinnedPaths (b .readyPaths))
+    ∙ enter-thinned kept (b .readyPaths) (ascending-entered (noneEntered reg) (keptPaths (b .rawReads)) tt)
+    ∙ sym (paths-append (noneEntered reg) (keptPaths (b .rawReads)) (b .readyPaths))
+
 pub blocks-thinned : (reg : PropertyPathRegistry) (bs : List Block) → enterBlocks reg (map thinnedBlock bs) ≡ enterBlocks reg bs
 unfolding enterBlocks
 blocks-thinned reg [] = refl
@@ -112,7 +129,7 @@ blocks-thinned reg (b ∷ bs) =
       sets = x .set ∷ rest .sets;
       made = x .made + rest .made;
     } in
-    ap (λ (x : PathsEntered). after x (enterBlocks (x .registry) (map thinnedBlock bs))) (enter-thinned (noneEntered reg) (b .assumed) tt)
+    ap (λ (x : PathsEntered). after x (enterBlocks (x .registry) (map thinnedBlock bs))) (block-entered reg b)
     ∙ ap (after e) (blocks-thinned (e .registry) bs)
 
 -- The graph.

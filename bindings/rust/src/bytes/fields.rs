@@ -3,6 +3,7 @@
 use crate::ids::{IdentifierId, Span};
 use crate::limits;
 use crate::path::{Entry, Path, Property};
+use crate::raw_read::{RawRead, ReadScope};
 use std::fmt;
 use std::ops::RangeInclusive;
 
@@ -13,6 +14,7 @@ pub(crate) enum Fault {
     WrongMark,
     OutOfRange,
     ExtraByte,
+    LargestStart,
 }
 
 /// An answer or a sheet that cannot be read, and the field at which that shows.
@@ -39,6 +41,7 @@ impl fmt::Display for Malformed {
             Fault::WrongMark => write!(f, "another mark stands at byte {byte}: {field} is due"),
             Fault::OutOfRange => write!(f, "the field at byte {byte} is outside its range: {field}"),
             Fault::ExtraByte => write!(f, "byte {byte} follows the last record"),
+            Fault::LargestStart => write!(f, "the field at byte {byte} is too large: {field}"),
         }
     }
 }
@@ -133,6 +136,11 @@ impl<'b> Fields<'b> {
         field: &'static str,
     ) -> Result<(), Malformed> {
         self.mark(mark, field)?;
+        self.path_fields(path)
+    }
+
+    /// The fields of `PA` from the identifier on.
+    fn path_fields(&mut self, path: &mut Path) -> Result<(), Malformed> {
         let identifier = IdentifierId(self.u32("the identifier")?);
         let reactive = self.flag("reactive (0 or 1)")?;
         let span = Span(self.u32("the path's span")?);
@@ -142,6 +150,31 @@ impl<'b> Fields<'b> {
             path.extend([self.entry()?]);
         }
         Ok(())
+    }
+
+    /// An `RD`.
+    pub(crate) fn raw_read(&mut self) -> Result<RawRead, Malformed> {
+        self.mark(*b"RD", "the mark RD")?;
+        let instruction = self.u32("the instruction")?;
+        let range_start = self.range_start()?;
+        let range_end = self.u32("the range's end")?;
+        let has_scope = self.flag("whether there is a scope (0 or 1)")?;
+        let scope = (has_scope, self.u32("the scope's start")?, self.u32("the scope's end")?);
+        let known_immutable = self.flag("whether it is known to be immutable (0 or 1)")?;
+        let mut path = Path::new(IdentifierId(0));
+        self.path_fields(&mut path)?;
+        let scope = ReadScope::of_fields(scope);
+        Ok(RawRead { instruction, range_start, range_end, scope, known_immutable, path })
+    }
+
+    fn range_start(&mut self) -> Result<u32, Malformed> {
+        let (byte, field) = (self.at, "the range's start (0 to 4294967294)");
+        let start = self.u32(field)?;
+        if start <= limits::RANGE_START {
+            Ok(start)
+        } else {
+            Err(Malformed { fault: Fault::LargestStart, byte, field })
+        }
     }
 
     fn entry(&mut self) -> Result<Entry, Malformed> {

@@ -1,4 +1,4 @@
-//! Reads a job, or finds the refusal from 2 to 8 with its place.
+//! Reads a job, or finds the refusal with its place, one from 2 to 8 or 10.
 
 use super::fields::{Fault, Fields, Malformed};
 use crate::build_error::{BuildError, Field, Wrong};
@@ -14,7 +14,7 @@ const SCOPE_BYTE: usize = 6;
 /// Where a block's id stands in its record.
 const ID_BYTE: usize = 2;
 /// Where the first predecessor stands in a block's record.
-const PREDECESSORS_BYTE: usize = 8;
+const PREDECESSORS_BYTE: usize = 9;
 
 /// The parts of the job in these bytes, which are checked here.
 pub(crate) fn read_job(bytes: &[u8]) -> Result<JobBuilder, Refusal> {
@@ -49,7 +49,11 @@ fn header(fields: &mut Fields) -> Result<(usize, usize, BlockId), Malformed> {
 }
 
 fn read_block(fields: &mut Fields, place: usize) -> Result<Block, Refusal> {
-    let (mut block, assumed) = block_head(fields).map_err(within(Record::Block(place)))?;
+    let (mut block, raw_reads, assumed) = block_head(fields).map_err(within(Record::Block(place)))?;
+    for read in 0..raw_reads {
+        let record = Record::RawRead { block: place, read };
+        block = block.reading([fields.raw_read().map_err(within(record))?]);
+    }
     for path in 0..assumed {
         let read =
             fields.path(*b"PA", "the mark PA").map_err(within(Record::Assumed { block: place, path }))?;
@@ -58,17 +62,18 @@ fn read_block(fields: &mut Fields, place: usize) -> Result<Block, Refusal> {
     Ok(block)
 }
 
-/// A block without its assumed paths, and how many they are.
-fn block_head(fields: &mut Fields) -> Result<(Block, usize), Malformed> {
+/// A block without its raw reads and its assumed paths, and how many they are.
+fn block_head(fields: &mut Fields) -> Result<(Block, usize, usize), Malformed> {
     fields.mark(*b"BL", "the mark BL")?;
     let id = BlockId(fields.u32("the block's id")?);
     let predecessors = fields.count(0..=limits::PREDECESSORS, "how many predecessors (0 to 64)")?;
     let assumed = fields.count(0..=limits::ASSUMED, "how many assumed paths (0 to 255)")?;
+    let raw_reads = fields.count(0..=limits::RAW_READS, "how many raw reads (0 to 255)")?;
     let mut block = Block::new(id);
     for _ in 0..predecessors {
         block = block.after([BlockId(fields.u32("a predecessor's id")?)]);
     }
-    Ok((block, assumed))
+    Ok((block, raw_reads, assumed))
 }
 
 /// The refusal for a field of this record.
@@ -80,6 +85,7 @@ fn within(record: Record) -> impl Fn(Malformed) -> Refusal {
             Fault::WrongMark => Refusal::WrongMark(place),
             Fault::OutOfRange => Refusal::OutOfRange(place),
             Fault::ExtraByte => Refusal::ExtraByte(place),
+            Fault::LargestStart => Refusal::LargestStart(place),
         }
     }
 }

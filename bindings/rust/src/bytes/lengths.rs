@@ -5,7 +5,12 @@ pub(crate) const HEADER: usize = 10;
 
 /// `BL`, with so many predecessors.
 pub(crate) fn block(predecessors: usize) -> usize {
-    8 + 4 * predecessors
+    9 + 4 * predecessors
+}
+
+/// `RD`, with so many entries.
+pub(crate) fn raw_read(entries: usize) -> usize {
+    22 + path(entries)
 }
 
 /// `PA` or `CA`, with so many entries.

@@ -3,7 +3,7 @@
 use super::failure::Failure;
 
 /// The jobs of the repository's `examples`, by name, each with what it shows.
-const EXAMPLES: [(&str, &str, &str); 6] = [
+const EXAMPLES: [(&str, &str, &str); 7] = [
     (
         "no-last-session",
         "a path is cut before what would throw for an athlete with no last session",
@@ -20,6 +20,11 @@ const EXAMPLES: [(&str, &str, &str); 6] = [
         "loop",
         "a block of a loop holds a path that a run avoids, but not with `--strict`",
         include_str!("jobs/loop.job"),
+    ),
+    (
+        "raw-reads",
+        "a read is kept where its variable can no longer change, and left out where it can",
+        include_str!("jobs/raw-reads.job"),
     ),
     ("repeats", "a thin job has each path of a list once", include_str!("jobs/repeats.job")),
 ];

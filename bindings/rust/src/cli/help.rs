@@ -62,6 +62,7 @@ A job as text:
   scope 3                           the scope block is block 3
   block 0                           blocks follow in the job's order
   block 1 after 0                   its predecessors, with commas between
+    reads 6 at 4 range 0 to 1       a raw read: instruction 4 reads a property of the path 6
     assumes 5, reactive 5?.10       paths that are there when the block runs
   block 2 after 0
     assumes 5
@@ -77,6 +78,17 @@ A path starts with a variable's number. Then its entries follow:
   [0x5]     the number of these 64 bits, where no decimal says them well
   @71       after the variable or an entry: the span of the path or of that entry; none is 0
   reactive  before the path: its variable is reactive
+
+Of a raw read the stage decides whether the block assumes the path. It does, unless the variable can still
+change at the instruction: where its range is longer than one instruction, it has a scope, and the instruction
+is in the scope. The first number of a range is in it, and the last is not. Raw reads stand before `assumes`.
+
+  reads 6 at 4 range 0 to 1                           assumed: the range is one instruction
+  reads 6 at 4 range 0 to 9                           assumed: there is no scope
+  reads 6 at 4 range 0 to 9 scope 5 to 9              assumed: instruction 4 is not in the scope
+  reads 6 at 4 range 0 to 9 scope 0 to 9              not assumed, and left out
+  reads 6 at 4 range 0 to 9 scope 0 to 9 immutable    assumed: it is known that 6 does not change
+  reads 6 at 4 range 0 to 9 no scope 0 to 9           assumed: numbers without a scope, as bytes may have them
 
 Names and variables are the host's numbers for them. A text may say what people call them, before or
 between blocks and candidates, and then use it; answers, sheets, explanations and pictures use it too:
@@ -108,8 +120,8 @@ bytes are given as `xxd`, `xxd -p` or `hexdump -C` prints them, or in any hexade
 space or `/` between bytes. With `--names FILE` the text has the names in that file, which has lines
 such as `name 1 athlete` and `name .10 lastSession`.
 
-A job that the stage would refuse by 2 to 8 has no text. The message then says the number, what it
-means, and for 3 to 8 at which byte and in which record:
+A job that the stage would refuse by 2 to 8 or by 10 has no text. The message then says the number, what
+it means, and for all but 2 at which byte and in which record:
 
   $ echo 4844 0100 4100 | scope-deps decode --from hex
   scope-deps: standard input: refusal 5, OutOfRange: a field's value is outside its range; at byte 4,
@@ -172,9 +184,9 @@ usage: scope-deps thin [-o FILE] [--bytes] [--from FORM] [--names FILE] [FILE]
 
 Writes a job without repeats: in each block, and among the candidates, a path is dropped where an earlier
 one has the same variable and the same entries, optional marks included. Spans and `reactive` may differ;
-the first keeps its own. The thin job has the same answer and the same sheet, with `--strict` too; where
-these are refused by 9, so are those of the thin job. In bytes, which is what a cache stores, the thin job
-of a thin job is the same again.
+the first keeps its own. Raw reads are compared with nothing, and all stay. The thin job has the same answer
+and the same sheet, with `--strict` too; where these are refused by 9, so are those of the thin job. In bytes,
+which is what a cache stores, the thin job of a thin job is the same again.
 
 It is written as text, or with `--bytes` in bytes. A text keeps its names and loses its comments; where paths
 were dropped, a comment says how many.
@@ -198,7 +210,8 @@ otherwise an optional entry stays optional, and at a plain one the path is cut. 
 assumes, and what all blocks have that control comes from, or all that it goes on to. So a cut has one
 of these reasons: no block assumes the base, or it stopped on the way, at a block beside which another
 does not have it. On a loop, blocks that are not finished are left out. With `--strict`, nothing is taken
-over where one would be left out, and that is a reason for a cut, too.
+over where one would be left out, and that is a reason for a cut, too. Where a block reads the base, but the
+read is not kept, since the variable can still change there, that is told as well.
 
   $ echo 'scope 2 block 0 assumes 1 block 1 after 0 assumes 1.10 block 2 after 0, 1 candidate 1.10.11' | scope-deps explain
   candidate 1.10.11
@@ -218,6 +231,16 @@ over where one would be left out, and that is a reason for a cut, too.
            block 0 assumes 1, but block 1 takes nothing over from the blocks before it, since it is itself one of them and not finished
 
   nodes 1: 1 before the first round, 0 added by reduction
+
+  $ echo 'scope 0 block 0 reads 1 at 3 range 0 to 2 scope 0 to 9 candidate 1.10' | scope-deps explain
+  candidate 1.10
+   returned 1
+      .10  is cut: 1 is not known to be there in block 0
+           no block assumes 1
+           block 0 reads 1 at instruction 3, but 1 can still change there: its range 0 to 2 is longer than one \
+instruction, and instruction 3 is in its scope, 0 to 9
+
+  nodes 0: 0 before the first round, 0 added by reduction
 
 The end says how many nodes there were before the first round, and how many reduction added, with the
 paths of these, or the first three where there are more than four; `scope-deps help sheet` says what
@@ -244,13 +267,15 @@ const DRAW: &str = "\
 usage: scope-deps draw [-o FILE.svg] [--focus] [--strict] [--from FORM] [--names FILE] [FILE]
 
 Draws a job, with its sheet and its answer, as one SVG file that a browser shows: the blocks in layers
-from the first down, arrows for control, those that close a loop dashed; in each block the paths that
-it assumes and those that it holds in the end; beside the scope block each candidate with what is
-returned of it and where it is cut. A block that holds what its only predecessor holds says so. Under
-the title stands how many nodes there were before the first round, and how many reduction added. That
-line names those that were added, or some of them where they are many or long, and then all are there
-under the pointer. The box of the block that added such a node has its path under `adds`, and a `+`
-stands before that path wherever a box names it. Where that block is not drawn, the line says so.
+from the first down, arrows for control, those that close a loop dashed; in each block the paths that it
+assumes and those that it holds in the end; beside the scope block each candidate with what is returned
+of it and where it is cut. Raw reads stand under `reads`, with their instructions, and those that are
+not kept are struck through, under `not kept`, with the reason under the pointer. A block that holds
+what its only predecessor holds says so. Under the title stands how many nodes there were before the
+first round, and how many reduction added. That line names those that were added, or some of them where
+they are many or long, and then all are there under the pointer. The box of the block that added such a
+node has its path under `adds`, and a `+` stands before that path wherever a box names it. Where that
+block is not drawn, the line says so.
 
 Under the pointer, a block's arrows are lit and the others dimmed; after a click they stay so. Paths for
 which a box has no more lines are there under the pointer. On a dark screen the picture is dark.

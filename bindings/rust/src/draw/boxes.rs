@@ -1,12 +1,13 @@
-//! The box of a block: its id, the paths that it assumes, those that it holds in the end, and those
-//! whose nodes reduction added there.
+//! The box of a block: its id, the paths that it reads and those that it assumes, those that it
+//! holds in the end, and those whose nodes reduction added there.
 
 use super::place::Extent;
 use super::shown::{self, Item, Piece};
 use super::svg::{width, Svg, SMALL};
-use crate::explain::Explanation;
+use crate::explain::{can_change, Explanation};
 use crate::ids::BlockId;
 use crate::job::{Block, Job};
+use crate::raw_read::RawRead;
 use crate::sheet::{NodeSet, Sheet};
 
 pub(super) const PADDING: f64 = 9.0;
@@ -28,6 +29,7 @@ pub(super) struct BlockBox {
 }
 
 /// A line of a box.
+#[derive(Clone)]
 struct Row {
     label: &'static str,
     pieces: Vec<Piece>,
@@ -49,7 +51,7 @@ impl BlockBox {
         let is_scope = block.id() == job.scope();
         let head = format!("{} {}", if is_scope { "scope block" } else { "block" }, block.id());
         let most = if drawn <= FEW_BLOCKS { 8 } else { 4 };
-        let (assumed, held) = (assumed(job, block), held(job, block, sheet));
+        let held = held(job, block, sheet);
         let of_held = match same_as(block, sheet).filter(|&id| is_drawn(id)) {
             Some(id) => vec![Row::note("holds", format!("the same as block {id}"), shown::all(&held))],
             None => rows("holds", &held, most),
@@ -61,9 +63,10 @@ impl BlockBox {
                 rows(label, paths, most)
             }
         };
-        let (of_assumed, of_added) =
-            (of_others("assumes", &assumed), of_others("adds", &added(block, explanation)));
-        let rows: Vec<Row> = of_assumed.into_iter().chain(of_held).chain(of_added).collect();
+        let (of_reads, of_assumed) =
+            (of_others("reads", &kept(job, block)), of_others("assumes", &assumed(job, block)));
+        let of_added = of_others("adds", &added(block, explanation));
+        let rows = [of_reads, not_kept(job, block, most), of_assumed, of_held, of_added].concat();
         let widest = rows.iter().map(Row::width).fold(width(&head, SMALL), f64::max);
         let height = 2.0 * PADDING + LINE * (1 + rows.len()) as f64 - 4.0;
         let is_own_predecessor = block.predecessors().contains(&block.id());
@@ -98,7 +101,31 @@ fn same_as(block: &Block, sheet: &Sheet) -> Option<BlockId> {
     (before != block.id() && !own.is_empty() && own == set_before).then_some(before)
 }
 
-/// The paths that a block assumes.
+/// The raw reads of a block that are kept.
+fn kept(job: &Job, block: &Block) -> Vec<Item> {
+    block.kept_reads().map(|read| Item::read(read, job.names())).collect()
+}
+
+/// Those that are not, each in lines of its own, with the reason under the pointer; what comes
+/// after so many lines is counted at their end.
+fn not_kept(job: &Job, block: &Block, most: usize) -> Vec<Row> {
+    let reads: Vec<&RawRead> = block.raw_reads().iter().filter(|read| !read.is_kept()).collect();
+    let items: Vec<Item> = reads.iter().map(|read| Item::read(read, job.names())).collect();
+    let mut rows = Vec::new();
+    for (place, (read, item)) in reads.iter().zip(&items).enumerate() {
+        let own = item.lines(false);
+        if place > 0 && rows.len() + own.len() > most {
+            rows.push(Row::more(&items[place..], false));
+            break;
+        }
+        let full = format!("read at instruction {}, but {}", read.instruction, can_change(read, job.names()));
+        rows.extend(own.into_iter().map(|pieces| Row { label: "", pieces, full: full.clone() }));
+    }
+    rows.first_mut().into_iter().for_each(|first| first.label = "not kept");
+    rows
+}
+
+/// The paths that a block assumes without a read.
 fn assumed(job: &Job, block: &Block) -> Vec<Item> {
     block.assumed().iter().map(|path| Item::new(path, job.names(), "assumed")).collect()
 }

@@ -8,7 +8,8 @@ use std::collections::BTreeSet;
 /// The scope block; the blocks by way of which the paths came there that decide about bases; and of
 /// each base that is not known there the nearest block at which it stopped, with the neighbours
 /// that have it and those that kept it from there, and the blocks by way of which one of them came
-/// to have it; or those that assume it, where they are not connected with the scope block.
+/// to have it; or those that assume it, where they are not connected with the scope block; and the
+/// first that reads it, where that read is not kept.
 pub(super) fn blocks_in_focus(explanation: &Explanation) -> BTreeSet<BlockId> {
     let mut blocks = BTreeSet::from([explanation.scope]);
     let mut steps = Vec::new();
@@ -35,7 +36,7 @@ fn unknown(reason: &Reason) -> impl Iterator<Item = &Unknown> {
         Base::Unknown(why) => Some(why),
     });
     let of_end = match &reason.end {
-        End::Cut { why, .. } => Some(why),
+        End::Cut { why, .. } => Some(&**why),
         End::Whole | End::Covered { .. } => None,
     };
     of_entries.chain(of_end)
@@ -43,11 +44,12 @@ fn unknown(reason: &Reason) -> impl Iterator<Item = &Unknown> {
 
 /// Adds the blocks that keep the scope block from having a base, and how another came to have it.
 fn stopped(explanation: &Explanation, why: &Unknown, blocks: &mut BTreeSet<BlockId>, steps: &mut Vec<usize>) {
-    let is_assumed = |step: &usize| explanation.steps[*step].how == How::Assumed;
+    let is_assumed = |step: &usize| matches!(explanation.steps[*step].how, How::Assumed { .. });
+    blocks.extend(why.not_kept.first().map(|read| read.block));
     steps.extend(why.open.as_ref().map(|open| open.step));
     match &why.elsewhere {
         Elsewhere::Here { holder, .. } => steps.push(holder.step),
-        Elsewhere::Nowhere(open) => blocks.extend(open.first().map(|(block, _)| block)),
+        Elsewhere::Nowhere(open) => blocks.extend(open.first().map(|open| open.block)),
         Elsewhere::Apart { holders, .. } => {
             steps.extend(holders.iter().map(|holder| holder.step).filter(is_assumed));
         }
@@ -77,7 +79,7 @@ fn along(explanation: &Explanation, mut open: Vec<usize>) -> BTreeSet<BlockId> {
         if seen.insert(place) {
             blocks.insert(step.block);
             match &step.how {
-                How::Assumed => {}
+                How::Assumed { .. } => {}
                 How::TookOver { from, left_out, .. } => {
                     open.extend(from);
                     blocks.extend(left_out);

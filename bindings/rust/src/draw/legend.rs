@@ -16,27 +16,47 @@ const LINES: [Line; 4] = [
     &[("", "1"), ("knife", "|"), ("covered", ".10"), ("label", ": not needed, since another ends at 1")],
 ];
 
-/// Only where the picture has such a path.
+const READS: Line = &[("assumed", "reads 1 at 3"), ("label", ": read by instruction 3, and taken as given")];
+
+const NOT_KEPT: Line = &[
+    // Not every program shows a usual blank between two pieces.
+    ("label", "not kept\u{a0}"),
+    ("cut", "1 at 3"),
+    ("label", ": read while 1 can still change, so not taken"),
+];
+
 const ADDED: Line =
     &[("added", "adds +1.10"), ("label", ": added there by reduction, where a ?. became plain")];
 
-/// The lines below the first, which has the arrows.
-fn lines(has_added: bool) -> impl Iterator<Item = Line> {
-    LINES.into_iter().chain(has_added.then_some(ADDED))
+/// What the picture has that not every one has.
+#[derive(Clone, Copy)]
+pub(super) struct Has {
+    /// Raw reads that are kept.
+    pub(super) reads: bool,
+    /// Raw reads that are not kept.
+    pub(super) not_kept: bool,
+    /// Paths whose nodes reduction added.
+    pub(super) added: bool,
 }
 
-pub(super) fn height(has_added: bool) -> f64 {
-    LINE * (1 + lines(has_added).count()) as f64
+/// The lines below the first, which has the arrows.
+fn lines(has: Has) -> impl Iterator<Item = Line> {
+    let reads = has.reads.then_some(READS).into_iter().chain(has.not_kept.then_some(NOT_KEPT));
+    LINES.into_iter().chain(reads).chain(has.added.then_some(ADDED))
+}
+
+pub(super) fn height(has: Has) -> f64 {
+    LINE * (1 + lines(has).count()) as f64
 }
 
 /// Draws it, in a group of its own, so that its arrows are not among those that follow a block.
-pub(super) fn draw(y: f64, has_added: bool, svg: &mut Svg) {
+pub(super) fn draw(y: f64, has: Has, svg: &mut Svg) {
     svg.open("");
     arrow(0.0, y, Look::Control, svg);
     svg.text(44.0, y, "label", "control");
     arrow(130.0, y, Look::Loop, svg);
     svg.text(174.0, y, "label", "control that closes a loop");
-    for (line, parts) in lines(has_added).enumerate() {
+    for (line, parts) in lines(has).enumerate() {
         svg.texts(0.0, y + LINE * (line + 1) as f64, parts, "");
     }
     svg.close();

@@ -1,11 +1,11 @@
 //! A picture of a job with its sheet and its answer.
 //!
 //! The blocks stand in layers, from the first down. Arrows are control, dashed where they close a
-//! loop. Each block has the paths that it assumes, those that it holds in the end, and those whose
-//! nodes reduction added there; a path whose node was added has a mark. Beside the scope block
-//! stands each candidate, with what is returned of it and where it is cut. Under the title stands
-//! how many nodes there are, how many of them before the first round, and which ones reduction
-//! added.
+//! loop. Each block has the paths that it reads, kept and not kept, those that it assumes, those
+//! that it holds in the end, and those whose nodes reduction added there; a path whose node was
+//! added has a mark, and a read that is not kept is struck through. Beside the scope block stands
+//! each candidate, with what is returned of it and where it is cut. Under the title stands how many
+//! nodes there are, how many of them before the first round, and which ones reduction added.
 //!
 //! A block under the pointer lights its arrows and dims the others, and on a dark screen the
 //! picture is dark: both by the style sheet in the file, without a script. [`draw_focused`] leaves
@@ -44,12 +44,14 @@ mod view;
 use crate::answer::Answer;
 use crate::explain::{explain_by, Explanation, Mismatch};
 use crate::job::{Block, Job};
+use crate::raw_read::RawRead;
 use crate::replay::Propagation;
 use crate::sheet::{NodeSet, Sheet};
 use arrows::Drawn;
 use boxes::BlockBox;
 use gaps::Gap;
 use layers::Layers;
+use legend::Has;
 use nodes::Nodes;
 use panel::Panel;
 use place::{At, Extent, Placed};
@@ -187,12 +189,19 @@ impl Picture<'_> {
         svg.texts(0.0, 42.0 - TITLE, &[("label", &nodes.text)], &nodes.full);
         let heads = svg::width(&title, svg::LARGE).max(svg::width(&nodes.text, svg::SMALL));
         let width = placed.width.max(legend::WIDTH).max(heads);
-        let has_added = self.has_added(explanation);
-        legend::draw(placed.height + ABOVE_LEGEND, has_added, &mut svg);
-        let height = placed.height + TITLE + ABOVE_LEGEND + legend::height(has_added);
+        let has = self.has(explanation);
+        legend::draw(placed.height + ABOVE_LEGEND, has, &mut svg);
+        let height = placed.height + TITLE + ABOVE_LEGEND + legend::height(has);
         let style = style::style(self.view.blocks.iter().copied());
         let size = [width + 2.0 * MARGIN, height + 2.0 * MARGIN];
         svg.file(&style, &title, size, [MARGIN, MARGIN + TITLE])
+    }
+
+    /// What the blocks that are drawn have, for the legend.
+    fn has(&self, explanation: &Explanation) -> Has {
+        let reads = || self.drawn_blocks().flat_map(Block::raw_reads);
+        let not_kept = reads().any(|read| !read.is_kept());
+        Has { reads: reads().any(RawRead::is_kept), not_kept, added: self.has_added(explanation) }
     }
 
     /// Whether a block that is drawn adds a path's node by reduction, or holds such a path.

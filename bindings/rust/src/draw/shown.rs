@@ -2,6 +2,7 @@
 
 use crate::names::Names;
 use crate::path::Path;
+use crate::raw_read::RawRead;
 
 /// The most characters of a line of paths. Only a variable or an entry that is longer by itself
 /// makes a longer line.
@@ -42,8 +43,15 @@ impl Item {
         Self { parts, class: "added", is_added: true }
     }
 
+    /// A raw read with its instruction. One that is not kept is struck through.
+    pub(super) fn read(read: &RawRead, names: &Names) -> Self {
+        let mut parts = parts(&read.path, names);
+        parts.push(format!(" at {}", read.instruction));
+        Self { parts, class: if read.is_kept() { "assumed" } else { "cut" }, is_added: false }
+    }
+
     /// The lines of the path by itself, with a comma behind it where others follow.
-    fn lines(&self, others_follow: bool) -> Vec<Vec<Piece>> {
+    pub(super) fn lines(&self, others_follow: bool) -> Vec<Vec<Piece>> {
         let mut parts = self.parts.clone();
         if let (true, Some(last)) = (others_follow, parts.last_mut()) {
             last.push(',');

@@ -1,7 +1,7 @@
 //! The nodes that reduction added, where, and for which assumed paths.
 
-use super::bases::on_the_way;
-use super::steps::{How, Steps};
+use super::origins::{origins, Origin};
+use super::steps::Steps;
 use crate::ids::{BlockId, NodeId};
 use crate::job::{Block, Job};
 use crate::path::Path;
@@ -35,15 +35,6 @@ pub struct Added {
     pub place: usize,
 }
 
-/// An assumed path, and the blocks from which it came.
-#[derive(Clone, Debug, PartialEq, Eq, Hash)]
-pub struct Origin {
-    /// The path, with its spans and its `reactive` as the first of the blocks assumes it.
-    pub path: Path,
-    /// The blocks that assume it, ascending. There is at least one.
-    pub blocks: Vec<BlockId>,
-}
-
 /// All that reduction added, in the order in which it did, which is that of the nodes' numbers.
 pub(super) fn added(job: &Job, replay: &Replay) -> Vec<Added> {
     let mut steps = Steps::new(job, replay);
@@ -59,7 +50,7 @@ pub(super) fn added(job: &Job, replay: &Replay) -> Vec<Added> {
             from: replay.path(replaced.from),
             to: replay.path(replaced.to),
             bases: replaced.bases.iter().map(|&base| replay.path(base)).collect(),
-            origins: origins(job, &mut steps, visit, place),
+            origins: of_replaced(job, &mut steps, visit, place),
             visit,
             place,
         }));
@@ -68,20 +59,10 @@ pub(super) fn added(job: &Job, replay: &Replay) -> Vec<Added> {
 }
 
 /// Where the path that was replaced comes from.
-fn origins(job: &Job, steps: &mut Steps, visit: usize, place: usize) -> Vec<Origin> {
+fn of_replaced(job: &Job, steps: &mut Steps, visit: usize, place: usize) -> Vec<Origin> {
     let step = steps.replaced(visit, place);
-    let mut found: Vec<Origin> = Vec::new();
-    for step in on_the_way(&steps.found, step).into_iter().map(|step| &steps.found[step]) {
-        if step.how != How::Assumed {
-            continue;
-        }
-        match found.iter_mut().find(|origin| origin.path.same_entries(&step.path)) {
-            Some(origin) => origin.blocks.push(step.block),
-            None => found.push(Origin { path: step.path.clone(), blocks: vec![step.block] }),
-        }
-    }
+    let mut found = origins(&steps.found, step);
     for origin in &mut found {
-        origin.blocks.sort();
         origin.path = own_form(job, origin.blocks[0], &origin.path);
     }
     found.sort_by_key(|origin| origin.blocks[0]);
@@ -91,6 +72,6 @@ fn origins(job: &Job, steps: &mut Steps, visit: usize, place: usize) -> Vec<Orig
 /// The path as the block itself assumes it. A node has the spans of the block that made it.
 fn own_form(job: &Job, id: BlockId, path: &Path) -> Path {
     let block = job.blocks().iter().filter(|block| block.id() == id);
-    let mut own = block.flat_map(Block::assumed).filter(|own| own.same_entries(path));
+    let mut own = block.flat_map(Block::all_assumed).filter(|own| own.same_entries(path));
     own.next().unwrap_or(path).clone()
 }

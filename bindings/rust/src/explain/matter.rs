@@ -36,17 +36,18 @@ fn unknowns(reason: &Reason) -> impl Iterator<Item = &Unknown> {
         Base::Unknown(why) => Some(why),
     });
     let of_end = match &reason.end {
-        End::Cut { why, .. } => Some(why),
+        End::Cut { why, .. } => Some(&**why),
         _ => None,
     };
     of_entries.chain(of_end)
 }
 
 fn of_unknown(why: &Unknown, blocks: &mut BTreeSet<BlockId>) {
+    blocks.extend(why.not_kept.iter().map(|read| read.block));
     match &why.elsewhere {
         // The blocks that have a path of the base have steps.
         Elsewhere::Here { .. } | Elsewhere::Apart { .. } => {}
-        Elsewhere::Nowhere(open) => blocks.extend(open.iter().map(|(block, _)| block)),
+        Elsewhere::Nowhere(open) => blocks.extend(open.iter().map(|open| open.block)),
         Elsewhere::Stopped { stops, .. } => stops.iter().for_each(|stop| of_stop(stop, blocks)),
     }
 }

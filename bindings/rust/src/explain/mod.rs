@@ -39,21 +39,25 @@ mod arrivals;
 mod bases;
 mod blocks;
 mod matter;
+mod not_kept;
+mod origins;
 mod paths;
 mod steps;
 mod stops;
 mod text;
 mod unknown;
 
-pub use added::{Added, Origin};
+pub use added::Added;
 pub use bases::{Base, Known, LeftOut};
 pub use matter::blocks_that_matter;
+pub use not_kept::NotKept;
+pub use origins::Origin;
 pub use steps::{How, Step};
 pub use stops::{Holder, Stop, Way, Why};
-#[cfg(feature = "draw")]
-pub(crate) use text::some_listed;
 pub use text::InFull;
-pub use unknown::{Before, Elsewhere, Unknown};
+#[cfg(feature = "draw")]
+pub(crate) use text::{can_change, some_listed};
+pub use unknown::{AssumedPath, Before, Elsewhere, Unknown};
 
 use crate::answer::Answer;
 use crate::ids::BlockId;
@@ -133,7 +137,7 @@ pub enum End {
         /// The entry, the first that is not returned.
         entry: Entry,
         /// Why the base is not known.
-        why: Unknown,
+        why: Box<Unknown>,
     },
     /// Another candidate ends or is cut there, and what depends on a path depends on all below it.
     Covered {
@@ -246,7 +250,7 @@ fn end_of(job: &Job, bases: &mut Bases, candidate: &Path, returned: &Path) -> Re
     }
     match candidate.entries().get(returned.entries().len()) {
         None => Ok(End::Whole),
-        Some(&entry) => Ok(End::Cut { entry, why: bases.unknown(returned) }),
+        Some(&entry) => Ok(End::Cut { entry, why: Box::new(bases.unknown(returned)) }),
     }
 }
 

@@ -24,7 +24,10 @@ pub struct Step {
 #[derive(Clone, Debug, PartialEq, Eq, Hash)]
 pub enum How {
     /// The block assumes it.
-    Assumed,
+    Assumed {
+        /// The instruction of the block that reads it, where it is that of a raw read that is kept.
+        read_at: Option<u32>,
+    },
     /// The block took it over from its neighbours on one side.
     TookOver {
         /// The number of the visit in [`Replay::visits`].
@@ -55,7 +58,7 @@ impl How {
     #[must_use]
     pub fn visit(&self) -> Option<usize> {
         match *self {
-            Self::Assumed => None,
+            Self::Assumed { .. } => None,
             Self::TookOver { visit, .. } | Self::Made { visit, .. } => Some(visit),
         }
     }
@@ -63,7 +66,7 @@ impl How {
     /// The moment, by which steps are put in order.
     pub(super) fn moment(&self) -> Moment {
         match *self {
-            Self::Assumed => None,
+            Self::Assumed { .. } => None,
             Self::TookOver { visit, .. } => Some((visit, 0)),
             Self::Made { visit, place, .. } => Some((visit, place + 1)),
         }
@@ -72,7 +75,7 @@ impl How {
     /// The steps by which the path itself came, in whatever form.
     pub(super) fn from(&self) -> &[usize] {
         match self {
-            Self::Assumed => &[],
+            Self::Assumed { .. } => &[],
             Self::TookOver { from, .. } => from,
             Self::Made { from, .. } => std::slice::from_ref(from),
         }
@@ -129,7 +132,7 @@ impl<'a> Steps<'a> {
         }
         let (block, node, _) = key;
         let (block, path) = (self.job.blocks()[block].id(), self.replay.path(node));
-        self.found.push(Step { block, path, how: How::Assumed });
+        self.found.push(Step { block, path, how: How::Assumed { read_at: None } });
         self.places.insert(key, self.found.len() - 1);
         self.open.push(key);
         self.found.len() - 1
@@ -142,10 +145,17 @@ impl<'a> Steps<'a> {
         }
     }
 
+    /// The instruction of the first raw read by which the block assumes a node, if there is one.
+    fn read_at(&self, block: usize, node: NodeId) -> Option<u32> {
+        let reads = self.job.blocks()[block].kept_reads().zip(self.replay.assumed(block));
+        let mut of_node = reads.filter(|(_, own)| **own == node);
+        of_node.next().map(|(read, _)| read.instruction)
+    }
+
     fn how(&mut self, (block, node, moment): (usize, NodeId, Moment)) -> How {
         let replay = self.replay;
         let Some((visit, place)) = moment else {
-            return How::Assumed;
+            return How::Assumed { read_at: self.read_at(block, node) };
         };
         let event = &replay.visits()[visit];
         if place == 0 {

@@ -1,6 +1,7 @@
 //! Why a base is not known in the scope block.
 
 use super::blocks::Blocks;
+use super::not_kept::{not_kept, NotKept};
 use super::paths::{leaves_open, starts_optional};
 use super::steps::Steps;
 use super::stops::{held, holder, stops, Holder, Stop};
@@ -18,6 +19,20 @@ pub struct Unknown {
     pub open: Option<Holder>,
     /// What other blocks know of it.
     pub elsewhere: Elsewhere,
+    /// The raw reads by which blocks would have it that do not, and which are not kept. Where there
+    /// are several, the first is the nearest to the reason.
+    pub not_kept: Vec<NotKept>,
+}
+
+/// A path that a block assumes.
+#[derive(Clone, Debug, PartialEq, Eq, Hash)]
+pub struct AssumedPath {
+    /// The block.
+    pub block: BlockId,
+    /// The path.
+    pub path: Path,
+    /// The instruction of the block that reads it, where it is that of a raw read that is kept.
+    pub read_at: Option<u32>,
 }
 
 /// Which blocks have a base that is not known in the scope block.
@@ -31,7 +46,7 @@ pub enum Elsewhere {
         before: Before,
     },
     /// None has it, since none assumes it. These assume paths that go on from it by `?.`.
-    Nowhere(Vec<(BlockId, Path)>),
+    Nowhere(Vec<AssumedPath>),
     /// No arrows connect the blocks that have it with the scope block.
     Apart {
         /// The blocks that have it.
@@ -75,7 +90,8 @@ pub(super) fn unknown(
         }
         _ => elsewhere(blocks, steps, base),
     };
-    Unknown { base: base.clone(), open, elsewhere }
+    let not_kept = not_kept(blocks, base, &elsewhere);
+    Unknown { base: base.clone(), open, elsewhere, not_kept }
 }
 
 /// Why the first of these paths decides, and not the second.
@@ -102,10 +118,12 @@ fn elsewhere(blocks: &Blocks, steps: &mut Steps, base: &Path) -> Elsewhere {
 }
 
 /// The blocks that assume a path that goes on from the base by `?.`, each with its first.
-fn leaving_open(blocks: &Blocks, base: &Path) -> Vec<(BlockId, Path)> {
+fn leaving_open(blocks: &Blocks, base: &Path) -> Vec<AssumedPath> {
     let of_block = |block: &Block| {
-        let path = block.assumed().iter().find(|path| leaves_open(path, base))?;
-        Some((block.id(), path.clone()))
+        let reads = block.kept_reads().map(|read| (&read.path, Some(read.instruction)));
+        let mut assumed = reads.chain(block.assumed().iter().map(|path| (path, None)));
+        let (path, read_at) = assumed.find(|(path, _)| leaves_open(path, base))?;
+        Some(AssumedPath { block: block.id(), path: path.clone(), read_at })
     };
     blocks.job.blocks().iter().filter_map(of_block).collect()
 }

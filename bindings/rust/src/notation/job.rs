@@ -6,6 +6,7 @@ use super::names::names_here;
 use super::number::whole_u32;
 use super::path::path;
 use super::positions::{BlockPositions, Positions};
+use super::raw_read::raw_read;
 use crate::builder::JobBuilder;
 use crate::ids::BlockId;
 use crate::job::{Block, Job};
@@ -79,22 +80,38 @@ impl Reader<'_> {
         positions.id = Some(self.cursor.position());
         let mut block = Block::new(BlockId(whole_u32(&mut self.cursor, "a block's id")?));
         self.cursor.skip_blank();
-        self.goes_on_with = vec!["`after`", "`assumes`"];
+        self.goes_on_with = vec!["`after`", "`reads`", "`assumes`"];
         if self.cursor.keyword("after") {
             block = block.after(self.list(&mut positions.predecessors, predecessor)?);
-            self.goes_on_with = vec!["`,`", "`assumes`"];
+            self.goes_on_with = vec!["`,`", "`reads`", "`assumes`"];
+        }
+        while self.cursor.keyword("reads") {
+            self.cursor.skip_blank();
+            positions.raw_reads.push(self.cursor.position());
+            let (read, goes_on_with) = raw_read(&mut self.cursor, &self.names)?;
+            block = block.reading([read]);
+            self.goes_on_with = [goes_on_with, &["`reads`", "`assumes`"]].concat();
         }
         while self.cursor.keyword("assumes") {
             block = block.assuming(self.list(&mut positions.assumed, path)?);
             self.goes_on_with = vec!["`,`", "`assumes`"];
         }
         self.positions.blocks.push(positions);
-        let here = self.cursor.position();
-        if self.cursor.keyword("after") {
-            let message = "a block's predecessors stand in one list, right after its id";
-            return Err(NotationError::new(here, message));
-        }
+        self.check_order()?;
         Ok(block)
+    }
+
+    /// That no part of a block stands here, behind one that comes after it.
+    fn check_order(&mut self) -> Result<(), NotationError> {
+        let here = self.cursor.position();
+        let message = if self.cursor.keyword("after") {
+            "a block's predecessors stand in one list, right after its id"
+        } else if self.cursor.keyword("reads") {
+            "what a block reads stands before what it assumes"
+        } else {
+            return Ok(());
+        };
+        Err(NotationError::new(here, message))
     }
 
     /// The candidates, to the end of the text.

@@ -1,9 +1,9 @@
 //! Jobs and paths as text, and answers and sheets too. `docs/NOTATION.md` has the grammar.
 //!
-//! [`Job`](crate::Job) and [`Path`](crate::Path) are read by `parse` and shown by `Display`, and
-//! what is shown reads back to the same value. [`Answer`](crate::Answer) and
-//! [`Sheet`](crate::Sheet) are shown only. [`Names`](crate::Names) are read and shown too, and all
-//! others can be shown with them.
+//! [`Job`](crate::Job), [`Path`](crate::Path) and [`RawRead`](crate::RawRead) are read by `parse`
+//! and shown by `Display`, and what is shown reads back to the same value.
+//! [`Answer`](crate::Answer) and [`Sheet`](crate::Sheet) are shown only. [`Names`](crate::Names)
+//! are read and shown too, and all others can be shown with them.
 //!
 //! ```
 //! use scope_deps::Job;
@@ -20,6 +20,7 @@ mod names;
 mod number;
 mod path;
 mod positions;
+mod raw_read;
 pub(crate) mod show;
 mod with_names;
 

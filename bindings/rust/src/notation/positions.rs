@@ -15,6 +15,7 @@ pub(super) struct Positions {
 pub(super) struct BlockPositions {
     pub(super) id: Option<Position>,
     pub(super) predecessors: Vec<Position>,
+    pub(super) raw_reads: Vec<Position>,
     pub(super) assumed: Vec<Position>,
 }
 
@@ -29,6 +30,7 @@ impl Positions {
             (_, Field::Blocks) => self.blocks.get(beyond)?.id,
             (_, Field::Candidates) => self.candidates.get(beyond).copied(),
             (Record::Block(block), field) => self.blocks.get(block)?.of(field, beyond),
+            (Record::RawRead { block, read }, _) => self.blocks.get(block)?.raw_reads.get(read).copied(),
             (Record::Assumed { block, path }, _) => self.blocks.get(block)?.assumed.get(path).copied(),
             (Record::Candidate(place), _) => self.candidates.get(place).copied(),
             (Record::Header | Record::End, _) => self.scope,
@@ -41,6 +43,7 @@ impl BlockPositions {
         match field {
             Field::Predecessors => self.predecessors.get(beyond).copied(),
             Field::Predecessor(place) => self.predecessors.get(place).copied(),
+            Field::RawReads => self.raw_reads.get(beyond).copied(),
             Field::Assumed => self.assumed.get(beyond).copied(),
             _ => self.id,
         }

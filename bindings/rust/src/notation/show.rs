@@ -29,6 +29,7 @@ fn show_block(block: &Block, names: &Names, f: &mut fmt::Formatter<'_>) -> fmt::
         write!(f, " after {}", with_commas(block.predecessors()))?;
     }
     writeln!(f)?;
+    block.raw_reads().iter().try_for_each(|read| writeln!(f, "  reads {}", read.with_names(names)))?;
     block.assumed().iter().try_for_each(|path| writeln!(f, "  assumes {}", path.with_names(names)))
 }
 

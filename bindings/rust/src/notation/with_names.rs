@@ -6,13 +6,14 @@ use crate::answer::Answer;
 use crate::ids::{IdentifierId, Span};
 use crate::names::{Named, Names, NONE};
 use crate::path::{Entry, Path, Property};
+use crate::raw_read::RawRead;
 use crate::sheet::Sheet;
 use std::fmt;
 
 /// Something shown with names: `athlete.lastSession`, and not `1.10`. What has no name is shown by
 /// its number.
 ///
-/// The alternate form (`{:#}`) of a path or an entry leaves out `reactive` and spans.
+/// The alternate form (`{:#}`) of a path, a raw read or an entry leaves out `reactive` and spans.
 #[derive(Clone, Copy, Debug)]
 #[must_use = "this is to be shown"]
 pub struct WithNames<'a, T> {
@@ -37,7 +38,7 @@ macro_rules! shown_with_names {
     )*};
 }
 
-shown_with_names! { IdentifierId Property Entry Path Answer Sheet }
+shown_with_names! { IdentifierId Property Entry Path RawRead Answer Sheet }
 
 impl fmt::Display for WithNames<'_, IdentifierId> {
     fn fmt(&self, f: &mut fmt::Formatter<'_>) -> fmt::Result {

@@ -115,7 +115,8 @@ impl Replay {
         self.settled
     }
 
-    /// The nodes of the paths that a block assumes, in the job's order.
+    /// The nodes of the paths that a block assumes, in the order of [`Block::all_assumed`]: first
+    /// those of the raw reads that are kept.
     #[must_use]
     pub fn assumed(&self, block: usize) -> &[NodeId] {
         &self.assumed[block]
@@ -185,9 +186,10 @@ impl fmt::Debug for Replay {
     }
 }
 
-/// The nodes of each block's assumed paths. All are entered first, in job order.
+/// The nodes of each block's assumed paths. All are entered first, in job order; of a block the raw
+/// reads that are kept come first, and those that are not have no node.
 fn assumed(job: &Job, registry: &mut Registry) -> Result<Vec<Vec<NodeId>>, ManyNodes> {
-    let mut of_block = |block: &Block| block.assumed().iter().map(|path| registry.enter(path)).collect();
+    let mut of_block = |block: &Block| block.all_assumed().map(|path| registry.enter(path)).collect();
     job.blocks().iter().map(&mut of_block).collect()
 }
 

@@ -152,6 +152,37 @@ fn in_full_each_has_the_assumed_paths_that_it_comes_from() {
 }
 
 #[test]
+fn in_full_each_has_the_raw_reads_that_it_comes_from() {
+    let own = "scope 7 block 7 reads 1?.10 at 3 range 0 to 1 assumes 1";
+    let line = "1.10 in round 1, forward walk: block 7 made 1?.10, which it reads at instruction 3, into 1.10, since it had 1\n";
+    assert!(full(own).ends_with(line), "{}", full(own));
+    let read = |at: u32| format!("reads 1?.10 at {at} range 0 to 1");
+    let joined = format!(
+        "scope 4 block 0 block 1 after 0 {} block 2 after 0 {} block 3 after 0 assumes 1?.10 block 4 after 1, 2, 3 assumes 1",
+        read(8),
+        read(6)
+    );
+    let comes = "1?.10 comes from blocks 1 and 2, which read it at instructions 8 and 6, and block 3, which assumes it\n";
+    assert!(full(&joined).ends_with(comes), "{}", full(&joined));
+    let explanation = explained(&job(&joined));
+    let [Added { origins, .. }] = &explanation.added[..] else { panic!("{explanation:?}") };
+    let places: Vec<_> = origins.iter().map(|origin| (origin.blocks.len(), &origin.read_at[..])).collect();
+    assert_eq!(places, [(2, &[8, 6][..]), (1, &[])]);
+}
+
+/// The first of two reads of the same path that is kept counts, with its own spans.
+#[test]
+fn an_origin_has_the_spans_of_the_first_read_that_is_kept() {
+    let explanation = explained(&job(
+        "scope 7 block 7 reads 1@4?.10@4 at 1 range 0 to 2 scope 0 to 9 reads reactive 1@5?.10@6 at 2 range 0 to 1 \
+         reads 1?.10@7 at 3 range 0 to 1 assumes 1@8?.10@8, 1",
+    ));
+    let [Added { origins, .. }] = &explanation.added[..] else { panic!("{explanation:?}") };
+    let [Origin { path, read_at, .. }] = &origins[..] else { panic!("{origins:?}") };
+    assert_eq!((path.to_string(), &read_at[..]), ("reactive 1@5?.10@6".to_string(), &[2][..]));
+}
+
+#[test]
 fn an_explanation_has_the_places_for_programs_too() {
     let explanation = explained(&job(TWO_ROUNDS));
     assert_eq!(explanation.nodes_before_rounds, 4);
@@ -161,8 +192,9 @@ fn an_explanation_has_the_places_for_programs_too() {
     let paths: Vec<String> = explanation.added_paths().map(|path| path.to_string()).collect();
     assert_eq!(paths, ["1.10?.11", "1.10.11"]);
     for Added { origins, .. } in &explanation.added {
-        let [Origin { path, blocks }] = &origins[..] else { panic!("{origins:?}") };
+        let [Origin { path, blocks, read_at }] = &origins[..] else { panic!("{origins:?}") };
         assert_eq!((path.to_string(), &blocks[..]), ("1?.10?.11".to_string(), &[BlockId(3)][..]));
+        assert!(read_at.is_empty());
     }
 }
 
@@ -173,7 +205,7 @@ fn an_origin_has_the_spans_of_the_block_that_assumes_it() {
         "scope 2 block 0 assumes 1?.10@3 block 1 assumes 1, reactive 1@7?.10@8, 1?.10@9 block 2 after 1",
     ));
     let [Added { origins, from, .. }] = &explanation.added[..] else { panic!("{explanation:?}") };
-    let [Origin { path, blocks }] = &origins[..] else { panic!("{origins:?}") };
+    let [Origin { path, blocks, .. }] = &origins[..] else { panic!("{origins:?}") };
     assert_eq!((from.to_string(), &blocks[..]), ("1?.10@3".to_string(), &[BlockId(1)][..]));
     assert_eq!(path.to_string(), "reactive 1@7?.10@8");
 }

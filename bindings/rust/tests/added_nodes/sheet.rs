@@ -98,7 +98,7 @@ fn each_propagation_adds_its_own_nodes() {
 
 /// The assumed paths and what they start with, in one form each.
 fn entered(job: &Job) -> BTreeSet<String> {
-    let assumed = job.blocks().iter().flat_map(|block| block.assumed());
+    let assumed = job.blocks().iter().flat_map(|block| block.all_assumed());
     assumed
         .flat_map(|path| (0..=path.entries().len()).map(|length| format!("{:#}", path.prefix(length))))
         .collect()

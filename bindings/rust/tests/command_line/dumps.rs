@@ -37,12 +37,12 @@ fn dumps_are_read() {
 fn dumps_as_they_are_printed() {
     let bytes = "scope 7 block 7 assumes 0, 0, 0, 0, 0 candidate 1";
     let xxd = "00000000: 4844 0100 0000 7c7c 2020 424c 7c7c 2020  HD....||  BL||  \n\
-               00000010: 0000                                     ..\n";
+               00000010: 0000 00                                  ...\n";
     let back = "scope 538999932\nblock 538999932\n";
     assert_eq!(text(&["decode", "--from", "hex"], xxd), back);
-    assert_eq!(text(&["decode", "--from", "hex"], "48440100 00007c7c\n2020424c 7c7c2020/0000"), back);
+    assert_eq!(text(&["decode", "--from", "hex"], "48440100 00007c7c\n2020424c 7c7c2020/0000/00"), back);
     let hexdump = "00000000  48 44 01 00 00 00 7c 7c  20 20 42 4c 7c 7c 20 20  |HD....||  BL||  |\n\
-                   00000010  00 00                                             |..|\n00000012\n";
+                   00000010  00 00 00                                          |...|\n00000013\n";
     assert_eq!(text(&["decode", "--from", "hex"], hexdump), back);
     // A line that is like the one before is left out, and `*` stands for it.
     let encoded = written(&["encode"], bytes);
@@ -50,9 +50,9 @@ fn dumps_as_they_are_printed() {
         let digits: String = from.iter().map(|byte| format!("{byte:02x} ")).collect();
         format!("{at:08x}  {digits} |{}|\n", ".".repeat(from.len()))
     };
-    let (head, path) = (&encoded[..18], &encoded[18..30]);
+    let (head, path) = (&encoded[..19], &encoded[19..31]);
     let dump =
-        [line(0, head), line(18, path), "*\n".into(), line(78, &encoded[78..]), "0000005a\n".into()].concat();
+        [line(0, head), line(19, path), "*\n".into(), line(79, &encoded[79..]), "0000005b\n".into()].concat();
     assert_eq!(written(&["encode"], text(&["decode", "--from", "hex"], dump)), encoded);
 }
 

@@ -2,6 +2,7 @@
 
 use crate::common::repository;
 use crate::text;
+use scope_deps::RawRead;
 use std::path::PathBuf;
 use std::process::Command;
 use std::{env, fs};
@@ -38,6 +39,21 @@ fn help_is_there_for_every_command() {
         assert!(own.starts_with(&format!("usage: scope-deps {command} ")));
     }
     assert!(text(&["help", "notation"], "").contains("candidate"));
+}
+
+/// The raw reads that help shows, each with what is said of it.
+#[test]
+fn the_raw_reads_in_the_help_are_assumed_or_not_as_it_says() {
+    let help = text(&["help", "notation"], "");
+    let lines = help.lines().filter_map(|line| line.strip_prefix("  reads "));
+    let reads: Vec<(RawRead, bool)> = lines
+        .map(|line| {
+            let (read, said) = line.split_once("  ").unwrap();
+            (read.parse().unwrap(), said.trim_start().starts_with("assumed"))
+        })
+        .collect();
+    assert_eq!(reads.iter().filter(|(_, assumed)| !assumed).count(), 1);
+    assert!(reads.len() == 6 && reads.iter().all(|(read, assumed)| read.is_kept() == *assumed), "{reads:?}");
 }
 
 /// A command of a text, and what the text shows of its output.

@@ -7,6 +7,7 @@ mod help;
 mod messages;
 mod nodes;
 mod options;
+mod raw_reads;
 mod strict;
 mod thin;
 
@@ -18,7 +19,7 @@ use std::path::PathBuf;
 use std::process::{Command, Output, Stdio};
 
 const TEXT: &str = "scope 7 block 7 assumes reactive 1 candidate reactive 1@5.10@6";
-const BYTES: &str = "4844 0100 0100 07000000 / 424C 07000000 00 01 / 5041 01000000 01 00000000 00 /
+const BYTES: &str = "4844 0100 0100 07000000 / 424C 07000000 00 01 00 / 5041 01000000 01 00000000 00 /
     4341 01000000 01 05000000 01 00 00 0A00000000000000 06000000";
 
 fn run(words: &[&str], input: impl AsRef<[u8]>) -> Output {

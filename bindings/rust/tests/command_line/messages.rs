@@ -50,7 +50,7 @@ fn an_excerpt_of_a_long_line_is_short() {
 
 #[test]
 fn a_refused_job_says_its_number_and_place() {
-    let damaged = &hex(BYTES)[..41];
+    let damaged = &hex(BYTES)[..42];
     for command in ["decode", "answer", "sheet", "thin", "explain", "draw"] {
         let said = message(&[command], damaged, 1);
         assert!(said.contains("refusal 3, MissingByte: ") && said.contains("in CA record 1: "), "{said}");

@@ -7,6 +7,7 @@ mod focus;
 mod nodes;
 mod palette;
 mod pointer;
+mod raw_reads;
 mod read;
 mod strict;
 mod text;

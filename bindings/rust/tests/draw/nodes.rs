@@ -28,7 +28,7 @@ fn marked(picture: &Picture, block: usize, label: &str) -> (Vec<String>, Vec<Str
     for line in &group.lines {
         let text = shown(line);
         match &text[..] {
-            "assumes" | "holds" | "adds" | "candidate" => of_label = text == label,
+            "reads" | "not kept" | "assumes" | "holds" | "adds" | "candidate" => of_label = text == label,
             _ if of_label => {
                 found.0.extend(marks_of(&text));
                 found.1.extend(marks_of(title(line)));
@@ -174,7 +174,9 @@ fn check(job: &Job, sheet: &Sheet, explanation: &Explanation, picture: &Picture)
         }
     }
     assert_eq!(has_legend(picture), marks > 0, "{job}");
-    assert_eq!(picture.0.contains("class=\"added\">+"), has_legend(picture), "{job}");
+    // Where a box has no room for them, it counts them.
+    let is_told = ["class=\"added\">+", " of them added</tspan>"].iter().any(|mark| picture.0.contains(mark));
+    assert_eq!(is_told, has_legend(picture), "{job}");
     marks
 }
 

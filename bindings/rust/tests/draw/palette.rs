@@ -60,7 +60,7 @@ fn text_and_arrows_stand_out_from_what_they_are_on() {
         on(".label", 4.5, everywhere),
         on(".assumed", 4.5, &[".page", ".box", ".scope"]),
         on(".added", 4.5, &[".page", ".box", ".scope"]),
-        on(".cut", 4.5, &[".page", ".panel"]),
+        on(".cut", 4.5, everywhere),
         on(".knife", 4.5, &[".page", ".panel"]),
         on(".covered", 4.5, &[".page", ".panel"]),
         on(".returned", 4.5, &[".panel"]),

@@ -52,13 +52,15 @@ fn instead_of_listing_them() {
 /// The paths of the job as a picture may show them: each between blanks, commas and bars.
 fn known_words(job: &Job) -> Vec<String> {
     let assumed = job.blocks().iter().flat_map(|block| block.assumed());
-    let paths = assumed.chain(job.candidates());
+    let reads = job.blocks().iter().flat_map(|block| block.raw_reads());
+    let paths = assumed.chain(job.candidates()).chain(reads.clone().map(|read| &read.path));
+    let read_at = reads.map(|read| read.instruction.to_string()).chain(["at".to_string()]);
     let words = paths.flat_map(|path| {
         let entries = path.entries().iter().map(|entry| format!("{entry:#}"));
         let plain = entries.clone().map(|entry| entry.replacen("?.[", "[", 1).replacen("?.", ".", 1));
         [path.identifier().to_string()].into_iter().chain(entries).chain(plain).collect::<Vec<_>>()
     });
-    words.collect()
+    words.chain(read_at).collect()
 }
 
 /// The entries in a text, each from its `.`, `?.` or `[` on, and the variable before them.

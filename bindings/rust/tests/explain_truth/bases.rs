@@ -1,12 +1,12 @@
 //! Sentences on the base of an entry.
 
-use crate::parse::{block, blocks, holes, path};
+use crate::parse::{assuming, block, blocks, holes, instruction, path};
 use crate::sources::{check_holders, check_sources};
 use crate::stops::{check_stopped, check_stopped_in_full};
 use crate::text::{told_in, Section};
 use crate::world::{leaves_open, show, shows, World};
 use scope_deps::replay::Side;
-use scope_deps::{BlockId, Path};
+use scope_deps::{BlockId, Path, RawRead, ReadScope};
 
 /// `1 is known to be there in block 2, since 1.10 is; SOURCES` or with a section's number. The path
 /// that shows it.
@@ -23,15 +23,21 @@ pub fn check_known(world: &World, base: &Path, said: &str, sections: &[Section])
     if let Some(found) = holes(" [{}]", rest) {
         let told = told_in(sections, found[0]);
         assert!(told.iter().any(|(block, path)| *block == scope && path.same_entries(&held)), "{said}");
-    } else if let Some(found) = holes(&format!("; block {scope} assumes {{}}"), rest) {
-        let form = if found[0] == "it" { held.clone() } else { path(found[0]) };
-        assert!(world.assumes(scope, &form), "{said}");
-        assert_eq!(*world.sources(scope, &held), [(scope, show(&form))].into(), "{said}");
+    } else if let Some((form, read_at)) = own_said(rest, scope) {
+        let form = if form == "it" { held.clone() } else { path(form) };
+        assert_eq!(world.own(scope, &form), Some(read_at), "{said}");
+        assert_eq!(*world.sources(scope, &held), [(scope, show(&form), read_at)].into(), "{said}");
     } else {
         let found = holes("; it comes from {}", rest).unwrap_or_else(|| panic!("no source: {said}"));
         check_sources(world, scope, &held, found[0]);
     }
     held
+}
+
+/// `; block 7 assumes it` or `; block 7 reads 1?.10 at instruction 3`.
+fn own_said(rest: &str, scope: BlockId) -> Option<(&str, Option<u32>)> {
+    let (form, read_at) = assuming(rest.strip_prefix(&format!("; block {scope} "))?, true)?;
+    Some((form, read_at.map(instruction)))
 }
 
 /// `block 3 left out block 1, which does not have 5: control comes from there too, but the two are
@@ -67,8 +73,8 @@ pub fn check_unknown(world: &World, base: &Path, said: &str, sections: &[Section
         return check_unknown(world, base, rest, sections);
     }
     if said == nobody {
-        let mut assumed = world.job.blocks().iter().flat_map(|block| block.assumed());
-        assert!(!assumed.any(|path| shows(path, base)) && world.having(base).is_empty(), "{said}");
+        assert!(!world.all_assumed().any(|path| shows(path, base)), "{said}");
+        assert!(world.having(base).is_empty(), "{said}");
         return "no block";
     }
     if let Some(found) = holes(&format!("{{}}, which does not make {shown} known to the stage"), said) {
@@ -76,6 +82,9 @@ pub fn check_unknown(world: &World, base: &Path, said: &str, sections: &[Section
     }
     if let Some(found) = holes(&format!("{{}}; that does not make {shown} known to the stage"), said) {
         return check_open(world, base, found[0], sections);
+    }
+    if let Some(found) = holes(NOT_KEPT, said) {
+        return check_not_kept(world, base, &found);
     }
     if let Some(found) = holes("{}, too, but {}", said) {
         return check_here(world, base, (found[0], found[1]), sections);
@@ -95,12 +104,43 @@ pub fn check_unknown(world: &World, base: &Path, said: &str, sections: &[Section
     check_stopped(world, base, said)
 }
 
-/// `block 4 assumes 1?.10`, which leaves the base open.
+/// That a raw read does not count, and why.
+pub const NOT_KEPT: &str =
+    "{} reads {} at {}, but {} can still change there: its range {} to {} is longer than one \
+                            instruction, and {} is in its scope, {} to {}";
+
+/// That the block has such a read, which would show the base; and that the reasons hold.
+fn check_not_kept(world: &World, base: &Path, found: &[&str]) -> &'static str {
+    let number = |hole: usize| found[hole].parse::<u32>().unwrap_or_else(|_| panic!("no number: {found:?}"));
+    let (read_path, at) = (path(found[1]), instruction(found[2]));
+    let (range, scope) = ((number(4), number(5)), (number(7), number(8)));
+    let is_told = |read: &&RawRead| {
+        read.path.same_entries(&read_path)
+            && read.instruction == at
+            && (read.range_start, read.range_end) == range
+            && read.scope == ReadScope::Some { start: scope.0, end: scope.1 }
+    };
+    let not_kept = world.not_kept(block(found[0]), base);
+    assert!(not_kept.iter().any(is_told), "{found:?}");
+    assert!(not_kept.iter().filter(|read| is_told(read)).any(|read| !read.known_immutable), "{found:?}");
+    assert_eq!(found[3], show(&read_path.prefix(0)));
+    assert_eq!(instruction(found[6]), at);
+    assert!(u64::from(range.1) > u64::from(range.0) + 1 && scope.0 <= at && at < scope.1, "{found:?}");
+    "not kept"
+}
+
+/// `block 4 assumes 1?.10` or `block 4 reads 1?.10 at instruction 3`, which leaves the base open.
 fn check_assumed_open(world: &World, base: &Path, said: &str) -> &'static str {
-    let found = holes("{} assumes {}", said).unwrap_or_else(|| panic!("no sentence: {said}"));
-    let open = path(found[1]);
-    assert!(world.assumes(block(found[0]), &open) && leaves_open(&open, base), "{said}");
-    "assumed, and left open"
+    let found = holes("block {} {}", said).unwrap_or_else(|| panic!("no sentence: {said}"));
+    let (open, read_at) = assuming(found[1], true).unwrap_or_else(|| panic!("no sentence: {said}"));
+    let (id, open) = (block(&format!("block {}", found[0])), path(open));
+    assert_eq!(world.own(id, &open), Some(read_at.map(instruction)), "{said}");
+    assert!(leaves_open(&open, base), "{said}");
+    if read_at.is_some() {
+        "read, and left open"
+    } else {
+        "assumed, and left open"
+    }
 }
 
 /// `block 7 has 1?.10 from block 1, which assumes it`, of the path that decides.

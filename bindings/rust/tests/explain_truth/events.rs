@@ -44,7 +44,8 @@ fn check_step(world: &World, steps: &[Step], step: &Step) {
             let in_block = |&base: &usize| steps[base].block == step.block;
             assert!(in_block(from) && bases.iter().all(in_block));
         }
-        _ => assert!(step.how == How::Assumed && world.assumes(step.block, &step.path)),
+        (How::Assumed { read_at }, _) => assert_eq!(world.own(step.block, &step.path), Some(*read_at)),
+        other => panic!("no event: {other:?}"),
     }
 }
 
@@ -54,7 +55,7 @@ fn unknowns(reason: &Reason) -> Vec<&Unknown> {
         Base::Unknown(why) => Some(why),
     });
     let of_end = match &reason.end {
-        End::Cut { why, .. } => Some(why),
+        End::Cut { why, .. } => Some(&**why),
         _ => None,
     };
     of_entries.chain(of_end).collect()

@@ -42,9 +42,12 @@ const EXPECTED: &[(&str, usize)] = &[
     ("no block", 1_000),
     ("nodes", 1_000),
     ("not connected", 1_000),
+    ("not kept", 500),
     ("not settled", 100),
     ("one left out that lacks it", 50),
     ("one that lacks it", 1_000),
+    ("read", 1_000),
+    ("read, and left open", 200),
     ("shown, but open by a path met before", 100),
     ("shown, but open by the first entry", 1_000),
     ("some left out", 10_000),
@@ -69,7 +72,10 @@ const EXPECTED_STRICT: &[(&str, usize)] = &[
     ("no block", 1_000),
     ("nodes", 1_000),
     ("not connected", 1_000),
+    ("not kept", 500),
     ("one that lacks it", 1_000),
+    ("read", 1_000),
+    ("read, and left open", 200),
     ("shown, but open by a path met before", 100),
     ("shown, but open by the first entry", 1_000),
     ("some unfinished", 10_000),
@@ -101,8 +107,9 @@ fn check(job: &Job, propagation: Propagation, kinds: &mut Kinds) -> Option<Expla
 /// paths of the job.
 fn with_candidates(job: &Job, scope: usize) -> Option<Job> {
     let blocks = job.blocks().iter().cloned().fold(Job::builder(job.blocks()[scope].id()), JobBuilder::block);
-    let assumed = job.blocks().iter().flat_map(|block| block.assumed());
-    let longer = assumed.filter(|path| path.entries().len() < limits::ENTRIES);
+    let reads = job.blocks().iter().flat_map(|block| block.raw_reads()).map(|read| &read.path);
+    let paths = reads.chain(job.blocks().iter().flat_map(|block| block.assumed()));
+    let longer = paths.filter(|path| path.entries().len() < limits::ENTRIES);
     let longer = longer.enumerate().map(|(number, path)| {
         let property = Property::Name(77);
         let entry = if number % 2 == 0 { Entry::plain(property) } else { Entry::optional(property) };

@@ -1,6 +1,6 @@
 //! Sentences on the nodes: how many, which ones were added, and where.
 
-use crate::parse::{block, blocks, holes, path, paths};
+use crate::parse::{assuming, block, blocks, check_instructions, holes, instruction, path, paths};
 use crate::world::{show, World};
 use scope_deps::replay::Side;
 use scope_deps::Path;
@@ -38,8 +38,8 @@ fn check_some(named: &str, added: &[Path]) {
 /// The paths that a sentence says were added, by a replacement that there was.
 fn check_added(world: &World, line: &str) -> Vec<Path> {
     let (line, origins) = match line.split_once("; ") {
-        Some((line, origins)) => (line.to_string(), Some(origins)),
-        None => (line.replacen(", which it assumes, into ", " into ", 1), None),
+        Some((line, origins)) => (line.to_string(), Err(origins)),
+        None => without_own(line),
     };
     let pattern = "    {} in round {}, {} walk: {} made {} into {}, since it had {}";
     let found = holes(pattern, &line).unwrap_or_else(|| panic!("not on nodes: {line}"));
@@ -65,24 +65,41 @@ fn check_added(world: &World, line: &str) -> Vec<Path> {
     });
     assert!(is_told, "{line}");
     match origins {
-        Some(origins) => check_origins(world, &from, origins),
-        None => assert!(world.assumes(at, &from), "{line}"),
+        Err(origins) => check_origins(world, &from, origins),
+        Ok(read_at) => assert_eq!(world.own(at, &from), Some(read_at), "{line}"),
     }
     added
 }
 
-/// `1?.10 comes from block 0, which assumes it, and blocks 1 and 2, which assume 1?.10?.11`: blocks
-/// assume such paths, and these have the names of the first and are optional wherever it is.
+/// A sentence without what it says of the path that was replaced: `, which it assumes,` or `, which
+/// it reads at instruction 3,`. The instruction, if there is one.
+fn without_own(line: &str) -> (String, Result<Option<u32>, &str>) {
+    let found = holes("{}, which it {}, into {}", line).unwrap_or_else(|| panic!("no origin: {line}"));
+    let read_at = match found[1] {
+        "assumes" => None,
+        reads => Some(instruction(reads.strip_prefix("reads at ").unwrap())),
+    };
+    (format!("{} into {}", found[0], found[2]), Ok(read_at))
+}
+
+/// `1?.10 comes from block 0, which assumes it, and blocks 1 and 2, which read 1?.10?.11 at
+/// instructions 3 and 4`: blocks assume such paths, and these have the names of the first and are
+/// optional wherever it is.
 fn check_origins(world: &World, from: &Path, said: &str) {
     let found = holes("{} comes from {}", said).unwrap_or_else(|| panic!("no origin: {said}"));
     assert!(path(found[0]).same_entries(from), "{said}");
     for origin in found[1].split(", and ") {
-        let of_one = holes("{}, which assumes {}", origin);
-        let told = of_one.or_else(|| holes("{}, which assume {}", origin));
-        let told = told.unwrap_or_else(|| panic!("no origin: {origin}"));
-        let assumed = if told[1] == "it" { from.clone() } else { path(told[1]) };
-        assert_eq!(told[1] == "it", assumed.same_entries(from), "{said}");
-        assert!(blocks(told[0]).iter().all(|&block| world.assumes(block, &assumed)), "{said}");
+        let told = holes("{}, which {}", origin).unwrap_or_else(|| panic!("no origin: {origin}"));
+        let blocks = blocks(told[0]);
+        let own = assuming(told[1], blocks.len() == 1);
+        let (form, read_at) = own.unwrap_or_else(|| panic!("no origin: {origin}"));
+        let assumed = if form == "it" { from.clone() } else { path(form) };
+        assert_eq!(form == "it", assumed.same_entries(from), "{said}");
+        let own: Vec<Option<u32>> =
+            blocks.iter().map(|&block| world.own(block, &assumed).expect("it assumes the path")).collect();
+        assert!(own.iter().all(|own| own.is_some() == read_at.is_some()), "{said}");
+        let due: Vec<u32> = own.into_iter().flatten().collect();
+        read_at.into_iter().for_each(|read_at| check_instructions(read_at, &due));
         let mut entries = assumed.entries().iter().zip(from.entries());
         assert!(assumed.same_names(from) && entries.all(|(was, is)| was.optional || !is.optional), "{said}");
     }

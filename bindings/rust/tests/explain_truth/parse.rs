@@ -45,6 +45,37 @@ pub fn block(text: &str) -> BlockId {
     blocks[0]
 }
 
+/// What one block does by which it assumes a path, or several: `assumes 1`, or `read 1 at
+/// instructions 3 and 4`. The path, and the instructions where it is read.
+pub fn assuming(text: &str, one: bool) -> Option<(&str, Option<&str>)> {
+    let (assume, read) = if one { ("assumes", "reads") } else { ("assume", "read") };
+    if let Some(found) = holes(&format!("{read} {{}} at {{}}"), text) {
+        return Some((found[0], Some(found[1])));
+    }
+    holes(&format!("{assume} {{}}"), text).map(|found| (found[0], None))
+}
+
+/// The number of `instruction 3`.
+pub fn instruction(text: &str) -> u32 {
+    let number = text.strip_prefix("instruction ").and_then(|number| number.parse().ok());
+    number.unwrap_or_else(|| panic!("no instruction: {text}"))
+}
+
+/// That these instructions are told: `instruction 3` where all are the same, else `instructions 3,
+/// 4 and 2 more`, in their order.
+pub fn check_instructions(text: &str, due: &[u32]) {
+    if due.iter().all(|other| *other == due[0]) {
+        return assert_eq!(instruction(text), due[0]);
+    }
+    let list = text.strip_prefix("instructions ").unwrap_or_else(|| panic!("no instructions: {text}"));
+    let items: Vec<String> = list.replace(" and ", ", ").split(", ").map(String::from).collect();
+    let more = items.last().and_then(|last| last.strip_suffix(" more"));
+    let named = items.len() - usize::from(more.is_some());
+    let numbers: Vec<u32> = items[..named].iter().map(|item| item.parse().unwrap()).collect();
+    assert_eq!(numbers, due[..named], "{text}");
+    assert_eq!(more.map_or(0, |more| more.parse::<usize>().unwrap()), due.len() - named, "{text}");
+}
+
 pub fn path(text: &str) -> Path {
     text.parse().unwrap_or_else(|why| panic!("{text}: {why}"))
 }

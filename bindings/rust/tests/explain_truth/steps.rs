@@ -1,6 +1,6 @@
 //! Sentences on the steps by which paths came to blocks.
 
-use crate::parse::{block, blocks, holes, path, paths};
+use crate::parse::{block, blocks, holes, instruction, path, paths};
 use crate::world::World;
 use scope_deps::replay::{Side, Visit};
 use scope_deps::{BlockId, Path};
@@ -26,6 +26,7 @@ pub fn check_section(world: &World, of: &Path, lines: &[&str], all: &[Told]) -> 
 pub fn told_by(line: &str) -> Told {
     let found = holes("{} took {} over from {}", line).map(|found| (found[0], found[1]));
     let found = found.or_else(|| holes("{} assumes {}", line).map(|found| (found[0], found[1])));
+    let found = found.or_else(|| holes("{} reads {} at {}", line).map(|found| (found[0], found[1])));
     let found = found
         .or_else(|| holes("{} made {} into {}, since it had {}", line).map(|found| (found[0], found[2])));
     let (at, form) = found.unwrap_or_else(|| panic!("no step: {line}"));
@@ -46,8 +47,9 @@ fn check_step(world: &World, line: &str, told: &[Told], all: &[Told]) -> (Told, 
         return ((at, form), "made");
     }
     let Some(found) = holes("{} took {} over from {}", line) else {
-        assert!(world.assumes(at, &form), "{line}");
-        return ((at, form), "assumed");
+        let read_at = holes("{} reads {} at {}", line).map(|found| instruction(found[2]));
+        assert_eq!(world.own(at, &form), Some(read_at), "{line}");
+        return ((at, form), if read_at.is_some() { "read" } else { "assumed" });
     };
     let (side, from, left_out, kind) = neighbours_said(found[2]);
     assert!(from.iter().all(|&near| is_told(told, near, &form)), "{line}");

@@ -1,6 +1,6 @@
 //! A whole explanation as text, sentence by sentence.
 
-use crate::bases::{check_known, check_left_out, check_unknown};
+use crate::bases::{check_known, check_left_out, check_unknown, NOT_KEPT};
 use crate::nodes::check_nodes;
 use crate::parse::{holes, path};
 use crate::steps::{check_section, told_by, Told};
@@ -154,11 +154,11 @@ fn check_entry(
     check_complete(world, &base, said);
 }
 
-/// That a reason which is there is given: a path that leaves the base open, and that the job did
-/// not settle.
+/// That a reason which is there is given: a path that leaves the base open, a raw read that does
+/// not count, in short the first and in full all, and that the job did not settle.
 fn check_complete(world: &World, base: &Path, said: &[&str]) {
     let scope = world.job.scope();
-    let starts = [format!("block {scope} has "), format!("block {scope} assumes ")];
+    let starts = ["has", "assumes", "reads"].map(|verb| format!("block {scope} {verb} "));
     let is_own = |line: &str| starts.iter().any(|start| line.starts_with(start));
     let own = |line: &&&str| is_own(line) && line.contains("; that does not make");
     let is_open = world.deciding().iter().any(|path| base.names_start(path));
@@ -169,6 +169,9 @@ fn check_complete(world: &World, base: &Path, said: &[&str]) {
     assert_eq!(here, usize::from(world.has(scope, base)), "{said:?}");
     let nowhere = said.iter().filter(|line| line.starts_with("no block assumes ")).count();
     assert_eq!(nowhere, usize::from(world.having(base).is_empty()), "{said:?}");
+    let not_kept = said.iter().filter(|line| holes(NOT_KEPT, line).is_some()).count();
+    let all = world.ids().map(|id| world.not_kept(id, base).len()).sum::<usize>();
+    assert!(not_kept == all || not_kept == 1 && all > 1, "{not_kept} of {all}: {said:?}");
 }
 
 /// `candidate 1.10 is cut at 1, and depending on that is enough`.

@@ -5,11 +5,15 @@
 //! that a path came from, this goes forward through the events.
 
 use scope_deps::replay::{Propagation, Replay, Side, Visit};
-use scope_deps::{answer, sheet, strict_answer, strict_sheet, Answer, BlockId, Job, NodeId, Path, Sheet};
+use scope_deps::{
+    answer, sheet, strict_answer, strict_sheet, Answer, Block, BlockId, Job, NodeId, Path, RawRead,
+    ReadScope, Sheet,
+};
 use std::collections::{BTreeSet, HashMap};
 
-/// The blocks that assume a path, each with the form that it assumes.
-pub type Sources = BTreeSet<(BlockId, String)>;
+/// The blocks that assume a path, each with the form that it assumes, and with the instruction
+/// where it reads it.
+pub type Sources = BTreeSet<(BlockId, String, Option<u32>)>;
 
 pub struct World<'j> {
     pub job: &'j Job,
@@ -47,6 +51,25 @@ pub fn shows(path: &Path, base: &Path) -> bool {
 /// Whether a path goes on from the base by `?.`, so that by it the stage does not know the base.
 pub fn leaves_open(path: &Path, base: &Path) -> bool {
     base.names_start(path) && !shows(path, base)
+}
+
+/// Whether a block assumes the path of a raw read: the range is one instruction or none, or the
+/// instruction is in no scope, or the variable is known not to change.
+pub fn is_kept(read: &RawRead) -> bool {
+    let is_short = read.range_end.saturating_sub(read.range_start) <= 1;
+    let is_outside = match read.scope {
+        ReadScope::Some { start, end } => read.instruction < start || end <= read.instruction,
+        ReadScope::None { .. } => true,
+    };
+    is_short || is_outside || read.known_immutable
+}
+
+/// The paths that a block assumes, in the order in which the stage meets them, with the instruction
+/// of those that it reads.
+fn assumed(block: &Block) -> impl Iterator<Item = (&Path, Option<u32>)> {
+    let kept = block.raw_reads().iter().filter(|read| is_kept(read));
+    let reads = kept.map(|read| (&read.path, Some(read.instruction)));
+    reads.chain(block.assumed().iter().map(|path| (path, None)))
 }
 
 impl<'j> World<'j> {
@@ -92,7 +115,8 @@ impl<'j> World<'j> {
         for (block, had) in had.iter_mut().enumerate() {
             for &node in self.replay.assumed(block) {
                 had.insert(node);
-                let source = (self.job.blocks()[block].id(), show(self.path(node)));
+                let (id, path) = (self.job.blocks()[block].id(), self.path(node));
+                let source = (id, show(path), self.own(id, path).unwrap());
                 sources.insert((block, node), Sources::from([source]));
             }
         }
@@ -109,9 +133,23 @@ impl<'j> World<'j> {
         *self.places.get(&id).unwrap_or_else(|| panic!("block {id} is none of the job"))
     }
 
-    pub fn assumes(&self, id: BlockId, path: &Path) -> bool {
-        let assumed = self.job.blocks()[self.place(id)].assumed();
-        assumed.iter().any(|other| other.same_entries(path))
+    /// Whether the block assumes the path, and then the instruction that reads it, if one does.
+    pub fn own(&self, id: BlockId, path: &Path) -> Option<Option<u32>> {
+        let mut assumed = assumed(&self.job.blocks()[self.place(id)]);
+        assumed.find(|(other, _)| other.same_entries(path)).map(|(_, read_at)| read_at)
+    }
+
+    /// All paths that blocks assume, in the job's order.
+    pub fn all_assumed(&self) -> impl Iterator<Item = &Path> {
+        self.job.blocks().iter().flat_map(|block| assumed(block).map(|(path, _)| path))
+    }
+
+    /// The raw reads of a block that do not count and would show the base, in a job whose scope
+    /// block does not have it, where the block does not, either.
+    pub fn not_kept(&self, id: BlockId, base: &Path) -> Vec<&RawRead> {
+        let lacks = !self.has(id, base) && !self.has(self.job.scope(), base);
+        let reads = self.job.blocks()[self.place(id)].raw_reads().iter().filter(|_| lacks);
+        reads.filter(|read| !is_kept(read) && shows(&read.path, base)).collect()
     }
 
     /// Whether the block holds the very path in the end.
@@ -164,10 +202,9 @@ impl<'j> World<'j> {
     /// Whether the stage met the first path before the second. It goes through the assumed paths in
     /// the job's order, each from its start; what it makes later it has not met before.
     pub fn met_before(&self, first: &Path, second: &Path) -> bool {
-        let assumed = self.job.blocks().iter().flat_map(|block| block.assumed());
         let starts =
             |path: &Path| (0..=path.entries().len()).map(|length| path.prefix(length)).collect::<Vec<_>>();
-        let in_job: Vec<Path> = assumed.flat_map(starts).collect();
+        let in_job: Vec<Path> = self.all_assumed().flat_map(starts).collect();
         let met = |path: &Path| in_job.iter().position(|other| other.same_entries(path));
         match (met(first), met(second)) {
             (Some(first), Some(second)) => first < second,

@@ -1,75 +1,95 @@
--- The head says how many predecessors are passed over and how many paths follow; a block that was
--- read has all of them.
-use Prim.Native.Nat.{ℕ}
-use mathlib.Core.Path.{_≡_, sym, subst, _∙_}
-use mathlib.Core.List.{List}
+-- The head says how many predecessors are passed over, and how many raw reads and ready paths
+-- follow; a block that was read has all of them. What is kept of the reads is entered first, and
+-- then the paths.
 use denote.Ref.{now}
+use mathlib.Core.Path.{refl}
 use borrow.Author.Needs.{needs}
-use Rattle.entries.specs.Path.{ReactiveScopeDependency}
-use Rattle.model.specs.Registry.{PropertyPathRegistry}
-use Rattle.model.specs.Stage.{enterPaths, noneEntered}
-use Rattle.registry.specs.Words.{registryOf}
 use Rattle.fields.specs.Answer.{gotPlace}
 use Rattle.fields.proofs.Reading.{seen}
 use Rattle.job.specs.Answer.{gotBlockHead}
-use Rattle.assumed.specs.declared.EnteredSet.{EnteredSet}
-use Rattle.assumed.specs.Start.{Fills}
-use Rattle.assumed.proofs.Filling.{paths-are}
-use Rattle.job.proofs.BlockAgain.{head-there, ids-there, paths-there}
-use Rattle.assumed.proofs.Blocks.{assumed-are}
+use Rattle.job.proofs.BlockAgain.{head-there, ids-there}
+use Rattle.assumed.proofs.OneBlock.{reads-there, entering-none, block-full, entering-on, paths-there, block-entered}
 use Rattle.assumed.proofs.enter_block.Statement.{statement}
 use Rattle.assumed.proofs.enter_block.Tie as tie
 
--- equal paths are entered alike
-fills-as : (reg : PropertyPathRegistry) {ds es : List ReactiveScopeDependency} (r : EnteredSet) (ws os : List ℕ) → ds ≡ es
-    → Fills (enterPaths (noneEntered reg) ds) r ws os → Fills (enterPaths (noneEntered reg) es) r ws os
-fills-as reg r ws os e = subst (λ (ds : List ReactiveScopeDependency). Fills (enterPaths (noneEntered reg) ds) r ws os) e
-
 returns : tie.Need-returns
 returns c =
-    let h = c .before .before in
+    let h = c .before .before .before in
     let b = h .before .before .before .pre .1 in
-    absurd (head-there _ _ (b .value) (b .next) (b .read) (seen gotBlockHead (h .block-head-at .ensures) (c .enum-told .given .1)))
+    absurd (head-there _ _ (b .value) (b .next) (b .read) (seen gotBlockHead (h .block-head-at .ensures) (c .before .enum-told .given .1)))
 
 returns-2 : tie.Need-returns-2
 returns-2 c =
-    let i = c .before .before in
+    let i = c .before .before .before in
     let k = i .before .before in
     let h = k .before .before in
     let b = h .before .before .before .pre .1 in
     absurd (ids-there _ _ (b .value) (b .next) (b .read) (seen gotBlockHead (h .block-head-at .ensures) (k .head-field .given .1))
-    (seen gotPlace (i .past-ids .ensures) (c .enum-told2 .given .1)))
+    (seen gotPlace (i .past-ids .ensures) (c .before .enum-told2 .given .1)))
 
-enter-paths-requires : tie.Need-enter-paths-requires
-enter-paths-requires c κs =
+enter-raw-reads-requires : tie.Need-enter-raw-reads-requires
+enter-raw-reads-requires c κs =
     let m = c .before .before .before in
     let i = m .before .before in
     let k = i .before .before in
     let h = k .before .before in
-    let s = h .before .before .before in
-    let b = s .pre .1 in (
-      s .pre .0,
-      record {
-        value = b .value .assumed;
-        next = b .next;
-        read =
-            paths-there _ _ (b .value) (b .next) (b .read) (seen gotBlockHead (h .block-head-at .ensures) (k .head-field .given .1))
-            (seen gotPlace (i .past-ids .ensures) (m .ids .given .1));
-      },
-    )
+    let e = h .before in
+    let s = e .before .before in
+    let headed = seen gotBlockHead (h .block-head-at .ensures) (k .head-field .given .1) in
+    let past = seen gotPlace (i .past-ids .ensures) (m .ids .given .1) in
+    ((entering-none _ _ (s .pre .1) headed past _ _ (e .empty .result) (e .empty .ensures) (s .pre .0), reads-there _ _ (s .pre .1) headed past), refl)
 
 returns-3 : tie.Need-returns-3
 returns-3 c =
-    let m = c .before .before .before .before in
+    let r = c .before in
+    let m = r .before .before .before .before in
     let i = m .before .before in
     let k = i .before .before in
     let h = k .before .before in
-    let s = h .before .before .before in
-    let b = s .pre .1 in
-    let there =
-    paths-there _ _ (b .value) (b .next) (b .read) (seen gotBlockHead (h .block-head-at .ensures) (k .head-field .given .1))
-    (seen gotPlace (i .past-ids .ensures) (m .ids .given .1)) in
-    fills-as (registryOf (now (s .args .ws))) (c .enter-paths .result) _ _ (paths-are _ _ _ there ∙ sym (assumed-are _ _ (b .read))) (c .enter-paths .ensures)
+    let e = h .before in
+    let s = e .before .before in
+    let headed = seen gotBlockHead (h .block-head-at .ensures) (k .head-field .given .1) in
+    let past = seen gotPlace (i .past-ids .ensures) (m .ids .given .1) in
+    block-full _ _ (s .pre .1) headed past (now (s .args .ws)) (now (s .args .optional)) (e .empty .result) (e .empty .ensures)
+    (r .enter-raw-reads .result) _ _
+    (r .enter-raw-reads .ensures) (c .if1 .taken)
+
+enter-ready-paths-requires : tie.Need-enter-ready-paths-requires
+enter-ready-paths-requires c κs =
+    let test = c .before .before in
+    let r = test .before in
+    let m = r .before .before .before .before in
+    let i = m .before .before in
+    let k = i .before .before in
+    let h = k .before .before in
+    let e = h .before in
+    let s = e .before .before in
+    let headed = seen gotBlockHead (h .block-head-at .ensures) (k .head-field .given .1) in
+    let past = seen gotPlace (i .past-ids .ensures) (m .ids .given .1) in (
+      (
+        entering-on _ _ (s .pre .1) headed past (now (s .args .ws)) (now (s .args .optional)) (e .empty .result) (e .empty .ensures)
+            (r .enter-raw-reads .result) _ _ (r .enter-raw-reads .ensures) (test .if1 .left),
+        paths-there _ _ (s .pre .1) headed past (now (s .args .ws)) (now (s .args .optional)) (e .empty .result) (e .empty .ensures)
+            (r .enter-raw-reads .result) _ _ (r .enter-raw-reads .ensures) (test .if1 .left),
+      ),
+      test .if1 .left,
+    )
+
+returns-4 : tie.Need-returns-4
+returns-4 c =
+    let test = c .before .before .before in
+    let r = test .before in
+    let m = r .before .before .before .before in
+    let i = m .before .before in
+    let k = i .before .before in
+    let h = k .before .before in
+    let e = h .before in
+    let s = e .before .before in
+    let headed = seen gotBlockHead (h .block-head-at .ensures) (k .head-field .given .1) in
+    let past = seen gotPlace (i .past-ids .ensures) (m .ids .given .1) in
+    block-entered _ _ (s .pre .1) headed past (now (s .args .ws)) (now (s .args .optional)) (e .empty .result) (e .empty .ensures)
+    (r .enter-raw-reads .result) _ _
+    (r .enter-raw-reads .ensures) (test .if1 .left) (c .enter-ready-paths .result) _ _ (c .enter-ready-paths .ensures)
 
 pub enter-block-spec : {M : Type 1} → statement M
 enter-block-spec =
@@ -79,10 +99,14 @@ enter-block-spec =
     (λ c κs. search needs)
     (λ c. search needs)
     (λ c. search needs)
+    (λ c κs. search needs)
     returns
     (λ c κs. search needs)
     (λ c. search needs)
     (λ c. search needs)
+    (λ c κs. search needs)
     returns-2
-    enter-paths-requires
-    returns-3)
+    enter-raw-reads-requires
+    returns-3
+    enter-ready-paths-requires
+    returns-4)

@@ -110,10 +110,42 @@ returns-4 c =
       told,
     )
 
+u8-at-requires-2 : tie.Need-u8-at-requires-2
+u8-at-requires-2 c κs = search needs
+
+enum-known-raw-field : tie.Need-enum-known-raw-field
+enum-known-raw-field c = search needs
+
+enum-told-5 : tie.Need-enum-told-5
+enum-told-5 c = search needs
+
+refusal-requires-5 : tie.Need-refusal-requires-5
+refusal-requires-5 c κs = search needs
+
 returns-5 : tie.Need-returns-5
 unfolding readBlockHead
 returns-5 c =
-    let assumed-field = c .before in
+    let call = c .before .before .before in
+    let assumed-field = call .before .before in
+    let count-field = assumed-field .before .before .before .before in
+    let id-field = count-field .before .before .before .before in
+    let marked = id-field .before .before .before .before in
+    let told = c .before .enum-told5 .given .1 in
+    rw (
+      seen gotPlace (marked .before .before .mark-at .ensures) (marked .marked .given .1),
+      seen gotU32 (id-field .before .before .u32-at .ensures) (id-field .id-field .given .1),
+      seen gotU8 (count-field .before .before .u8-within .ensures) (count-field .count-field .given .1),
+      seen gotU8 (assumed-field .before .before .u8-at .ensures) (assumed-field .assumed-field .given .1),
+      seen gotU8 (call .u8-at2 .ensures) told,
+      c .refusal5 .ensures,
+      told,
+    )
+
+returns-6 : tie.Need-returns-6
+unfolding readBlockHead
+returns-6 c =
+    let raw-field = c .before in
+    let assumed-field = raw-field .before .before .before .before in
     let count-field = assumed-field .before .before .before .before in
     let id-field = count-field .before .before .before .before in
     let marked = id-field .before .before .before .before in
@@ -122,6 +154,7 @@ returns-5 c =
       seen gotU32 (id-field .before .before .u32-at .ensures) (id-field .id-field .given .1),
       seen gotU8 (count-field .before .before .u8-within .ensures) (count-field .count-field .given .1),
       seen gotU8 (assumed-field .before .before .u8-at .ensures) (assumed-field .assumed-field .given .1),
+      seen gotU8 (raw-field .before .before .u8-at2 .ensures) (raw-field .raw-field .given .1),
     )
 
 pub block-head-at-spec : {M : Type 1} → statement M
@@ -148,4 +181,9 @@ block-head-at-spec =
     enum-told-4
     refusal-requires-4
     returns-4
-    returns-5)
+    u8-at-requires-2
+    enum-known-raw-field
+    enum-told-5
+    refusal-requires-5
+    returns-5
+    returns-6)

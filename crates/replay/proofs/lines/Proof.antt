@@ -5,10 +5,10 @@ use Rattle.replay.proofs.lines.Statement.{statement}
 use Rattle.replay.proofs.lines.Tie as tie
 
 abbrev Inv-loop : tie.InvT-loop
-Inv-loop written refused counts k₀ t6 k = k ≤ 10
+Inv-loop written refused counts k₀ t6 k = k ≤ 11
 
 abbrev μ-loop : tie.MeasureT-loop
-μ-loop written refused counts k₀ t6 k = 10 - k
+μ-loop written refused counts k₀ t6 k = 11 - k
 
 pub lines-spec : {M : Type 1} → statement M
 lines-spec =

@@ -1,15 +1,14 @@
 //! By what a base is known, in words.
 
-use super::show::{for_count, show_block, show_some_blocks};
+use super::show::{assume, show_block, show_some_blocks, MOST};
 use super::Text;
-use crate::explain::bases::on_the_way;
-use crate::explain::{How, Known, LeftOut};
-use crate::ids::BlockId;
+use crate::explain::origins::origins;
+use crate::explain::{How, Known, LeftOut, Origin};
 use crate::path::Path;
 use crate::replay::Side;
 
-/// The most forms of a path that are told apart in short.
-const FORMS: usize = 2;
+/// The most origins of a path that are told apart in short.
+const ORIGINS: usize = 2;
 
 pub(super) fn known(text: &Text, base: &Path, by: &Known) -> Vec<String> {
     let scope = show_block(text.explanation.scope);
@@ -30,9 +29,10 @@ pub(super) fn known(text: &Text, base: &Path, by: &Known) -> Vec<String> {
 /// From where the scope block has its path.
 fn origin(text: &Text, step: usize) -> String {
     let at = &text.explanation.steps[step];
-    match &forms(text, step)[..] {
-        [(form, blocks)] if blocks[..] == [at.block] => {
-            format!("{} assumes {}", show_block(at.block), it(text, form, &at.path))
+    match &origins(&text.explanation.steps, step)[..] {
+        [own] if own.blocks == [at.block] => {
+            let path = it(text, &own.path, &at.path);
+            format!("{} {}", show_block(at.block), assume(1, &path, &own.read_at, MOST))
         }
         _ => format!("it comes from {}", sources(text, step)),
     }
@@ -42,18 +42,18 @@ fn origin(text: &Text, step: usize) -> String {
 /// block of the step.
 pub(super) fn sources(text: &Text, step: usize) -> String {
     let path = &text.explanation.steps[step].path;
-    let forms = forms(text, step);
+    let origins = origins(&text.explanation.steps, step);
     let mut said: Vec<String> =
-        forms.iter().take(FORMS).map(|(form, blocks)| source(text, form, blocks, path)).collect();
-    if forms.len() > FORMS {
+        origins.iter().take(ORIGINS).map(|origin| source(text, origin, path)).collect();
+    if origins.len() > ORIGINS {
         said.push("others".to_string());
     }
     said.join(", and from ")
 }
 
-fn source(text: &Text, form: &Path, blocks: &[BlockId], path: &Path) -> String {
-    let assume = for_count(blocks.len(), "assumes", "assume");
-    format!("{}, which {assume} {}", show_some_blocks(blocks), it(text, form, path))
+fn source(text: &Text, Origin { path: form, blocks, read_at }: &Origin, path: &Path) -> String {
+    let assume = assume(blocks.len(), &it(text, form, path), read_at, MOST);
+    format!("{}, which {assume}", show_some_blocks(blocks))
 }
 
 /// The form, where it is not that of the path spoken of.
@@ -63,24 +63,6 @@ fn it(text: &Text, form: &Path, path: &Path) -> String {
     } else {
         text.path(form)
     }
-}
-
-/// The forms in which the path of a step is assumed on its way, each with the blocks that assume
-/// it.
-fn forms<'a>(text: &'a Text, step: usize) -> Vec<(&'a Path, Vec<BlockId>)> {
-    let steps = &text.explanation.steps;
-    let mut forms: Vec<(&Path, Vec<BlockId>)> = Vec::new();
-    for step in on_the_way(steps, step).into_iter().map(|step| &steps[step]) {
-        if step.how != How::Assumed {
-            continue;
-        }
-        match forms.iter_mut().find(|(form, _)| form.same_entries(&step.path)) {
-            Some((_, blocks)) => blocks.push(step.block),
-            None => forms.push((&step.path, vec![step.block])),
-        }
-    }
-    forms.iter_mut().for_each(|(_, blocks)| blocks.sort());
-    forms
 }
 
 /// That a block which does not have the base was left out on the way of the path that shows it.

@@ -12,7 +12,7 @@ use crate::replay::Propagation;
 use known::known;
 use sections::Sections;
 #[cfg(feature = "draw")]
-pub(crate) use show::some_listed;
+pub(crate) use show::{can_change, some_listed};
 use show::{show_entry, show_path};
 use std::fmt;
 use unknown::unknown;

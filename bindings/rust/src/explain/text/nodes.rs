@@ -1,6 +1,6 @@
 //! How many nodes there were before the first round, and which ones reduction added, in words.
 
-use super::show::{for_count, listed, show_block, show_blocks, some_listed, MOST};
+use super::show::{assume, listed, show_block, show_blocks, some_listed, MOST};
 use super::Text;
 use crate::explain::{Added, Origin};
 use crate::notation::show::node_counts;
@@ -35,21 +35,32 @@ fn line(text: &Text, added: &Added) -> String {
     let (Added { round, .. }, had) = (added, listed(&paths(text, &added.bases)));
     let (own, origins) = match &added.origins[..] {
         [origin] if origin.path.same_entries(&added.from) && origin.blocks == [added.block] => {
-            (", which it assumes,", String::new())
+            (own(origin), String::new())
         }
-        origins => ("", format!("; {from} comes from {}", listed_origins(text, &added.from, origins))),
+        origins => {
+            (String::new(), format!("; {from} comes from {}", listed_origins(text, &added.from, origins)))
+        }
     };
     format!(
         "    {nodes} in round {round}, {walk} walk: {block} made {from}{own} into {to}, since it had {had}{origins}"
     )
 }
 
+/// That the block itself assumes the path.
+fn own(origin: &Origin) -> String {
+    match origin.read_at.first() {
+        None => ", which it assumes,".to_string(),
+        Some(instruction) => format!(", which it reads at instruction {instruction},"),
+    }
+}
+
 /// The blocks that assume a path, or such as reduction made into it.
 fn listed_origins(text: &Text, path: &Path, origins: &[Origin]) -> String {
     let origins = origins.iter().map(|origin| {
-        let assume = for_count(origin.blocks.len(), "assumes", "assume");
         let what = if origin.path.same_entries(path) { "it".to_string() } else { text.path(&origin.path) };
-        format!("{}, which {assume} {what}", show_blocks(&origin.blocks))
+        let blocks = origin.blocks.len();
+        let assume = assume(blocks, &what, &origin.read_at, blocks);
+        format!("{}, which {assume}", show_blocks(&origin.blocks))
     });
     origins.collect::<Vec<_>>().join(", and ")
 }

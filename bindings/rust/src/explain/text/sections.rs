@@ -1,6 +1,6 @@
 //! The steps by which paths came to blocks, in words: a section for each path, whatever its forms.
 
-use super::show::{listed, show_block, show_blocks, show_path};
+use super::show::{assumes, listed, show_block, show_blocks, show_path};
 use crate::explain::{Explanation, How, Step};
 use crate::ids::BlockId;
 use crate::names::Names;
@@ -61,7 +61,7 @@ impl<'a> Sections<'a> {
     fn sentence(&self, step: &Step) -> String {
         let (block, path) = (show_block(step.block), show_path(&step.path, self.names));
         match &step.how {
-            How::Assumed => format!("{block} assumes {path}"),
+            How::Assumed { read_at } => format!("{block} {}", assumes(&path, *read_at)),
             How::Made { from, bases, .. } => {
                 let bases: Vec<String> = bases.iter().map(|&base| self.path(base)).collect();
                 let from = self.path(*from);

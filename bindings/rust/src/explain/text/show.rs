@@ -3,6 +3,7 @@
 use crate::ids::BlockId;
 use crate::names::Names;
 use crate::path::{Entry, Path};
+use crate::raw_read::RawRead;
 
 /// The most items of a list in short.
 pub(super) const MOST: usize = 3;
@@ -53,6 +54,36 @@ pub(super) fn listed(items: &[String]) -> String {
     }
 }
 
+/// That so many blocks assume a path: `assumes 1.10`, or where they read it, at these instructions,
+/// `reads 1.10 at instruction 3`. Of the instructions so many are named.
+pub(super) fn assume(blocks: usize, path: &str, read_at: &[u32], most: usize) -> String {
+    if read_at.is_empty() {
+        return format!("{} {path}", for_count(blocks, "assumes", "assume"));
+    }
+    let instructions: Vec<String> = read_at.iter().map(u32::to_string).collect();
+    let at = match instructions.iter().all(|other| *other == instructions[0]) {
+        true => format!("instruction {}", instructions[0]),
+        false => format!("instructions {}", some_listed(&instructions, most)),
+    };
+    format!("{} {path} at {at}", for_count(blocks, "reads", "read"))
+}
+
+/// The same of one block.
+pub(super) fn assumes(path: &str, read_at: Option<u32>) -> String {
+    assume(1, path, read_at.as_slice(), 1)
+}
+
+/// Why a raw read is not kept.
+pub(crate) fn can_change(read: &RawRead, names: &Names) -> String {
+    let RawRead { instruction, range_start, range_end, .. } = read;
+    let (variable, (_, start, end)) = (read.path.identifier(), read.scope.fields());
+    let variable = variable.with_names(names);
+    format!(
+        "{variable} can still change there: its range {range_start} to {range_end} is longer than one instruction, \
+         and instruction {instruction} is in its scope, {start} to {end}"
+    )
+}
+
 /// The word for one or for more.
 pub(super) fn for_count(count: usize, one: &'static str, more: &'static str) -> &'static str {
     if count == 1 {
@@ -73,5 +104,16 @@ mod tests {
         assert_eq!(show_blocks(&blocks[..2]), "blocks 1 and 2");
         assert_eq!(show_some_blocks(&blocks[..4]), "blocks 1, 2, 3 and 4");
         assert_eq!(show_some_blocks(&blocks), "blocks 1, 2, 3 and 3 more");
+    }
+
+    #[test]
+    fn what_blocks_assume_or_read_is_told() {
+        assert_eq!(assumes("1.10", None), "assumes 1.10");
+        assert_eq!(assumes("1.10", Some(3)), "reads 1.10 at instruction 3");
+        assert_eq!(assume(2, "it", &[], MOST), "assume it");
+        assert_eq!(assume(2, "it", &[3, 3], MOST), "read it at instruction 3");
+        assert_eq!(assume(2, "it", &[3, 5], MOST), "read it at instructions 3 and 5");
+        assert_eq!(assume(5, "it", &[9, 8, 7, 6, 5], MOST), "read it at instructions 9, 8, 7 and 2 more");
+        assert_eq!(assume(5, "it", &[9, 8, 7, 6, 5], 5), "read it at instructions 9, 8, 7, 6 and 5");
     }
 }

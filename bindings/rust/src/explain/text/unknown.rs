@@ -1,9 +1,9 @@
 //! Why a base is not known, in words.
 
 use super::known::sources;
-use super::show::{for_count, show_block, show_blocks, show_some_blocks};
+use super::show::{assumes, can_change, for_count, show_block, show_blocks, show_some_blocks};
 use super::{Sections, Text};
-use crate::explain::{Before, Elsewhere, Holder, How, Stop, Unknown, Way, Why};
+use crate::explain::{AssumedPath, Before, Elsewhere, Holder, How, NotKept, Stop, Unknown, Way, Why};
 use crate::ids::BlockId;
 use crate::path::Path;
 use crate::replay::Side;
@@ -13,6 +13,8 @@ pub(super) fn unknown(text: &Text, why: &Unknown) -> Vec<String> {
     let mut lines = vec![format!("{base} is not known to be there in {scope}")];
     lines.extend(why.open.as_ref().map(|open| own(text, open) + "; that " + &leaves_open(text, &why.base)));
     lines.extend(elsewhere(text, why));
+    let shown = if text.sections.is_some() { why.not_kept.len() } else { 1 };
+    lines.extend(why.not_kept.iter().take(shown).map(|read| not_kept(text, read)));
     if !text.explanation.settled {
         lines.push("the stage stopped after 100 rounds, before it had settled".to_string());
     }
@@ -21,6 +23,12 @@ pub(super) fn unknown(text: &Text, why: &Unknown) -> Vec<String> {
 
 fn leaves_open(text: &Text, base: &Path) -> String {
     format!("does not make {} known to the stage", text.path(base))
+}
+
+/// That a block reads the base, and why that read is not kept.
+fn not_kept(text: &Text, NotKept { block, read }: &NotKept) -> String {
+    let (block, reads) = (show_block(*block), assumes(&text.path(&read.path), Some(read.instruction)));
+    format!("{block} {reads}, but {}", can_change(read, &text.explanation.names))
 }
 
 /// That the scope block has a path: from where, or where it is told.
@@ -65,11 +73,11 @@ fn elsewhere(text: &Text, why: &Unknown) -> Vec<String> {
 
 /// That no block assumes the base, and which assume a path that leaves it open: the first of them,
 /// or all where all is shown.
-fn nowhere(text: &Text, why: &Unknown, open: &[(BlockId, Path)]) -> Vec<String> {
+fn nowhere(text: &Text, why: &Unknown, open: &[AssumedPath]) -> Vec<String> {
     let nobody = format!("no block assumes {}", text.path(&why.base));
-    let assumes = |(block, path): &(BlockId, Path)| {
-        let (block, path) = (show_block(*block), text.path(path));
-        format!("{block} assumes {path}, which {}", leaves_open(text, &why.base))
+    let assumes = |AssumedPath { block, path, read_at }: &AssumedPath| {
+        let (block, assumes) = (show_block(*block), assumes(&text.path(path), *read_at));
+        format!("{block} {assumes}, which {}", leaves_open(text, &why.base))
     };
     match (&text.sections, &why.open, open) {
         (Some(_), ..) => std::iter::once(nobody).chain(open.iter().map(assumes)).collect(),
@@ -99,7 +107,8 @@ fn apart(text: &Text, base: &Path, holder: &Holder, holders: &[Holder]) -> Strin
 fn has(text: &Text, base: &Path, one: &Holder, blocks: &[BlockId]) -> String {
     let have = for_count(blocks.len(), "has", "have");
     let verb = match text.explanation.steps[one.step].how {
-        How::Assumed => for_count(blocks.len(), "assumes", "assume"),
+        How::Assumed { read_at: None } => for_count(blocks.len(), "assumes", "assume"),
+        How::Assumed { read_at: Some(_) } => for_count(blocks.len(), "reads", "read"),
         _ => have,
     };
     let so = if one.path.same_names(base) {
@@ -114,7 +123,8 @@ fn has(text: &Text, base: &Path, one: &Holder, blocks: &[BlockId]) -> String {
 fn whence(text: &Text, holder: &Holder) -> String {
     let path = text.path(&holder.path);
     match text.explanation.steps[holder.step].how {
-        How::Assumed => path,
+        How::Assumed { read_at: None } => path,
+        How::Assumed { read_at: Some(instruction) } => format!("{path} at instruction {instruction}"),
         _ => format!("{path} from {}", sources(text, holder.step)),
     }
 }
