@@ -1,4 +1,4 @@
--- The paths that records of one form bring, entered one record after the other: what enters those
+-- The paths that a block's records bring, entered one record after the other: what enters those
 -- that are left after those before enters them all.
 use Prim.Native.Nat.{ℕ, suc, _+_, _-_, _≤_, _<_}
 use native.Mathlib.Omega.{arith}
@@ -8,8 +8,7 @@ use mathlib.Core.List.{List, [], _∷_, _++_}
 use lib.ListN.{length}
 use Rattle.entries.specs.declared.NodeId.{NodeId}
 use Rattle.entries.specs.Path.{ReactiveScopeDependency}
-use Rattle.model.specs.Lists.{concatMap}
-use Rattle.model.specs.ReadingBytes.{Read, got, refused, ByteReader, mapped, readMany}
+use Rattle.model.specs.ReadingBytes.{Read, got, refused, mapped, readMany}
 use Rattle.model.specs.Sets.{insert}
 use Rattle.model.specs.Registry.{nodeLimit, PropertyPathRegistry, Reached, ownMark, getOrCreateProperty}
 use Rattle.model.specs.RegistryLaws.{Extends, extends-refl, extends-trans, extends-length, path-extends, property-longer, path-proper}
@@ -26,7 +25,7 @@ use Rattle.paths.specs.declared.EnteredPath.{EnteredPath}
 use Rattle.paths.specs.declared.EnteredPath.the-variants as path
 use Rattle.paths.specs.Enters.{Enters}
 use Rattle.assumed.specs.declared.EnteredSet.{EnteredSet}
-use Rattle.assumed.specs.Start.{itself, soFar, Entering, FillsBy, Fills, EntersAll}
+use Rattle.assumed.specs.Start.{itself, readBrought, allOf, soFar, Entering, FillsBy, Fills, EntersAll}
 
 -- Entering paths only adds nodes.
 pub paths-extend : (e : PathsEntered) (ds : List ReactiveScopeDependency) → Extends (e .registry) (enterPaths e ds .registry)
@@ -90,96 +89,85 @@ module _ (reg : PropertyPathRegistry) (e r : EnteredSet) (us ps : List ℕ) wher
         subst (λ (y : Read ReactiveScopeDependency). EntersAll (mapped itself y) (soFar reg e) r us ps) (sym (t .1))
         (subst (λ f. FillsBy f (enterPath (soFar reg e) (t .0)) n r us ps) (sym room) fills)
 
--- Records of one form, each of which brings some paths.
+-- Records, each of which brings some paths.
 
-module _ {A : Type 0} (read : ByteReader A) (chosen : A → List ReactiveScopeDependency) where
-  -- the records that were read, and the place after them
-  abbrev pub valuesAt : List ℕ → ℕ → ℕ → List A
-  valuesAt s at n = orNone (readMany n read s at) (λ xs end. xs)
+-- what the records bring that were read, and the place after them
+abbrev pub valuesAt : List ℕ → ℕ → ℕ → List (List ReactiveScopeDependency)
+valuesAt s at n = orNone (readMany n readBrought s at) (λ xs end. xs)
 
-  abbrev pub endAt : List ℕ → ℕ → ℕ → ℕ
-  endAt s at n = placeAfter (readMany n read s at)
+abbrev pub endAt : List ℕ → ℕ → ℕ → ℕ
+endAt s at n = placeAfter (readMany n readBrought s at)
 
-  -- The records that are left were read, and entering what they bring after what was entered so far
-  -- gives what is wanted.
-  pub record Filling (want : PathsEntered) (end : ℕ) (s ws os : List ℕ) (e : EnteredSet) (left : ℕ) : Type 0 where
-    pub entering : Entering ws os e
-    pub room : e .full ≡ false
-    pub rest : List A
-    pub there : readMany left read s (e .at) ≡ got rest end
-    pub same : want ≡ enterPaths (soFar (registryOf ws) e) (concatMap chosen rest)
+-- The records that are left were read, and entering what they bring after what was entered so far
+-- gives what is wanted.
+pub record Filling (want : PathsEntered) (end : ℕ) (s ws os : List ℕ) (e : EnteredSet) (left : ℕ) : Type 0 where
+  pub entering : Entering ws os e
+  pub room : e .full ≡ false
+  pub rest : List (List ReactiveScopeDependency)
+  pub there : readMany left readBrought s (e .at) ≡ got rest end
+  pub same : want ≡ enterPaths (soFar (registryOf ws) e) (allOf rest)
 
-  pub filling : (s ws os : List ℕ) (e : EnteredSet) (count : ℕ) → Entering ws os e → e .full ≡ false → IsRead (readMany count read s (e .at))
-      → Filling (enterPaths (soFar (registryOf ws) e) (concatMap chosen (valuesAt s (e .at) count))) (endAt s (e .at) count) s ws os e count
-  filling s ws os e count entering room x =
-      subst (λ (y : Read (List A)). Filling (enterPaths (soFar (registryOf ws) e) (concatMap chosen (orNone y (λ xs end. xs)))) (placeAfter y) s ws os e count)
-      (sym (x .read))
-      (record { entering = entering; room = room; rest = x .value; there = x .read; same = refl })
+pub filling : (s ws os : List ℕ) (e : EnteredSet) (count : ℕ) → Entering ws os e → e .full ≡ false → IsRead (readMany count readBrought s (e .at))
+    → Filling (enterPaths (soFar (registryOf ws) e) (allOf (valuesAt s (e .at) count))) (endAt s (e .at) count) s ws os e count
+filling s ws os e count entering room x =
+    subst (λ (y : Read (List (List ReactiveScopeDependency))).
+    Filling (enterPaths (soFar (registryOf ws) e) (allOf (orNone y (λ xs end. xs)))) (placeAfter y) s ws os e count)
+    (sym (x .read))
+    (record { entering = entering; room = room; rest = x .value; there = x .read; same = refl })
 
-  module _ {want : PathsEntered} {end : ℕ} {s ws os : List ℕ} {e : EnteredSet} {left : ℕ} (x : Filling want end s ws os e left) where
-    pub filling-end : left ≤ 0 → Fills want end e ws os
-    filling-end none =
-        let zero-left : left ≡ 0 = omega arith in
-        let nothing : got [] (e .at) ≡ got (x .rest) end = subst (λ n. readMany n read s (e .at) ≡ got (x .rest) end) zero-left (x .there) in
-        let no : [] ≡ x .rest = cc in
-        let last : e .at ≡ end = cc in
-        subst (λ f. FillsBy f want end e ws os) (sym (x .room))
-        (x .entering .held, x .same ∙ ap (λ xs. enterPaths (soFar (registryOf ws) e) (concatMap chosen xs)) (sym no), last)
+module _ {want : PathsEntered} {end : ℕ} {s ws os : List ℕ} {e : EnteredSet} {left : ℕ} (x : Filling want end s ws os e left) where
+  pub filling-end : left ≤ 0 → Fills want end e ws os
+  filling-end none =
+      let zero-left : left ≡ 0 = omega arith in
+      let nothing : got [] (e .at) ≡ got (x .rest) end = subst (λ n. readMany n readBrought s (e .at) ≡ got (x .rest) end) zero-left (x .there) in
+      let no : [] ≡ x .rest = cc in
+      let last : e .at ≡ end = cc in
+      subst (λ f. FillsBy f want end e ws os) (sym (x .room))
+      (x .entering .held, x .same ∙ ap (λ xs. enterPaths (soFar (registryOf ws) e) (allOf xs)) (sym no), last)
 
-    module _ (some : 0 < left) where
-      -- the first of the records that are left, and the others
-      first : (a : A) × (next : ℕ) × (rest : List A) × (read s (e .at) ≡ got a next)
-          × (readMany (left - 1) read s next ≡ got rest end) × (a ∷ rest ≡ x .rest)
-      first = many-first read s left (e .at) some (x .there)
+  module _ (some : 0 < left) where
+    -- the first of the records that are left, and the others
+    first : (ds : List ReactiveScopeDependency) × (next : ℕ) × (rest : List (List ReactiveScopeDependency)) × (readBrought s (e .at) ≡ got ds next)
+        × (readMany (left - 1) readBrought s next ≡ got rest end) × (ds ∷ rest ≡ x .rest)
+    first = many-first readBrought s left (e .at) some (x .there)
 
-      pub first-there : IsRead (read s (e .at))
-      first-there = record { value = first .0; next = first .1; read = first .3 }
+    pub first-there : IsRead (readBrought s (e .at))
+    first-there = record { value = first .0; next = first .1; read = first .3 }
 
-      module _ (r : EnteredSet) (us ps : List ℕ) (entered : EntersAll (mapped chosen (read s (e .at))) (soFar (registryOf ws) e) r us ps) where
-        one : Fills (enterPaths (soFar (registryOf ws) e) (chosen (first .0))) (first .1) r us ps
-        one = subst (λ (y : Read A). EntersAll (mapped chosen y) (soFar (registryOf ws) e) r us ps) (first .3) entered
+    module _ (r : EnteredSet) (us ps : List ℕ) (entered : EntersAll (readBrought s (e .at)) (soFar (registryOf ws) e) r us ps) where
+      one : Fills (enterPaths (soFar (registryOf ws) e) (first .0)) (first .1) r us ps
+      one = subst (λ (y : Read (List ReactiveScopeDependency)). EntersAll y (soFar (registryOf ws) e) r us ps) (first .3) entered
 
-        split : want ≡ enterPaths (enterPaths (soFar (registryOf ws) e) (chosen (first .0))) (concatMap chosen (first .2))
-        split =
-            x .same ∙ ap (λ xs. enterPaths (soFar (registryOf ws) e) (concatMap chosen xs)) (sym (first .5))
-            ∙ paths-append (soFar (registryOf ws) e) (chosen (first .0)) (concatMap chosen (first .2))
+      split : want ≡ enterPaths (enterPaths (soFar (registryOf ws) e) (first .0)) (allOf (first .2))
+      split =
+          x .same ∙ ap (λ xs. enterPaths (soFar (registryOf ws) e) (allOf xs)) (sym (first .5))
+          ∙ paths-append (soFar (registryOf ws) e) (first .0) (allOf (first .2))
 
-        pub filling-full : r .full ≡ true → Fills want end r us ps
-        filling-full full =
-            let so-far = enterPaths (soFar (registryOf ws) e) (chosen (first .0)) in
-            let limit : nodeLimit < length (so-far .registry) = subst (λ f. FillsBy f so-far (first .1) r us ps) full one in
-            let longer = extends-length (paths-extend so-far (concatMap chosen (first .2))) in
-            let past : nodeLimit < length (want .registry) =
-            subst (λ (y : PathsEntered). nodeLimit < length (y .registry)) (sym split) (omega arith) in
-            subst (λ f. FillsBy f want end r us ps) (sym full) past
+      pub filling-full : r .full ≡ true → Fills want end r us ps
+      filling-full full =
+          let so-far = enterPaths (soFar (registryOf ws) e) (first .0) in
+          let limit : nodeLimit < length (so-far .registry) = subst (λ f. FillsBy f so-far (first .1) r us ps) full one in
+          let longer = extends-length (paths-extend so-far (allOf (first .2))) in
+          let past : nodeLimit < length (want .registry) =
+          subst (λ (y : PathsEntered). nodeLimit < length (y .registry)) (sym split) (omega arith) in
+          subst (λ f. FillsBy f want end r us ps) (sym full) past
 
-        pub filling-more : r .full ≡ false → Filling want end s us ps r (left - 1)
-        filling-more room =
-            let so-far = enterPaths (soFar (registryOf ws) e) (chosen (first .0)) in
-            let is : FillsBy false so-far (first .1) r us ps = subst (λ f. FillsBy f so-far (first .1) r us ps) room one in
-            let longer = subst (λ (y : PathsEntered). length (y .registry) + e .made ≡ length (registryOf ws) + y .made) (is .1)
-            (paths-longer (soFar (registryOf ws) e) (chosen (first .0))) in
-            record {
-              entering = record { held = is .0; among = let so-far = x .entering .among in omega arith };
-              room = room;
-              rest = first .2;
-              there = subst (λ n. readMany (left - 1) read s n ≡ got (first .2) end) (sym (is .2)) (first .4);
-              same = split ∙ ap (λ (y : PathsEntered). enterPaths y (concatMap chosen (first .2))) (is .1);
-            }
+      pub filling-more : r .full ≡ false → Filling want end s us ps r (left - 1)
+      filling-more room =
+          let so-far = enterPaths (soFar (registryOf ws) e) (first .0) in
+          let is : FillsBy false so-far (first .1) r us ps = subst (λ f. FillsBy f so-far (first .1) r us ps) room one in
+          let longer = subst (λ (y : PathsEntered). length (y .registry) + e .made ≡ length (registryOf ws) + y .made) (is .1)
+          (paths-longer (soFar (registryOf ws) e) (first .0)) in
+          record {
+            entering = record { held = is .0; among = let so-far = x .entering .among in omega arith };
+            room = room;
+            rest = first .2;
+            there = subst (λ n. readMany (left - 1) readBrought s n ≡ got (first .2) end) (sym (is .2)) (first .4);
+            same = split ∙ ap (λ (y : PathsEntered). enterPaths y (allOf (first .2))) (is .1);
+          }
 
-  -- The whole list was entered, with what all its records bring.
-  pub all-entered : (f : List A → List ReactiveScopeDependency) → ((xs : List A) → f xs ≡ concatMap chosen xs)
-      → (x : Read (List A)) → IsRead x → (start : PathsEntered) (r : EnteredSet) (ws os : List ℕ)
-      → Fills (enterPaths start (concatMap chosen (orNone x (λ xs end. xs)))) (placeAfter x) r ws os → EntersAll (mapped f x) start r ws os
-  all-entered f same (got xs end) there start r ws os h = subst (λ ds. Fills (enterPaths start ds) end r ws os) (sym (same xs)) h
-  all-entered f same (refused y) there start r ws os h = not-both (there .read) refl
-
--- The same of paths that bring themselves.
-pub paths-entered : (x : Read (List ReactiveScopeDependency)) → IsRead x → (start : PathsEntered) (r : EnteredSet) (ws os : List ℕ)
-    → Fills (enterPaths start (concatMap itself (orNone x (λ xs end. xs)))) (placeAfter x) r ws os → EntersAll x start r ws os
-paths-entered (got ds end) there start r ws os h = subst (λ es. Fills (enterPaths start es) end r ws os) (sym (each-itself ds)) h
-  where
-    each-itself : (ds : List ReactiveScopeDependency) → ds ≡ concatMap itself ds
-    each-itself [] = refl
-    each-itself (d ∷ ds) = ap (λ es. d ∷ es) (each-itself ds)
-paths-entered (refused y) there start r ws os h = not-both (there .read) refl
+-- The whole list was entered, with what all its records bring.
+pub all-entered : (x : Read (List (List ReactiveScopeDependency))) → IsRead x → (start : PathsEntered) (r : EnteredSet) (ws os : List ℕ)
+    → Fills (enterPaths start (allOf (orNone x (λ xs end. xs)))) (placeAfter x) r ws os → EntersAll (mapped allOf x) start r ws os
+all-entered (got xs end) there start r ws os h = h
+all-entered (refused y) there start r ws os h = not-both (there .read) refl

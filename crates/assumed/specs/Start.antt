@@ -5,13 +5,18 @@ use mathlib.Core.Bool.{Bool, true, false}
 use mathlib.Core.List.{List, [], _∷_}
 use lib.ListN.{length}
 use Rattle.entries.specs.Path.{ReactiveScopeDependency}
-use Rattle.model.specs.ReadingBytes.{Read, got, refused}
+use Rattle.model.specs.Lists.{concatMap}
+use Rattle.model.specs.ReadingBytes.{Read, got, refused, ByteReader, mapped, readMark}
 use Rattle.model.specs.RawReads.{RawRead, keptPaths}
+use Rattle.model.specs.Job.{PA, RD, readPathFields, readPath, readRawRead}
+use Rattle.model.specs.Answer.{spanWidth}
 use Rattle.model.specs.Registry.{nodeLimit, PropertyPathRegistry}
 use Rattle.model.specs.Stage as stage
 use Rattle.rows.specs.Members.{membersOf}
 use Rattle.rows.specs.Rows.{Lent, rowsOf}
 use Rattle.registry.specs.Words.{registryOf, Held}
+use Rattle.assumed.specs.declared.Brought.{Brought}
+use Rattle.assumed.specs.declared.Brought.the-variants.{Fields, Nothing, Never}
 use Rattle.assumed.specs.declared.EnteredSet.{EnteredSet}
 use Rattle.assumed.specs.declared.BlocksEntered.{BlocksEntered}
 use Rattle.assumed.specs.declared.BlocksEntered.the-variants.{All, Full}
@@ -23,6 +28,26 @@ itself d = d ∷ []
 -- the path of a raw read, where it is kept
 abbrev pub pathIfKept : RawRead → List ReactiveScopeDependency
 pathIfKept r = keptPaths (r ∷ [])
+
+-- by whether the mark of a raw read stands at the place
+abbrev pub readBroughtBy : Read Unit → ByteReader (List ReactiveScopeDependency)
+readBroughtBy (got u next) s at = mapped pathIfKept (readRawRead spanWidth s at)
+readBroughtBy (refused r) s at = mapped itself (readPath spanWidth PA s at)
+
+-- What a record of a block, RD or PA, brings: the path of a raw read where it is kept, and a ready
+-- path.
+unfoldable pub readBrought : ByteReader (List ReactiveScopeDependency)
+readBrought s at = readBroughtBy (readMark RD s at) s at
+
+-- That, by where the fields of a path stand, or by the place after a record that brings none.
+abbrev pub Brings : Read (List ReactiveScopeDependency) → List ℕ → Brought → Type 0
+Brings x s (Fields at) = x ≡ mapped itself (readPathFields spanWidth s at)
+Brings x s (Nothing next) = x ≡ got [] next
+Brings x s Never = ⊥
+
+-- what all records bring
+abbrev pub allOf : List (List ReactiveScopeDependency) → List ReactiveScopeDependency
+allOf dss = concatMap (λ (ds : List ReactiveScopeDependency). ds) dss
 
 -- how far entering a block's paths has come, in a registry
 abbrev pub soFar : PropertyPathRegistry → EnteredSet → stage.PathsEntered

@@ -6,13 +6,12 @@ ghost use Prim.Native.Nat.{_≤_};
 ghost use Rattle.rows.specs.Rows.{Lent};
 ghost use Rattle.registry.specs.Words.{registryOf, Held, HoldsNone};
 ghost use Rattle.model.specs.ReadingBytes.{mapped, readMany};
-ghost use Rattle.model.specs.RawReads.{keptPaths};
-ghost use Rattle.model.specs.Job.{PA, readPathFields, readPath, readRawRead, readBlock, assumedOf};
+ghost use Rattle.model.specs.Job.{readPathFields, readBlock, assumedOf};
 ghost use Rattle.model.specs.Answer.{spanWidth};
 ghost use Rattle.model.specs.Stage.{noneEntered, startOf};
 ghost use Rattle.job.specs.Kept.{blocksOf, PlacedJob};
 ghost use Rattle.job.specs.Passing.{IsRead};
-ghost use Rattle.assumed.specs.Start.{itself, pathIfKept, soFar, Entering, EntersAll, Starts};
+ghost use Rattle.assumed.specs.Start.{itself, readBrought, Brings, allOf, soFar, Entering, EntersAll, Starts};
 use fields::Passed;
 use job::ReadBlockHead;
 use job::ReadRawHead;
@@ -69,97 +68,86 @@ fn enter_fields(
     }
 }
 
-// One ready path more, which was read before.
-fn enter_ready_path(
-    s: &[u8],
-    ws: &mut [u64; 1665],
-    optional: &mut [u64; 8],
-    so_far: EnteredSet,
-) -> EnteredSet
-    requires { ⌜ Entering (now ws) (now optional) «so_far» × IsRead (readPath spanWidth PA (now s) («so_far» .at)) ⌝ }
-    ensures { λ r. ⌜ EntersAll (mapped itself (readPath spanWidth PA (now (s .entry)) («so_far» .at)))
-        (soFar (registryOf (now (ws .entry))) «so_far») r (now (ws .exit)) (now (optional .exit)) ⌝ }
-{
-    let marked = fields::mark_at(s, so_far.at, job::PA);
-    let Passed::To(fields_at) = marked else {
-        return stopped(so_far);
-    };
-    enter_fields(s, fields_at, ws, optional, so_far)
+// Where the fields of the path stand that the record at a place brings; or that it brings none, and
+// the place after it. A field that was read before is never refused.
+enum Brought {
+    Fields(usize),
+    Nothing(usize),
+    Never,
 }
 
-// One raw read more, which was read before: its path is entered where it is kept.
-fn enter_raw_read(
-    s: &[u8],
-    ws: &mut [u64; 1665],
-    optional: &mut [u64; 8],
-    so_far: EnteredSet,
-) -> EnteredSet
-    requires { ⌜ Entering (now ws) (now optional) «so_far» × IsRead (readRawRead spanWidth (now s) («so_far» .at)) ⌝ }
-    ensures { λ r. ⌜ EntersAll (mapped pathIfKept (readRawRead spanWidth (now (s .entry)) («so_far» .at)))
-        (soFar (registryOf (now (ws .entry))) «so_far») r (now (ws .exit)) (now (optional .exit)) ⌝ }
+// What the record at a place brings, which was read before: a raw read its path where it is kept,
+// and any other record its ready path.
+fn brought_at(s: &[u8], at: usize) -> Brought
+    requires { ⌜ IsRead (readBrought (now s) at) ⌝ }
+    ensures { λ r. ⌜ Brings (readBrought (now (s .entry)) at) (now (s .entry)) r ⌝ }
 {
-    let head_field = job::raw_head_at(s, so_far.at);
+    let raw = fields::mark_at(s, at, job::RD);
+    let Passed::To(_) = raw else {
+        let ready = fields::mark_at(s, at, job::PA);
+        let Passed::To(fields_at) = ready else {
+            return Brought::Never;
+        };
+        return Brought::Fields(fields_at);
+    };
+    let head_field = job::raw_head_at(s, at);
     let ReadRawHead::Value(head, fields_at) = head_field else {
-        return stopped(so_far);
+        return Brought::Never;
     };
     if immutable::is_immutable_at_instr(head) {
-        return enter_fields(s, fields_at, ws, optional, so_far);
+        return Brought::Fields(fields_at);
     }
     let path = job::past_path_fields(s, fields_at);
     let Passed::To(next) = path else {
-        return stopped(so_far);
+        return Brought::Never;
     };
-    let set = so_far.set;
-    EnteredSet {
-        set,
-        made: so_far.made,
-        at: next,
-        full: false,
-    }
+    Brought::Nothing(next)
 }
 
-// `count` raw reads, which were read before.
-fn enter_raw_reads(
+// One record more, which was read before: what it brings is entered.
+fn enter_record(
     s: &[u8],
-    count: u8,
     ws: &mut [u64; 1665],
     optional: &mut [u64; 8],
-    start: EnteredSet,
+    so_far: EnteredSet,
 ) -> EnteredSet
-    requires { ⌜ Entering (now ws) (now optional) start × IsRead (readMany count (readRawRead spanWidth) (now s) (start .at)) ⌝ }
-    requires { ⌜ start .full ≡ false ⌝ }
-    ensures { λ r. ⌜ EntersAll (mapped keptPaths (readMany count (readRawRead spanWidth) (now (s .entry)) (start .at)))
-        (soFar (registryOf (now (ws .entry))) start) r (now (ws .exit)) (now (optional .exit)) ⌝ }
+    requires { ⌜ Entering (now ws) (now optional) «so_far» × IsRead (readBrought (now s) («so_far» .at)) ⌝ }
+    ensures { λ r. ⌜ EntersAll (readBrought (now (s .entry)) («so_far» .at)) (soFar (registryOf (now (ws .entry))) «so_far») r
+        (now (ws .exit)) (now (optional .exit)) ⌝ }
 {
-    let mut so_far = start;
-    let mut left = count;
-    while 0 < left {
-        so_far = enter_raw_read(s, ws, optional, so_far);
-        if so_far.full {
-            return so_far;
+    let brought = brought_at(s, so_far.at);
+    match brought {
+        Brought::Fields(at) => enter_fields(s, at, ws, optional, so_far),
+        Brought::Nothing(next) => {
+            let set = so_far.set;
+            EnteredSet {
+                set,
+                made: so_far.made,
+                at: next,
+                full: false,
+            }
         }
-        left = left - 1;
+        Brought::Never => stopped(so_far),
     }
-    so_far
 }
 
-// `count` ready paths, which were read before.
-fn enter_ready_paths(
+// `count` records, which were read before.
+fn enter_records(
     s: &[u8],
-    count: u8,
+    count: u16,
     ws: &mut [u64; 1665],
     optional: &mut [u64; 8],
     start: EnteredSet,
 ) -> EnteredSet
-    requires { ⌜ Entering (now ws) (now optional) start × IsRead (readMany count (readPath spanWidth PA) (now s) (start .at)) ⌝ }
+    requires { ⌜ Entering (now ws) (now optional) start × IsRead (readMany count readBrought (now s) (start .at)) ⌝ }
     requires { ⌜ start .full ≡ false ⌝ }
-    ensures { λ r. ⌜ EntersAll (readMany count (readPath spanWidth PA) (now (s .entry)) (start .at))
+    ensures { λ r. ⌜ EntersAll (mapped allOf (readMany count readBrought (now (s .entry)) (start .at)))
         (soFar (registryOf (now (ws .entry))) start) r (now (ws .exit)) (now (optional .exit)) ⌝ }
 {
     let mut so_far = start;
     let mut left = count;
     while 0 < left {
-        so_far = enter_ready_path(s, ws, optional, so_far);
+        so_far = enter_record(s, ws, optional, so_far);
         if so_far.full {
             return so_far;
         }
@@ -186,20 +174,22 @@ fn enter_block(s: &[u8], at: usize, ws: &mut [u64; 1665], optional: &mut [u64; 8
         return stopped(none);
     };
     let ids = job::past_ids(s, ids_at, head.predecessors);
-    let Passed::To(reads_at) = ids else {
+    let Passed::To(records_at) = ids else {
         return stopped(none);
     };
     let start = EnteredSet {
         set: empty,
         made: 0,
-        at: reads_at,
+        at: records_at,
         full: false,
     };
-    let reads = enter_raw_reads(s, head.raw, ws, optional, start);
-    if reads.full {
-        return reads;
-    }
-    enter_ready_paths(s, head.assumed, ws, optional, reads)
+    enter_records(
+        s,
+        head.raw as u16 + head.assumed as u16,
+        ws,
+        optional,
+        start,
+    )
 }
 
 // How many nodes were made in all, once every assumed path was entered; or the registry had no

@@ -35,7 +35,7 @@ pub path-by-fields : (mark : ℕ) (s : List ℕ) (at : ℕ) → readPath 4 mark 
 unfolding readPath
 path-by-fields mark s at = refl
 
-raw-read-fields : (s : List ℕ) (at : ℕ) → readRawRead 4 s at ≡
+pub raw-read-fields : (s : List ℕ) (at : ℕ) → readRawRead 4 s at ≡
     andThen (readMark RD s at) (λ _ instructionAt.
     andThen (readNumber 4 s instructionAt) (λ instruction startAt.
     andThen (readRangeStart s startAt) (λ start endAt.

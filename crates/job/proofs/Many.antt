@@ -1,8 +1,9 @@
 -- Records one after the other: what holds of none, and of one more in front, holds of all that were
 -- read.
-use Prim.Native.Nat.{ℕ, zero, suc, _-_, _≤_, _<_}
+use Prim.Native.Nat.{ℕ, zero, suc, _+_, _-_, _≤_, _<_}
+use native.Mathlib.Nat.{zero-add, suc-add}
 use mathlib.Core.Path.{_≡_, refl, ap, subst, _∙_}
-use mathlib.Core.List.{List, [], _∷_, _++_}
+use mathlib.Core.List.{List, [], _∷_, _++_, map}
 use native.Mathlib.Omega.{arith}
 use lib.ListN.{length, getD, drop}
 use Rattle.model.specs.ReadingBytes.{Read, got, refused, ByteReader, mapped, both, readMany}
@@ -14,6 +15,19 @@ pub holds-mapped : {A B : Type 0} (P : A → Type 0) (Q : B → Type 0) (f : A �
     → (x : Read A) → HoldsIfRead P x → HoldsIfRead Q (mapped f x)
 holds-mapped P Q f h (got a n) p = h a p
 holds-mapped P Q f h (refused r) p = tt
+
+-- records of which another reader reads something else
+pub many-view : {A B : Type 0} (read : ByteReader A) (other : ByteReader B) (f : A → B) (s : List ℕ)
+    → ((at : ℕ) (a : A) (next : ℕ) → read s at ≡ got a next → other s at ≡ got (f a) next)
+    → (n at : ℕ) {all : List A} {end : ℕ} → readMany n read s at ≡ got all end → readMany n other s at ≡ got (map f all) end
+many-view read other f s h zero at {all} {end} e =
+    let none : [] ≡ all = cc in
+    let here : at ≡ end = cc in
+    subst (λ l. got [] at ≡ got (map f l) end) none (ap (got []) here)
+many-view read other f s h (suc n) at {all} {end} e =
+    let t = both-got (λ first rest. first ∷ rest) (read s at) (readMany n read s) e in
+    subst (λ l. readMany (suc n) other s at ≡ got (map f l) end) (t .5)
+    (both-is (λ first rest. first ∷ rest) (other s at) (readMany n other s) (h at (t .0) (t .1) (t .3)) (many-view read other f s h n (t .1) (t .4)))
 
 module _ {A : Type 0} (read : ByteReader A) (s : List ℕ) where
   module _ (Q : ℕ → ℕ → List A → Type 0) (none : (at : ℕ) → Q 0 at [])
@@ -64,6 +78,19 @@ module _ {A : Type 0} (read : ByteReader A) (s : List ℕ) where
       let t = both-got (λ first rest. first ∷ rest) (read s at) (readMany n read s) e in
       subst (λ l. readMany (suc (suc n)) read s at ≡ got (l ++ (y ∷ [])) end) (t .5)
       (both-is (λ first rest. first ∷ rest) (read s at) (readMany (suc n) read s) (t .3) (many-last n (t .1) (t .4) f))
+
+  -- as many records more behind those that were read
+  pub many-then : (n m at : ℕ) {xs : List A} {mid : ℕ} {ys : List A} {end : ℕ} → readMany n read s at ≡ got xs mid → readMany m read s mid ≡ got ys end
+      → readMany (n + m) read s at ≡ got (xs ++ ys) end
+  many-then zero m at {xs} {mid} {ys} {end} e f =
+      let none : [] ≡ xs = cc in
+      let here : mid ≡ at = cc in
+      rw (zero-add m) (subst (λ l. readMany m read s at ≡ got (l ++ ys) end) none (subst (λ k. readMany m read s k ≡ got ys end) here f))
+  many-then (suc n) m at {xs} {mid} {ys} {end} e f =
+      let t = both-got (λ first rest. first ∷ rest) (read s at) (readMany n read s) e in
+      rw (suc-add n m)
+      (subst (λ l. readMany (suc (n + m)) read s at ≡ got (l ++ ys) end) (t .5)
+      (both-is (λ first rest. first ∷ rest) (read s at) (readMany (n + m) read s) (t .3) (many-then n m (t .1) (t .4) f)))
 
   -- each record that was read is noted
   pub notes-length : {B : Type 0} (f : ℕ → A → B) (n at : ℕ) {all : List A} {end : ℕ} → readMany n read s at ≡ got all end
