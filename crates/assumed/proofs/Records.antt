@@ -30,7 +30,7 @@ use Rattle.assumed.specs.Start.{itself, pathIfKept, readBroughtBy, readB
 
 -- By the mark that stands there.
 
-pub brought-by : (s : List ℕ) (at : ℕ) {x : Read Unit} → readMark RD s at ≡ x → readBrought s at ≡ readBroughtBy x s at
+pub brought-by : (s : List ℕ) (at : ℕ) {x : Read Unit} → readMark PA s at ≡ x → readBrought s at ≡ readBroughtBy x s at
 unfolding readBrought
 brought-by s at e = ap (λ (x : Read Unit). readBroughtBy x s at) e
 
@@ -39,10 +39,6 @@ brought-by s at e = ap (λ (x : Read Unit). readBroughtBy x s at) e
 module _ (s : List ℕ) (at : ℕ) {fieldsAt : ℕ} (marked : readMark PA s at ≡ got tt fieldsAt) where
   pub ready-fields : readPath 4 PA s at ≡ readPathFields 4 s fieldsAt
   ready-fields = path-by-fields PA s at ∙ ap (λ (x : Read Unit). andThen x (λ _ n. readPathFields 4 s n)) marked
-
-pub ready-refused : (s : List ℕ) (at : ℕ) {r : Refusal} → readMark PA s at ≡ refused r → mapped itself (readPath 4 PA s at) ≡ refused r
-ready-refused s at e =
-    ap (mapped itself) (path-by-fields PA s at ∙ ap (λ (x : Read Unit). andThen x (λ _ n. readPathFields 4 s n)) e)
 
 -- A raw read.
 
@@ -111,26 +107,26 @@ module _ (x : Read (List ReactiveScopeDependency)) (s : List ℕ) (q : Brought) 
 
 -- All records of a block.
 
-raw-brought : (s : List ℕ) (at : ℕ) (r : RawRead) (next : ℕ) → readRawRead 4 s at ≡ got r next → readBrought s at ≡ got (pathIfKept r) next
-raw-brought s at r next e =
-    let mark = then-got (readMark RD s at) _ (sym (raw-read-fields s at) ∙ e) in
-    brought-by s at (mark .2) ∙ ap (mapped pathIfKept) e
-
 passes : {A : Type 0} (b : Bool) (x y : Read A) {a : A} {n : ℕ} {r : Refusal} → y ≡ refused r → cond b x y ≡ got a n → b ≡ true
 passes true x y other e = refl
 passes false x y other e = not-both e other
 
 -- no raw read has the mark of a ready path
-other-mark : (s : List ℕ) (at : ℕ) {n : ℕ} → readMark PA s at ≡ got tt n → readMark RD s at ≡ refused WrongMark
+other-mark : (s : List ℕ) (at : ℕ) {n : ℕ} → readMark RD s at ≡ got tt n → readMark PA s at ≡ refused WrongMark
 other-mark s at e =
-    let t = then-got (readNumber 2 s at) _ (sym (mark-fields PA s at) ∙ e) in
-    let same : t .0 ≡ PA = eqb-true (t .0) PA (passes (eqb (t .0) PA) (got tt (t .1)) (refused WrongMark) refl (t .3)) in
+    let t = then-got (readNumber 2 s at) _ (sym (mark-fields RD s at) ∙ e) in
+    let same : t .0 ≡ RD = eqb-true (t .0) RD (passes (eqb (t .0) RD) (got tt (t .1)) (refused WrongMark) refl (t .3)) in
     rw (mark-fields, t .2, same)
+
+raw-brought : (s : List ℕ) (at : ℕ) (r : RawRead) (next : ℕ) → readRawRead 4 s at ≡ got r next → readBrought s at ≡ got (pathIfKept r) next
+raw-brought s at r next e =
+    let mark = then-got (readMark RD s at) _ (sym (raw-read-fields s at) ∙ e) in
+    brought-by s at (other-mark s at (mark .2)) ∙ ap (mapped pathIfKept) e
 
 ready-brought : (s : List ℕ) (at : ℕ) (d : ReactiveScopeDependency) (next : ℕ) → readPath 4 PA s at ≡ got d next → readBrought s at ≡ got (itself d) next
 ready-brought s at d next e =
     let mark = then-got (readMark PA s at) _ (sym (path-by-fields PA s at) ∙ e) in
-    brought-by s at (other-mark s at (mark .2)) ∙ ap (mapped itself) e
+    brought-by s at (mark .2) ∙ ap (mapped itself) e
 
 pub records-read : (s : List ℕ) (raw ready at : ℕ) {rs : List RawRead} {mid : ℕ} {ds : List ReactiveScopeDependency} {end : ℕ}
     → readMany raw (readRawRead 4) s at ≡ got rs mid → readMany ready (readPath 4 PA) s mid ≡ got ds end

@@ -8,7 +8,7 @@ use Rattle.entries.specs.Path.{ReactiveScopeDependency}
 use Rattle.model.specs.Lists.{concatMap}
 use Rattle.model.specs.ReadingBytes.{Read, got, refused, ByteReader, mapped, readMark}
 use Rattle.model.specs.RawReads.{RawRead, keptPaths}
-use Rattle.model.specs.Job.{PA, RD, readPathFields, readPath, readRawRead}
+use Rattle.model.specs.Job.{PA, readPathFields, readPath, readRawRead}
 use Rattle.model.specs.Answer.{spanWidth}
 use Rattle.model.specs.Registry.{nodeLimit, PropertyPathRegistry}
 use Rattle.model.specs.Stage as stage
@@ -29,15 +29,15 @@ itself d = d ∷ []
 abbrev pub pathIfKept : RawRead → List ReactiveScopeDependency
 pathIfKept r = keptPaths (r ∷ [])
 
--- by whether the mark of a raw read stands at the place
+-- by whether the mark of a ready path stands at the place
 abbrev pub readBroughtBy : Read Unit → ByteReader (List ReactiveScopeDependency)
-readBroughtBy (got u next) s at = mapped pathIfKept (readRawRead spanWidth s at)
-readBroughtBy (refused r) s at = mapped itself (readPath spanWidth PA s at)
+readBroughtBy (got u next) s at = mapped itself (readPath spanWidth PA s at)
+readBroughtBy (refused r) s at = mapped pathIfKept (readRawRead spanWidth s at)
 
 -- What a record of a block, RD or PA, brings: the path of a raw read where it is kept, and a ready
 -- path.
 unfoldable pub readBrought : ByteReader (List ReactiveScopeDependency)
-readBrought s at = readBroughtBy (readMark RD s at) s at
+readBrought s at = readBroughtBy (readMark PA s at) s at
 
 -- That, by where the fields of a path stand, or by the place after a record that brings none.
 abbrev pub Brings : Read (List ReactiveScopeDependency) → List ℕ → Brought → Type 0

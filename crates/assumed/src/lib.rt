@@ -76,20 +76,16 @@ enum Brought {
     Never,
 }
 
-// What the record at a place brings, which was read before: a raw read its path where it is kept,
-// and any other record its ready path.
+// What the record at a place brings, which was read before: a ready path, or that of a raw read
+// where it is kept.
 fn brought_at(s: &[u8], at: usize) -> Brought
     requires { ⌜ IsRead (readBrought (now s) at) ⌝ }
     ensures { λ r. ⌜ Brings (readBrought (now (s .entry)) at) (now (s .entry)) r ⌝ }
 {
-    let raw = fields::mark_at(s, at, job::RD);
-    let Passed::To(_) = raw else {
-        let ready = fields::mark_at(s, at, job::PA);
-        let Passed::To(fields_at) = ready else {
-            return Brought::Never;
-        };
+    let ready = fields::mark_at(s, at, job::PA);
+    if let Passed::To(fields_at) = ready {
         return Brought::Fields(fields_at);
-    };
+    }
     let head_field = job::raw_head_at(s, at);
     let ReadRawHead::Value(head, fields_at) = head_field else {
         return Brought::Never;

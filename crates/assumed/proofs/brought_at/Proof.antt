@@ -1,4 +1,4 @@
--- The mark tells a raw read from a ready path; the head of a raw read tells whether its path is
+-- The mark tells a ready path from a raw read; the head of a raw read tells whether its path is
 -- kept.
 use mathlib.Core.Path.{sym, ap, _∙_}
 use borrow.Author.Needs.{needs}
@@ -8,39 +8,27 @@ use Rattle.fields.proofs.Reading.{seen}
 use Rattle.job.specs.Answer.{gotRawHead}
 use Rattle.job.proofs.Passing.{not-both, passed-refused}
 use Rattle.assumed.specs.Start.{itself}
-use Rattle.assumed.proofs.Records.{brought-by, ready-fields, ready-refused, raw-refused, raw-kept, raw-dropped, raw-cut}
+use Rattle.assumed.proofs.Records.{brought-by, ready-fields, raw-refused, raw-kept, raw-dropped, raw-cut}
 use Rattle.assumed.proofs.brought_at.Statement.{statement}
 use Rattle.assumed.proofs.brought_at.Tie as tie
 
 returns : tie.Need-returns
 returns c =
-    let ready = c .before .before in
-    let other = ready .before in
-    let mark = other .before .before in
-    not-both (mark .before .before .pre .read)
-    (brought-by _ _ (seen gotPlace (mark .mark-at .ensures) (other .enum-told2 .given .1))
-    ∙ ready-refused _ _ (seen gotPlace (ready .mark-at2 .ensures) (c .enum-told3 .given .1)))
+    let ready = c .before in
+    let marked = seen gotPlace (ready .before .before .mark-at .ensures) (ready .ready .given .1) in
+    brought-by _ _ marked ∙ ap (mapped itself) (ready-fields _ _ marked)
 
 returns-2 : tie.Need-returns-2
 returns-2 c =
-    let there = c .before in
-    let ready = there .before .before in
-    let other = ready .before in
-    let mark = other .before .before in
-    brought-by _ _ (seen gotPlace (mark .mark-at .ensures) (other .enum-told2 .given .1))
-    ∙ ap (mapped itself) (ready-fields _ _ (seen gotPlace (ready .mark-at2 .ensures) (there .ready .given .1)))
-
-returns-3 : tie.Need-returns-3
-returns-3 c =
     let call = c .before .before in
     let raw = call .before in
     let mark = raw .before .before in
     not-both (mark .before .before .pre .read)
     (brought-by _ _ (seen gotPlace (mark .mark-at .ensures) (raw .enum-told .given .1))
-    ∙ raw-refused _ _ (seen gotRawHead (call .raw-head-at .ensures) (c .enum-told4 .given .1)))
+    ∙ raw-refused _ _ (seen gotRawHead (call .raw-head-at .ensures) (c .enum-told2 .given .1)))
 
-returns-4 : tie.Need-returns-4
-returns-4 c =
+returns-3 : tie.Need-returns-3
+returns-3 c =
     let head = c .before .before .before in
     let call = head .before .before in
     let raw = call .before in
@@ -49,8 +37,8 @@ returns-4 c =
     ∙ raw-kept _ _ (seen gotRawHead (call .raw-head-at .ensures) (head .head-field .given .1))
     (λ d. sym (c .before .is-immutable-at-instr .ensures d) ∙ c .if1 .taken)
 
-returns-5 : tie.Need-returns-5
-returns-5 c =
+returns-4 : tie.Need-returns-4
+returns-4 c =
     let past = c .before .before in
     let test = past .before in
     let head = test .before .before .before in
@@ -61,10 +49,10 @@ returns-5 c =
     (brought-by _ _ (seen gotPlace (mark .mark-at .ensures) (raw .enum-told .given .1))
     ∙ raw-cut _ _ (seen gotRawHead (call .raw-head-at .ensures) (head .head-field .given .1))
     (λ d. sym (test .before .is-immutable-at-instr .ensures d) ∙ test .if1 .left)
-    (passed-refused _ (seen gotPlace (past .past-path-fields .ensures) (c .enum-told5 .given .1))))
+    (passed-refused _ (seen gotPlace (past .past-path-fields .ensures) (c .enum-told3 .given .1))))
 
-returns-6 : tie.Need-returns-6
-returns-6 c =
+returns-5 : tie.Need-returns-5
+returns-5 c =
     let path = c .before in
     let past = path .before .before in
     let test = past .before in
@@ -83,20 +71,16 @@ brought-at-spec =
     (tie.spec
     (λ c κs. search needs)
     (λ c. search needs)
+    returns
     (λ c. search needs)
     (λ c κs. search needs)
     (λ c. search needs)
     (λ c. search needs)
-    returns
     returns-2
     (λ c κs. search needs)
-    (λ c. search needs)
-    (λ c. search needs)
     returns-3
     (λ c κs. search needs)
+    (λ c. search needs)
+    (λ c. search needs)
     returns-4
-    (λ c κs. search needs)
-    (λ c. search needs)
-    (λ c. search needs)
-    returns-5
-    returns-6)
+    returns-5)
