@@ -181,6 +181,15 @@ impl Job {
         nodes.len()
     }
 
+    /// The same job with one raw read marked as known to be immutable, by the places of its block
+    /// and of itself.
+    #[cfg(feature = "explain")]
+    pub(crate) fn with_immutable_read(&self, block: usize, read: usize) -> Self {
+        let mut blocks = self.blocks.clone();
+        blocks[block].raw_reads[read].known_immutable = true;
+        Self::of_checked(self.scope, blocks, self.candidates.clone())
+    }
+
     /// A copy of the job's bytes.
     #[must_use]
     pub fn to_bytes(&self) -> Vec<u8> {

@@ -89,7 +89,7 @@ pub use names::{NameError, Named, Names, NamesIter};
 pub use node_set::{NodeSet, Nodes};
 pub use path::{Entry, Path, Property};
 pub use raw_read::{RawRead, ReadScope};
-pub use refusal::{ManyNodes, Place, Record, Refusal};
+pub use refusal::{Found, ManyNodes, Place, RawCount, Record, Refusal};
 pub use sheet::{Node, Sheet};
 #[cfg(feature = "library")]
 pub use stage::{answer, sheet, strict_answer, strict_sheet, Stage};

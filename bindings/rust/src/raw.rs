@@ -19,7 +19,7 @@ use crate::refusal::Refusal;
 /// assert_eq!(
 ///     refusal.to_string(),
 ///     "refusal 5, OutOfRange: a field's value is outside its range; \
-///      at byte 4, in the HD record: how many candidates (0 to 64)"
+///      at byte 4, in the HD record: how many candidates (0 to 64), found 65"
 /// );
 /// ```
 pub fn answer(job: &[u8]) -> Result<Vec<u8>, Refusal> {

@@ -1,5 +1,6 @@
 //! The refusals of the stage, and where in a job each was met.
 
+use crate::ids::BlockId;
 use std::fmt;
 
 /// Why the stage turned a job back. The names are those of the stage's own code.
@@ -176,12 +177,50 @@ pub struct Place {
     pub record: Record,
     /// What the field says.
     pub field: &'static str,
+    /// What stands there in its place, for refusals 4 and 5.
+    pub found: Option<Found>,
+    /// For a refusal within the raw reads of a block, or where the bytes end within its
+    /// predecessors, how many raw reads the block says that it has. In bytes that were written
+    /// before blocks had that count, another field stands there.
+    pub raw_count: Option<RawCount>,
 }
 
 impl fmt::Display for Place {
     fn fmt(&self, f: &mut fmt::Formatter<'_>) -> fmt::Result {
-        write!(f, "at byte {}, in {}: {}", self.byte, self.record, self.field)
+        write!(f, "at byte {}, in {}: {}", self.byte, self.record, self.field)?;
+        match self.found {
+            None => {}
+            Some(Found::Mark([first, second])) => write!(f, ", found {first:02X} {second:02X}")?,
+            Some(Found::Value(value)) => write!(f, ", found {value}")?,
+        }
+        match self.raw_count {
+            None => Ok(()),
+            Some(RawCount { block, count, byte }) => {
+                let reads = if count == 1 { "raw read" } else { "raw reads" };
+                write!(f, "; block {block} says that it has {count} {reads} (byte {byte})")
+            }
+        }
     }
+}
+
+/// What stands in the place of a field's value.
+#[derive(Clone, Copy, Debug, PartialEq, Eq, Hash)]
+pub enum Found {
+    /// Another mark.
+    Mark([u8; 2]),
+    /// A value outside the field's range.
+    Value(usize),
+}
+
+/// How many raw reads a block says that it has.
+#[derive(Clone, Copy, Debug, PartialEq, Eq, Hash)]
+pub struct RawCount {
+    /// The block.
+    pub block: BlockId,
+    /// How many.
+    pub count: usize,
+    /// The byte that says it, from 0.
+    pub byte: usize,
 }
 
 /// A record of a job. Places are counted from 0, and shown counted from 1.

@@ -170,7 +170,7 @@ fn read_nodes(fields: &mut Fields, count: usize, nodes: &mut Vec<Node>) -> Resul
             Some((parent, _)) => lengths[..place].get(usize::from(parent.0)).map(|length| length + 1),
         };
         let in_range = length.filter(|&length| length <= limits::ENTRIES);
-        let outside = Malformed { fault: Fault::OutOfRange, byte, field: "a node's parent" };
+        let outside = Malformed { fault: Fault::OutOfRange, byte, field: "a node's parent", found: None };
         lengths[place] = in_range.ok_or(outside)?;
         nodes.push(node);
     }
@@ -199,6 +199,6 @@ fn read_set(fields: &mut Fields, nodes: usize) -> Result<(BlockId, NodeSet), Mal
     if set.iter().all(|node| usize::from(node.0) < nodes) {
         Ok((id, set))
     } else {
-        Err(Malformed { fault: Fault::OutOfRange, byte, field: "a block's set" })
+        Err(Malformed { fault: Fault::OutOfRange, byte, field: "a block's set", found: None })
     }
 }

@@ -3,7 +3,9 @@
 mod common;
 
 use common::{all_bytes, has_usual_buffer, hex, jobs, stored};
-use scope_deps::{limits, raw, Answer, Job, ManyNodes, Place, ReadScope, Record, Refusal, Sheet};
+use scope_deps::{
+    limits, raw, Answer, BlockId, Job, ManyNodes, Place, RawCount, ReadScope, Record, Refusal, Sheet,
+};
 
 const EXAMPLE: &str = "4844 0100 0100 07000000 / 424C 07000000 00 01 00 / 5041 01000000 01 00000000 00 /
     4341 01000000 01 05000000 01 00 00 0A00000000000000 06000000";
@@ -177,12 +179,15 @@ fn the_largest_range_start_is_refused_where_it_stands() {
     let largest = reading("FFFFFFFF");
     let record = Record::RawRead { block: 0, read: 0 };
     let refusal = own(&largest);
-    let place = Place { byte: 25, record, field: "the range's start (0 to 4294967294)" };
+    let raw_count = Some(RawCount { block: BlockId(7), count: 1, byte: 18 });
+    let field = "the range's start (0 to 4294967294)";
+    let place = Place { byte: 25, record, field, found: None, raw_count };
     assert_eq!((refusal, refusal.number()), (Refusal::LargestStart(Some(place)), 10));
     assert_eq!(
         refusal.to_string(),
         "refusal 10, LargestStart: a range start is 4,294,967,295, where start + 1 would not fit; \
-         at byte 25, in RD record 1 of BL record 1: the range's start (0 to 4294967294)"
+         at byte 25, in RD record 1 of BL record 1: the range's start (0 to 4294967294); \
+         block 7 says that it has 1 raw read (byte 18)"
     );
     assert!(Job::from_bytes(&reading("FEFFFFFF")).is_ok());
     // An earlier field comes first, a later one does not, and the field's own bytes come before.
@@ -258,4 +263,37 @@ fn a_set_counts_its_nodes() {
         }
     }
     assert!(seen > 1000, "{seen}");
+}
+
+/// Bytes of before blocks had a count of raw reads, and others that go wrong among raw reads.
+#[test]
+fn within_raw_reads_the_count_of_the_block_is_told_and_what_was_found() {
+    let said = |bytes: &[u8]| {
+        Job::from_bytes(bytes).unwrap_err().to_string().split_once("; ").unwrap().1.to_string()
+    };
+    let old = hex("4844 0100 0100 07000000 / 424C 07000000 00 01 / 5041 01000000 01 00000000 00 /
+        4341 01000000 01 05000000 01 00 00 0A00000000000000 06000000");
+    assert_eq!(
+        said(&old),
+        "at byte 19, in RD record 1 of BL record 1: the mark RD, found 41 01; \
+         block 7 says that it has 80 raw reads (byte 18)"
+    );
+    let mut flag = reading("01000000");
+    flag[33] = 2;
+    let count = "block 7 says that it has 1 raw read (byte 18)";
+    assert_eq!(
+        said(&flag),
+        format!("at byte 33, in RD record 1 of BL record 1: has-scope (0 or 1), found 2; {count}")
+    );
+    assert_eq!(
+        said(&reading("01000000")[..30]),
+        format!("at byte 29, in RD record 1 of BL record 1: the range's end; {count}")
+    );
+    let ids = hex("4844 0100 0000 07000000 / 424C 07000000 01 00 03 / 0700");
+    assert_eq!(
+        said(&ids),
+        "at byte 19, in BL record 1: a predecessor's id; block 7 says that it has 3 raw reads (byte 18)"
+    );
+    let mark = hex("4844 0100 0000 07000000 / 424D 07000000 00 00 00");
+    assert_eq!(said(&mark), "at byte 10, in BL record 1: the mark BL, found 42 4D");
 }

@@ -349,18 +349,19 @@ candidate week.goal.beats
  returned week
     .goal  is cut: week is not known to be there in block 1
            no block assumes week
-           block 0 reads week at instruction 2, but week can still change there: its range 1 to 4 is longer than one \
-           instruction, and instruction 2 is in its scope, 1 to 4
+           block 0 reads a property of week at instruction 2, but week counts as mutable there: its range 1 to 4 is \
+           longer than one instruction, and instruction 2 is in its scope, 1 to 4; if it were kept, week would be \
+           known in block 1
 
 [1] how athlete came there
-    block 0 reads athlete at instruction 3
+    block 0 reads a property of athlete at instruction 3 (kept: its range 0 to 1 is not longer than one instruction)
     block 1 took athlete over from block 0, the only block that control comes from
 "
     );
     // The end of the comment: where the read would be kept.
     for (from, to) in [("week@3 at 2", "week@3 at 4"), ("scope 1 to 4", "scope 1 to 4 immutable")] {
         let kept = short(&job.replacen(from, to, 1));
-        assert!(kept.contains("returned week.goal\n") && !kept.contains("can still change"), "{kept}");
+        assert!(kept.contains("returned week.goal\n") && !kept.contains("counts as mutable"), "{kept}");
     }
 }
 
@@ -374,11 +375,11 @@ fn a_base_that_is_read_is_told_with_the_instruction() {
     let one = "range 0 to 1";
     assert_eq!(
         known(&format!("scope 7 block 7 reads 1 at 3 {one} candidate 1.10")),
-        "block 7 reads it at instruction 3"
+        "block 7 reads a property of it at instruction 3"
     );
     assert_eq!(
         known(&format!("scope 1 block 0 reads 1 at 3 {one} assumes 1 block 1 after 0 candidate 1.10")),
-        "it comes from block 0, which reads it at instruction 3"
+        "it comes from block 0, which reads a property of it at instruction 3"
     );
     let three = |of_1: &str, of_2: &str, of_3: &str| {
         format!(
@@ -389,11 +390,12 @@ fn a_base_that_is_read_is_told_with_the_instruction() {
     let reads = |at: u32| format!("reads 1 at {at} {one}");
     assert_eq!(
         known(&three(&reads(9), &reads(5), &reads(7))),
-        "it comes from blocks 1, 2 and 3, which read it at instructions 9, 5 and 7"
+        "it comes from blocks 1, 2 and 3, which read a property of it at instructions 9, 5 and 7"
     );
     assert_eq!(
         known(&three(&reads(9), "assumes 1", &reads(9))),
-        "it comes from blocks 1 and 3, which read it at instruction 9, and from block 2, which assumes it"
+        "it comes from blocks 1 and 3, which read a property of it at instruction 9, and from block 2, \
+         which assumes it"
     );
 }
 
@@ -402,28 +404,34 @@ fn a_base_that_is_read_elsewhere_and_stops() {
     let job = "scope 2 block 0 block 1 after 0 reads 5.6 at 3 range 0 to 1 block 2 after 0, 1 candidate 5.10";
     assert_eq!(
         cut(job),
-        ["block 1 reads 5.6 at instruction 3, and so has 5, \
+        ["block 1 reads a property of 5.6 at instruction 3, and so has 5, \
           but control can also come to block 2 from block 0, which does not have it"]
     );
     assert_eq!(
         cut("scope 7 block 4 reads 1?.10 at 3 range 0 to 1 block 7 candidate 1.10"),
-        ["no block assumes 1; block 4 reads 1?.10 at instruction 3, which does not make 1 known to the stage"]
+        ["no block assumes 1; block 4 reads a property of 1?.10 at instruction 3, which does not make 1 known to the \
+          stage"]
     );
     assert_eq!(
         cut("scope 7 block 7 reads 1?.10 at 3 range 0 to 1 reads 1.11 at 4 range 0 to 1 candidate 1.10"),
         [
-            "block 7 reads 1?.10 at instruction 3; that does not make 1 known to the stage",
-            "block 7 reads 1.11 at instruction 4, too, but a path that has `?.` right after its variable decides \
+            "block 7 reads a property of 1?.10 at instruction 3; that does not make 1 known to the stage",
+            "block 7 reads a property of 1.11 at instruction 4, too, but a path that has `?.` right after its variable decides \
              before others"
         ]
     );
 }
 
-/// That a read of variable 5 at this instruction is not kept, with this range and scope.
-fn can_change(block: u32, path: &str, at: u32) -> String {
+/// That a read of variable 5 at this instruction is not kept, with this range and scope; and
+/// whether it would do, for the scope block 3.
+fn not_kept(block: u32, path: &str, at: u32, would_do: bool) -> String {
+    let would = match would_do {
+        true => "if it were kept, 5 would be known in block 3",
+        false => "even if it were kept, 5 would not be known in block 3",
+    };
     format!(
-        "block {block} reads {path} at instruction {at}, but 5 can still change there: its range 0 to 2 is longer than \
-         one instruction, and instruction {at} is in its scope, 0 to 9"
+        "block {block} reads a property of {path} at instruction {at}, but 5 counts as mutable there: its range 0 to 2 \
+         is longer than one instruction, and instruction {at} is in its scope, 0 to 9; {would}"
     )
 }
 
@@ -440,11 +448,24 @@ fn a_read_that_is_not_kept_is_told_where_the_base_is_missing() {
     };
     let stops =
         "block 1 assumes 5, but control can also come to block 3 from block 0, which does not have it";
-    assert_eq!(cut(&job("")), [stops.to_string(), can_change(0, "5.6", 2)]);
-    assert_eq!(cut(&job(&own)), [stops.to_string(), can_change(3, "5", 3)]);
+    let more = |count| match count {
+        1 => " (and 1 more such read is not kept)".to_string(),
+        _ => format!(" (and {count} more such reads are not kept)"),
+    };
+    assert_eq!(cut(&job("")), [stops.to_string(), not_kept(0, "5.6", 2, true) + &more(1)]);
+    assert_eq!(cut(&job(&own)), [stops.to_string(), not_kept(3, "5", 3, true) + &more(2)]);
+    // One that would do comes before a nearer one that would not.
+    let two = format!(
+        "scope 3 block 0 block 1 after 0 {other} block 2 after 0 {own} assumes 5.7 block 4 after 0 assumes 5 \
+         block 3 after 2, 4 candidate 5.10"
+    );
+    assert_eq!(cut(&two)[1], not_kept(2, "5", 3, true) + &more(1), "{}", short(&two));
     let in_full = full(&job(&own));
-    let told = in_full.lines().filter(|line| line.contains("can still change there")).map(str::trim);
-    assert!(told.eq([can_change(3, "5", 3), can_change(0, "5.6", 2), can_change(9, "5", 1)]), "{in_full}");
+    let told = in_full.lines().filter(|line| line.contains("counts as mutable there")).map(str::trim);
+    assert!(
+        told.eq([not_kept(3, "5", 3, true), not_kept(0, "5.6", 2, true), not_kept(9, "5", 1, false)]),
+        "{in_full}"
+    );
 }
 
 #[test]
@@ -463,7 +484,7 @@ fn a_read_that_is_not_kept_is_not_told_where_it_does_not_matter() {
         format!("scope 7 block 0 {read} block 7 assumes 5.11, 5?.10 candidate 5.10"),
     ] {
         let (short, full) = (short(&job), full(&job));
-        assert!(!short.contains("can still change") && !full.contains("can still change"), "{job}\n{full}");
+        assert!(!short.contains("counts as mutable") && !full.contains("counts as mutable"), "{job}\n{full}");
     }
 }
 
@@ -611,7 +632,7 @@ fn no_sentence_on_candidates_has_inner_words_and_a_cut_has_few_lines() {
         }
         let entries: usize = explanation.reasons.iter().map(|reason| reason.bases.len() + 1).sum();
         let most = 4 + usize::from(!explanation.settled);
-        assert!(short.lines().count() <= 3 + 4 * explanation.reasons.len() + most * entries, "{short}");
+        assert!(short.lines().count() <= 4 + 4 * explanation.reasons.len() + most * entries, "{short}");
     }
 }
 

@@ -143,16 +143,23 @@ fn a_raw_read_that_is_none_is_refused_where_it_goes_wrong() {
     };
     let variable = "a path's variable is due here: a number, or a name given before, which `at` is not";
     read("at 3", 23, variable);
-    read("5", 24, "`at` and the number of the instruction is due here, not the end of the text");
-    read("5, 6", 24, "`at` and the number of the instruction is due here, not `,`");
+    read("5", 24, "`at` and the number of the instruction are due here, not the end of the text");
+    read("5, 6", 24, "`at` and the number of the instruction are due here, not `,`");
     read("5 at range", 28, "the number of the instruction is due here, not `range`");
-    read("5 at 3", 29, "`range` and the start of the variable's range is due here, not the end of the text");
-    read("5 at 3 scope 0 to 9", 30, "`range` and the start of the variable's range is due here, not `scope`");
-    read("5 at 3 range 0", 37, "`to` and the range's end is due here, not the end of the text");
+    read("5 at 3", 29, "`range` and the start of the variable's range are due here, not the end of the text");
+    read(
+        "5 at 3 scope 0 to 9",
+        30,
+        "`range` and the start of the variable's range are due here, not `scope`",
+    );
+    read("5 at 3 range 0", 37, "`to` and the range's end are due here, not the end of the text");
     read("5 at 3 range 0 to x", 41, "the range's end is due here, not `x`");
     read("5 at 3 range 0 to 1 no", 45, "`scope` is due here, not the end of the text");
-    read("5 at 3 range 0 to 1 scope 0 1", 51, "`to` and the scope's end is due here, not `1`");
-    let largest = "the range's start is at most 4294967294, and 4294967295 is more";
+    read("5 at 3 range 0 to 1 scope 0 1", 51, "`to` and the scope's end are due here, not `1`");
+    let nothing = "where the variable has no scope, nothing is written";
+    read("5 at 3 range 0 to 1 no scope", 51, nothing);
+    read("5 at 3 range 0 to 1 scope none", 49, nothing);
+    let largest = "the range's start, to which 1 is added, is at most 4294967294, and 4294967295 is more";
     read("5 at 3 range 4294967295 to 4294967295", 36, largest);
     read(
         "5 at 4294967296",

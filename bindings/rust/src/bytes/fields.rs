@@ -4,6 +4,7 @@ use crate::ids::{IdentifierId, Span};
 use crate::limits;
 use crate::path::{Entry, Path, Property};
 use crate::raw_read::{RawRead, ReadScope};
+use crate::refusal::Found;
 use std::fmt;
 use std::ops::RangeInclusive;
 
@@ -23,6 +24,7 @@ pub struct Malformed {
     pub(crate) fault: Fault,
     pub(crate) byte: usize,
     pub(crate) field: &'static str,
+    pub(crate) found: Option<Found>,
 }
 
 impl Malformed {
@@ -35,7 +37,7 @@ impl Malformed {
 
 impl fmt::Display for Malformed {
     fn fmt(&self, f: &mut fmt::Formatter<'_>) -> fmt::Result {
-        let Self { fault, byte, field } = self;
+        let Self { fault, byte, field, .. } = self;
         match fault {
             Fault::MissingByte => write!(f, "the bytes end within the field at byte {byte}: {field}"),
             Fault::WrongMark => write!(f, "another mark stands at byte {byte}: {field} is due"),
@@ -64,7 +66,7 @@ impl<'b> Fields<'b> {
     }
 
     pub(crate) fn take<const N: usize>(&mut self, field: &'static str) -> Result<[u8; N], Malformed> {
-        let missing = Malformed { fault: Fault::MissingByte, byte: self.at, field };
+        let missing = Malformed { fault: Fault::MissingByte, byte: self.at, field, found: None };
         let value = self.bytes[self.at..].first_chunk::<N>().ok_or(missing)?;
         self.at += N;
         Ok(*value)
@@ -72,10 +74,11 @@ impl<'b> Fields<'b> {
 
     pub(crate) fn mark(&mut self, due: [u8; 2], field: &'static str) -> Result<(), Malformed> {
         let byte = self.at;
-        if self.take(field)? == due {
+        let mark = self.take(field)?;
+        if mark == due {
             Ok(())
         } else {
-            Err(Malformed { fault: Fault::WrongMark, byte, field })
+            Err(Malformed { fault: Fault::WrongMark, byte, field, found: Some(Found::Mark(mark)) })
         }
     }
 
@@ -158,9 +161,9 @@ impl<'b> Fields<'b> {
         let instruction = self.u32("the instruction")?;
         let range_start = self.range_start()?;
         let range_end = self.u32("the range's end")?;
-        let has_scope = self.flag("whether there is a scope (0 or 1)")?;
+        let has_scope = self.flag("has-scope (0 or 1)")?;
         let scope = (has_scope, self.u32("the scope's start")?, self.u32("the scope's end")?);
-        let known_immutable = self.flag("whether it is known to be immutable (0 or 1)")?;
+        let known_immutable = self.flag("known-immutable (0 or 1)")?;
         let mut path = Path::new(IdentifierId(0));
         self.path_fields(&mut path)?;
         let scope = ReadScope::of_fields(scope);
@@ -173,7 +176,7 @@ impl<'b> Fields<'b> {
         if start <= limits::RANGE_START {
             Ok(start)
         } else {
-            Err(Malformed { fault: Fault::LargestStart, byte, field })
+            Err(Malformed { fault: Fault::LargestStart, byte, field, found: None })
         }
     }
 
@@ -195,7 +198,7 @@ impl<'b> Fields<'b> {
         if self.at == self.bytes.len() {
             Ok(())
         } else {
-            Err(Malformed { fault: Fault::ExtraByte, byte: self.at, field: "the end is due" })
+            Err(Malformed { fault: Fault::ExtraByte, byte: self.at, field: "the end is due", found: None })
         }
     }
 }
@@ -209,6 +212,6 @@ fn in_range(
     if range.contains(&value) {
         Ok(value)
     } else {
-        Err(Malformed { fault: Fault::OutOfRange, byte, field })
+        Err(Malformed { fault: Fault::OutOfRange, byte, field, found: Some(Found::Value(value)) })
     }
 }

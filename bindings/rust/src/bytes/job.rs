@@ -7,12 +7,14 @@ use crate::check::Parts;
 use crate::ids::BlockId;
 use crate::job::{Block, Job};
 use crate::limits;
-use crate::refusal::{Place, Record, Refusal};
+use crate::refusal::{Place, RawCount, Record, Refusal};
 
 /// Where the scope block's id stands in the header.
 const SCOPE_BYTE: usize = 6;
 /// Where a block's id stands in its record.
 const ID_BYTE: usize = 2;
+/// Where the count of raw reads stands in a block's record.
+const RAW_COUNT_BYTE: usize = 8;
 /// Where the first predecessor stands in a block's record.
 const PREDECESSORS_BYTE: usize = 9;
 
@@ -23,17 +25,17 @@ pub(crate) fn read_job(bytes: &[u8]) -> Result<JobBuilder, Refusal> {
     }
     let mut fields = Fields::new(bytes);
     let mut block_bytes = Vec::new();
-    let (blocks, candidates, scope) = header(&mut fields).map_err(within(Record::Header))?;
+    let (blocks, candidates, scope) = header(&mut fields).map_err(within(Record::Header, None))?;
     let mut job = Job::builder(scope);
     for block in 0..blocks {
         block_bytes.push(fields.at());
         job = job.block(read_block(&mut fields, block)?);
     }
     for candidate in 0..candidates {
-        let path = fields.path(*b"CA", "the mark CA").map_err(within(Record::Candidate(candidate)))?;
+        let path = fields.path(*b"CA", "the mark CA").map_err(within(Record::Candidate(candidate), None))?;
         job = job.candidate(path);
     }
-    fields.end().map_err(within(Record::End))?;
+    fields.end().map_err(within(Record::End, None))?;
     let parts = Parts { scope, blocks: &job.blocks, candidates: &job.candidates };
     parts.check_ids().map_err(|bad| bad_id(bad, &block_bytes))?;
     Ok(job)
@@ -49,37 +51,39 @@ fn header(fields: &mut Fields) -> Result<(usize, usize, BlockId), Malformed> {
 }
 
 fn read_block(fields: &mut Fields, place: usize) -> Result<Block, Refusal> {
-    let (mut block, raw_reads, assumed) = block_head(fields).map_err(within(Record::Block(place)))?;
-    for read in 0..raw_reads {
+    let (raw_count, predecessors, assumed) =
+        block_head(fields).map_err(within(Record::Block(place), None))?;
+    let mut block = Block::new(raw_count.block);
+    for _ in 0..predecessors {
+        let id = fields.u32("a predecessor's id").map_err(within(Record::Block(place), Some(raw_count)))?;
+        block = block.after([BlockId(id)]);
+    }
+    for read in 0..raw_count.count {
         let record = Record::RawRead { block: place, read };
-        block = block.reading([fields.raw_read().map_err(within(record))?]);
+        block = block.reading([fields.raw_read().map_err(within(record, Some(raw_count)))?]);
     }
     for path in 0..assumed {
-        let read =
-            fields.path(*b"PA", "the mark PA").map_err(within(Record::Assumed { block: place, path }))?;
-        block = block.assuming([read]);
+        let record = Record::Assumed { block: place, path };
+        block = block.assuming([fields.path(*b"PA", "the mark PA").map_err(within(record, None))?]);
     }
     Ok(block)
 }
 
-/// A block without its raw reads and its assumed paths, and how many they are.
-fn block_head(fields: &mut Fields) -> Result<(Block, usize, usize), Malformed> {
+/// How many raw reads a block has, and how many predecessors and assumed paths.
+fn block_head(fields: &mut Fields) -> Result<(RawCount, usize, usize), Malformed> {
+    let byte = fields.at() + RAW_COUNT_BYTE;
     fields.mark(*b"BL", "the mark BL")?;
     let id = BlockId(fields.u32("the block's id")?);
     let predecessors = fields.count(0..=limits::PREDECESSORS, "how many predecessors (0 to 64)")?;
     let assumed = fields.count(0..=limits::ASSUMED, "how many assumed paths (0 to 255)")?;
     let raw_reads = fields.count(0..=limits::RAW_READS, "how many raw reads (0 to 255)")?;
-    let mut block = Block::new(id);
-    for _ in 0..predecessors {
-        block = block.after([BlockId(fields.u32("a predecessor's id")?)]);
-    }
-    Ok((block, raw_reads, assumed))
+    Ok((RawCount { block: id, count: raw_reads, byte }, predecessors, assumed))
 }
 
-/// The refusal for a field of this record.
-fn within(record: Record) -> impl Fn(Malformed) -> Refusal {
-    move |Malformed { fault, byte, field }| {
-        let place = Some(Place { byte, record, field });
+/// The refusal for a field of this record, after this count where it bears on the field.
+fn within(record: Record, raw_count: Option<RawCount>) -> impl Fn(Malformed) -> Refusal {
+    move |Malformed { fault, byte, field, found }| {
+        let place = Some(Place { byte, record, field, found, raw_count });
         match fault {
             Fault::MissingByte => Refusal::MissingByte(place),
             Fault::WrongMark => Refusal::WrongMark(place),
@@ -101,7 +105,7 @@ fn bad_id(bad: BuildError, block_bytes: &[usize]) -> Refusal {
         Field::Id => (start + ID_BYTE, "the block's id"),
         _ => (SCOPE_BYTE, "the scope block's id"),
     };
-    let place = Some(Place { byte, record: bad.record, field });
+    let place = Some(Place { byte, record: bad.record, field, found: None, raw_count: None });
     match bad.wrong {
         Wrong::Repeated(_) => Refusal::RepeatedId(place),
         _ => Refusal::UnknownBlock(place),

@@ -79,9 +79,12 @@ A path starts with a variable's number. Then its entries follow:
   @71       after the variable or an entry: the span of the path or of that entry; none is 0
   reactive  before the path: its variable is reactive
 
-Of a raw read the stage decides whether the block assumes the path. It does, unless the variable can still
-change at the instruction: where its range is longer than one instruction, it has a scope, and the instruction
-is in the scope. The first number of a range is in it, and the last is not. Raw reads stand before `assumes`.
+A raw read has the path of which an instruction reads a property. The stage decides whether the block assumes
+that path. It does, unless the variable counts as mutable at the instruction: its range is longer than one
+instruction, it has a scope, the instruction is in the scope, and `immutable` does not say that the variable
+never changes. The range counts by its length alone; it is the scope that is compared with the instruction.
+This scope is the variable's own, and not the job's scope block. The first number of a range or a scope is in
+it, and the last is not. Raw reads stand before `assumes`.
 
   reads 6 at 4 range 0 to 1                           assumed: the range is one instruction
   reads 6 at 4 range 0 to 9                           assumed: there is no scope
@@ -125,7 +128,7 @@ it means, and for all but 2 at which byte and in which record:
 
   $ echo 4844 0100 4100 | scope-deps decode --from hex
   scope-deps: standard input: refusal 5, OutOfRange: a field's value is outside its range; at byte 4,
-  in the HD record: how many candidates (0 to 64)
+  in the HD record: how many candidates (0 to 64), found 65
 ";
 
 const ANSWER: &str = "\
@@ -210,8 +213,9 @@ otherwise an optional entry stays optional, and at a plain one the path is cut. 
 assumes, and what all blocks have that control comes from, or all that it goes on to. So a cut has one
 of these reasons: no block assumes the base, or it stopped on the way, at a block beside which another
 does not have it. On a loop, blocks that are not finished are left out. With `--strict`, nothing is taken
-over where one would be left out, and that is a reason for a cut, too. Where a block reads the base, but the
-read is not kept, since the variable can still change there, that is told as well.
+over where one would be left out, and that is a reason for a cut, too. Where a block reads a property of the
+base, but that read is not kept, since the variable counts as mutable there, that is told as well, and whether
+the base would be known if that one read were kept.
 
   $ echo 'scope 2 block 0 assumes 1 block 1 after 0 assumes 1.10 block 2 after 0, 1 candidate 1.10.11' | scope-deps explain
   candidate 1.10.11
@@ -237,8 +241,8 @@ read is not kept, since the variable can still change there, that is told as wel
    returned 1
       .10  is cut: 1 is not known to be there in block 0
            no block assumes 1
-           block 0 reads 1 at instruction 3, but 1 can still change there: its range 0 to 2 is longer than one \
-instruction, and instruction 3 is in its scope, 0 to 9
+           block 0 reads a property of 1 at instruction 3, but 1 counts as mutable there: its range 0 to 2 is \
+longer than one instruction, and instruction 3 is in its scope, 0 to 9; if it were kept, 1 would be known in block 0
 
   nodes 0: 0 before the first round, 0 added by reduction
 
@@ -269,8 +273,9 @@ usage: scope-deps draw [-o FILE.svg] [--focus] [--strict] [--from FORM] [--names
 Draws a job, with its sheet and its answer, as one SVG file that a browser shows: the blocks in layers
 from the first down, arrows for control, those that close a loop dashed; in each block the paths that it
 assumes and those that it holds in the end; beside the scope block each candidate with what is returned
-of it and where it is cut. Raw reads stand under `reads`, with their instructions, and those that are
-not kept are struck through, under `not kept`, with the reason under the pointer. A block that holds
+of it and where it is cut. Under `reads` stand the paths of which instructions read a property, with these
+instructions; reads that are not kept are struck through, under `not kept`. The reasons are there under the
+pointer. A block that holds
 what its only predecessor holds says so. Under the title stands how many nodes there were before the
 first round, and how many reduction added. That line names those that were added, or some of them where
 they are many or long, and then all are there under the pointer. The box of the block that added such a

@@ -4,7 +4,7 @@
 use super::place::Extent;
 use super::shown::{self, Item, Piece};
 use super::svg::{width, Svg, SMALL};
-use crate::explain::{can_change, Explanation};
+use crate::explain::{counts_as_mutable, Explanation};
 use crate::ids::BlockId;
 use crate::job::{Block, Job};
 use crate::raw_read::RawRead;
@@ -118,7 +118,9 @@ fn not_kept(job: &Job, block: &Block, most: usize) -> Vec<Row> {
             rows.push(Row::more(&items[place..], false));
             break;
         }
-        let full = format!("read at instruction {}, but {}", read.instruction, can_change(read, job.names()));
+        let path = shown::parts(&read.path, job.names()).concat();
+        let (at, why) = (read.instruction, counts_as_mutable(read, job.names()));
+        let full = format!("a property of {path} is read at instruction {at}, but {why}");
         rows.extend(own.into_iter().map(|pieces| Row { label: "", pieces, full: full.clone() }));
     }
     rows.first_mut().into_iter().for_each(|first| first.label = "not kept");
@@ -174,9 +176,9 @@ impl Row {
 fn rows(label: &'static str, paths: &[Item], most: usize) -> Vec<Row> {
     let lines = shown::lines(paths, most);
     let labels = std::iter::once(label).chain(std::iter::repeat(""));
-    let in_lines = lines.lines.into_iter().zip(labels);
-    let mut rows: Vec<Row> =
-        in_lines.map(|(pieces, label)| Row { label, pieces, full: String::new() }).collect();
+    let reasons = lines.places.into_iter().map(|places| shown::reasons(&paths[places]));
+    let in_lines = lines.lines.into_iter().zip(labels).zip(reasons);
+    let mut rows: Vec<Row> = in_lines.map(|((pieces, label), full)| Row { label, pieces, full }).collect();
     if paths.is_empty() {
         rows.push(Row::note(label, "nothing".to_string(), String::new()));
     }

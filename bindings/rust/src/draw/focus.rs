@@ -9,7 +9,7 @@ use std::collections::BTreeSet;
 /// each base that is not known there the nearest block at which it stopped, with the neighbours
 /// that have it and those that kept it from there, and the blocks by way of which one of them came
 /// to have it; or those that assume it, where they are not connected with the scope block; and the
-/// first that reads it, where that read is not kept.
+/// first by whose read it would be known if that were kept, which it is not.
 pub(super) fn blocks_in_focus(explanation: &Explanation) -> BTreeSet<BlockId> {
     let mut blocks = BTreeSet::from([explanation.scope]);
     let mut steps = Vec::new();
@@ -45,7 +45,8 @@ fn unknown(reason: &Reason) -> impl Iterator<Item = &Unknown> {
 /// Adds the blocks that keep the scope block from having a base, and how another came to have it.
 fn stopped(explanation: &Explanation, why: &Unknown, blocks: &mut BTreeSet<BlockId>, steps: &mut Vec<usize>) {
     let is_assumed = |step: &usize| matches!(explanation.steps[*step].how, How::Assumed { .. });
-    blocks.extend(why.not_kept.first().map(|read| read.block));
+    let would_do = why.first_not_kept().filter(|read| read.would_do == Some(true));
+    blocks.extend(would_do.map(|read| read.block));
     steps.extend(why.open.as_ref().map(|open| open.step));
     match &why.elsewhere {
         Elsewhere::Here { holder, .. } => steps.push(holder.step),

@@ -16,13 +16,14 @@ const LINES: [Line; 4] = [
     &[("", "1"), ("knife", "|"), ("covered", ".10"), ("label", ": not needed, since another ends at 1")],
 ];
 
-const READS: Line = &[("assumed", "reads 1 at 3"), ("label", ": read by instruction 3, and taken as given")];
+const READS: Line =
+    &[("assumed", "reads 1 at 3"), ("label", ": a property of 1 is read at 3, so 1 is given")];
 
 const NOT_KEPT: Line = &[
     // Not every program shows a usual blank between two pieces.
     ("label", "not kept\u{a0}"),
     ("cut", "1 at 3"),
-    ("label", ": read while 1 can still change, so not taken"),
+    ("label", ": a property of 1 read where 1 is mutable"),
 ];
 
 const ADDED: Line =

@@ -3,8 +3,7 @@
 use super::boxes::{LINE, PADDING};
 use super::shown::{self, Piece};
 use super::svg::{width, Svg, SMALL};
-use crate::explain::{End, Explanation, Reason};
-use crate::names::Names;
+use crate::explain::{would_do, End, Explanation, Reason, Unknown};
 
 /// The space between the two columns.
 const BETWEEN: f64 = 26.0;
@@ -25,13 +24,14 @@ struct Row {
 }
 
 impl Row {
-    fn new(reason: &Reason, names: &Names) -> Self {
+    fn new(reason: &Reason, explanation: &Explanation) -> Self {
+        let names = &explanation.names;
         let (candidate, returned) =
             (shown::parts(&reason.candidate, names), shown::parts(&reason.returned, names));
         let (knife, rest, why) = match &reason.end {
-            End::Whole => ("", "", "returned whole"),
-            End::Cut { .. } => ("|", "cut", "cut: the base is not known there"),
-            End::Covered { .. } => ("|", "covered", "another candidate ends there"),
+            End::Whole => ("", "", "returned whole".to_string()),
+            End::Cut { why, .. } => ("|", "cut", cut(why, explanation)),
+            End::Covered { .. } => ("|", "covered", "another candidate ends there".to_string()),
         };
         let full = format!("{} is returned as {} ({why})", candidate.concat(), returned.concat());
         let (kept, left) = candidate.split_at(returned.len());
@@ -48,8 +48,7 @@ impl Row {
 
 impl Panel {
     pub(super) fn new(explanation: &Explanation) -> Self {
-        let rows: Vec<Row> =
-            explanation.reasons.iter().map(|reason| Row::new(reason, &explanation.names)).collect();
+        let rows: Vec<Row> = explanation.reasons.iter().map(|reason| Row::new(reason, explanation)).collect();
         if rows.is_empty() {
             return Self { rows, second: 0.0, width: 0.0, height: 0.0 };
         }
@@ -75,6 +74,20 @@ impl Panel {
             base += LINE * row.lines() as f64;
         }
     }
+}
+
+/// Why a candidate is cut, with a raw read that would do if it were kept.
+fn cut(why: &Unknown, explanation: &Explanation) -> String {
+    let known = "cut: the base is not known there";
+    let Some(not_kept) = why.first_not_kept().filter(|read| read.would_do == Some(true)) else {
+        return known.to_string();
+    };
+    let (block, at) = (not_kept.block, not_kept.read.instruction);
+    let path = shown::parts(&not_kept.read.path, &explanation.names).concat();
+    let would = would_do(not_kept, &why.base, explanation);
+    format!(
+        "{known}; block {block} reads a property of {path} at instruction {at}, which is not kept; {would}"
+    )
 }
 
 /// The width of the widest line of a column with this head.

@@ -1,8 +1,10 @@
 //! Paths as the picture shows them, and lines of them.
 
+use crate::explain::{counts_as_mutable, why_kept};
 use crate::names::Names;
 use crate::path::Path;
 use crate::raw_read::RawRead;
+use std::ops::Range;
 
 /// The most characters of a line of paths. Only a variable or an entry that is longer by itself
 /// makes a longer line.
@@ -28,26 +30,33 @@ pub(super) struct Item {
     parts: Vec<String>,
     class: &'static str,
     pub(super) is_added: bool,
+    /// Why a raw read is kept, or why it is not; of other paths nothing.
+    why: String,
 }
 
 impl Item {
     /// A path of this class.
     pub(super) fn new(path: &Path, names: &Names, class: &'static str) -> Self {
-        Self { parts: parts(path, names), class, is_added: false }
+        Self { parts: parts(path, names), class, is_added: false, why: String::new() }
     }
 
     /// A path whose node reduction added, with its mark.
     pub(super) fn added(path: &Path, names: &Names) -> Self {
         let mut parts = parts(path, names);
         parts[0].insert_str(0, ADDED);
-        Self { parts, class: "added", is_added: true }
+        Self { parts, class: "added", is_added: true, why: String::new() }
     }
 
     /// A raw read with its instruction. One that is not kept is struck through.
     pub(super) fn read(read: &RawRead, names: &Names) -> Self {
         let mut parts = parts(&read.path, names);
         parts.push(format!(" at {}", read.instruction));
-        Self { parts, class: if read.is_kept() { "assumed" } else { "cut" }, is_added: false }
+        let (class, why) = if read.is_kept() {
+            ("assumed", format!("kept: {}", why_kept(read)))
+        } else {
+            ("cut", format!("not kept: {}", counts_as_mutable(read, names)))
+        };
+        Self { parts, class, is_added: false, why }
     }
 
     /// The lines of the path by itself, with a comma behind it where others follow.
@@ -60,9 +69,24 @@ impl Item {
     }
 }
 
-/// All paths in one text.
+/// All paths in one text, raw reads with the reason why they are kept or not.
 pub(super) fn all(items: &[Item]) -> String {
-    items.iter().map(|item| item.parts.concat()).collect::<Vec<_>>().join(", ")
+    let is_read = items.iter().any(|item| !item.why.is_empty());
+    let shown = items.iter().map(|item| match &item.why[..] {
+        "" => item.parts.concat(),
+        why => format!("{} ({why})", item.parts.concat()),
+    });
+    shown.collect::<Vec<_>>().join(if is_read { "; " } else { ", " })
+}
+
+/// The raw reads among these with their reasons; nothing where there are none.
+pub(super) fn reasons(items: &[Item]) -> String {
+    let is_read = items.iter().any(|item| !item.why.is_empty());
+    if is_read {
+        all(items)
+    } else {
+        String::new()
+    }
 }
 
 /// A piece of a text, and its class.
@@ -103,19 +127,24 @@ pub(super) fn broken(pieces: impl IntoIterator<Item = Piece>) -> Vec<Vec<Piece>>
 /// Lines of paths with commas between them, and how many of the paths they show.
 pub(super) struct Lines {
     pub(super) lines: Vec<Vec<Piece>>,
+    /// The places of the paths that each line shows, or a part of them.
+    pub(super) places: Vec<Range<usize>>,
     pub(super) shown: usize,
 }
 
 /// As many paths as have room in `most` lines, and at least one. A path is shown whole or not at
 /// all.
 pub(super) fn lines(items: &[Item], most: usize) -> Lines {
-    let mut made = Lines { lines: Vec::new(), shown: 0 };
+    let mut made = Lines { lines: Vec::new(), places: Vec::new(), shown: 0 };
     for (place, item) in items.iter().enumerate() {
         let own = item.lines(place + 1 < items.len());
-        if !made.join(&own) {
+        if made.join(&own) {
+            made.places.last_mut().into_iter().for_each(|places| places.end = place + 1);
+        } else {
             if place > 0 && made.lines.len() + own.len() > most {
                 break;
             }
+            made.places.extend(own.iter().map(|_| place..place + 1));
             made.lines.extend(own);
         }
         made.shown += 1;

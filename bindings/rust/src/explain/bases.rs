@@ -3,6 +3,7 @@
 use super::blocks::Blocks;
 use super::paths::{shows, starts_optional};
 use super::steps::{How, Step, Steps};
+use super::trials::Trials;
 use super::unknown::{self, Unknown};
 use super::Mismatch;
 use crate::ids::{BlockId, NodeId};
@@ -46,30 +47,42 @@ pub struct LeftOut {
 pub(super) struct Bases<'a> {
     blocks: Blocks<'a>,
     steps: Steps<'a>,
+    trials: Trials<'a>,
     paths: Vec<(NodeId, Path)>,
 }
 
+/// The paths that the scope block holds in the end, in the order in which they decide: those with
+/// an optional first entry come first; otherwise the order is that of the nodes.
+pub(super) fn deciding_paths(replay: &Replay, scope: usize) -> Vec<(NodeId, Path)> {
+    let mut paths: Vec<(NodeId, Path)> = replay.held(scope).map(|node| (node, replay.path(node))).collect();
+    paths.sort_by_key(|(_, path)| !starts_optional(path));
+    paths
+}
+
+/// The path that decides about a base: the first with its names.
+fn deciding<'p>(paths: &'p [(NodeId, Path)], base: &Path) -> Option<&'p (NodeId, Path)> {
+    paths.iter().find(|(_, path)| base.names_start(path))
+}
+
+/// Whether the base is known by these paths.
+pub(super) fn knows(paths: &[(NodeId, Path)], base: &Path) -> bool {
+    deciding(paths, base).is_some_and(|(_, path)| shows(path, base))
+}
+
 impl<'a> Bases<'a> {
-    /// Paths with an optional first entry come first; otherwise the order is that of the nodes.
     pub(super) fn new(job: &'a Job, replay: &'a Replay) -> Result<Self, Mismatch> {
         let scope = job.place_of(job.scope()).ok_or(Mismatch)?;
-        let mut paths: Vec<(NodeId, Path)> =
-            replay.held(scope).map(|node| (node, replay.path(node))).collect();
-        paths.sort_by_key(|(_, path)| !starts_optional(path));
-        Ok(Self { blocks: Blocks::new(job, replay, scope), steps: Steps::new(job, replay), paths })
+        let paths = deciding_paths(replay, scope);
+        let trials = Trials::new(job, replay.propagation(), scope);
+        Ok(Self { blocks: Blocks::new(job, replay, scope), steps: Steps::new(job, replay), trials, paths })
     }
 
     pub(super) fn into_steps(self) -> Vec<Step> {
         self.steps.found
     }
 
-    /// The path that decides about a base: the first with its names.
-    fn deciding(&self, base: &Path) -> Option<&(NodeId, Path)> {
-        self.paths.iter().find(|(_, path)| base.names_start(path))
-    }
-
     pub(super) fn is_known(&self, base: &Path) -> bool {
-        self.deciding(base).is_some_and(|(_, path)| shows(path, base))
+        knows(&self.paths, base)
     }
 
     /// The base of each entry of a returned path. The path's own marks must agree.
@@ -87,7 +100,7 @@ impl<'a> Bases<'a> {
     }
 
     fn known(&mut self, base: &Path) -> Result<Known, Mismatch> {
-        let (node, path) = self.deciding(base).cloned().ok_or(Mismatch)?;
+        let (node, path) = deciding(&self.paths, base).cloned().ok_or(Mismatch)?;
         let step = self.steps.held(self.blocks.scope, node);
         let left_out = self.left_out(step, base);
         Ok(Known { path, step, left_out })
@@ -95,9 +108,9 @@ impl<'a> Bases<'a> {
 
     /// Why the base is not known.
     pub(super) fn unknown(&mut self, base: &Path) -> Unknown {
-        let open = self.deciding(base).map(|(node, _)| *node);
+        let open = deciding(&self.paths, base).map(|(node, _)| *node);
         let here = self.paths.iter().find(|(_, path)| shows(path, base)).map(|(node, _)| *node);
-        unknown::unknown(&self.blocks, &mut self.steps, base, open, here)
+        unknown::unknown(&self.blocks, &mut self.steps, &mut self.trials, base, (open, here))
     }
 
     /// Of the blocks that were left out on the way and do not have the base in the end, the last.

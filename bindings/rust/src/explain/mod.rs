@@ -45,6 +45,7 @@ mod paths;
 mod steps;
 mod stops;
 mod text;
+mod trials;
 mod unknown;
 
 pub use added::Added;
@@ -56,12 +57,12 @@ pub use steps::{How, Step};
 pub use stops::{Holder, Stop, Way, Why};
 pub use text::InFull;
 #[cfg(feature = "draw")]
-pub(crate) use text::{can_change, some_listed};
+pub(crate) use text::{counts_as_mutable, some_listed, why_kept, would_do};
 pub use unknown::{AssumedPath, Before, Elsewhere, Unknown};
 
 use crate::answer::Answer;
 use crate::ids::BlockId;
-use crate::job::Job;
+use crate::job::{Block, Job};
 use crate::names::Names;
 use crate::path::{Entry, Path};
 use crate::replay::{Propagation, Replay};
@@ -87,6 +88,8 @@ pub struct Explanation {
     pub nodes_before_rounds: usize,
     /// The nodes that reduction added, and where, in the order in which it did.
     pub added: Vec<Added>,
+    /// How many raw reads of the job are not kept.
+    pub reads_not_kept: usize,
     /// The job's names, by which paths are shown.
     pub names: Names,
 }
@@ -223,8 +226,14 @@ pub(crate) fn explain_by(
         steps: bases.into_steps(),
         nodes_before_rounds: replay.nodes_before_rounds(),
         added: added::added(job, &replay),
+        reads_not_kept: reads_not_kept(job),
         names: job.names().clone(),
     })
+}
+
+fn reads_not_kept(job: &Job) -> usize {
+    let reads = job.blocks().iter().flat_map(Block::raw_reads);
+    reads.filter(|read| !read.is_kept()).count()
 }
 
 /// The one returned path with the candidate's identifier and a prefix of its names.

@@ -3,36 +3,64 @@
 use super::blocks::Blocks;
 use super::paths::shows;
 use super::stops::{Stop, Why};
+use super::trials::{Trials, MOST};
 use super::unknown::Elsewhere;
 use crate::ids::BlockId;
 use crate::path::Path;
 use crate::raw_read::RawRead;
 
-/// A raw read that is not kept, and by which its block would have the base, which it has not.
+/// A raw read that is not kept, of a base that is not known in the scope block, or of a path that
+/// goes on from the base plainly.
 #[derive(Clone, Debug, PartialEq, Eq, Hash)]
 pub struct NotKept {
     /// The block.
     pub block: BlockId,
     /// The read.
     pub read: RawRead,
+    /// Whether the base would be known in the scope block if this read were kept, and no other that
+    /// is not; `None` where that was not tried, or the job would have too many nodes.
+    pub would_do: Option<bool>,
 }
 
-/// The raw reads of a base that are not kept, in the blocks that do not have it: first those of the
-/// scope block, then those of the blocks at which it is seen to be missing, then the others.
-pub(super) fn not_kept(blocks: &Blocks, base: &Path, elsewhere: &Elsewhere) -> Vec<NotKept> {
-    if let Elsewhere::Here { .. } = elsewhere {
-        return Vec::new();
-    }
+/// The raw reads of a base that are not kept: first those of the scope block, then those of the
+/// blocks at which it is seen to be missing, then the others. Of a block that has the base, though
+/// by another path, only those are told by which the base would be known in the scope block; so it
+/// is where the scope block itself has it, and another of its paths decides.
+pub(super) fn not_kept(
+    blocks: &Blocks,
+    trials: &mut Trials,
+    base: &Path,
+    elsewhere: &Elsewhere,
+) -> Vec<NotKept> {
     let has = blocks.having(base);
-    let lacking = blocks.job.blocks().iter().zip(has).filter(|(_, has)| !has);
-    let mut found: Vec<NotKept> = Vec::new();
-    for (block, _) in lacking {
-        let reads = block.raw_reads().iter().filter(|read| !read.is_kept() && shows(&read.path, base));
-        found.extend(reads.map(|read| NotKept { block: block.id(), read: read.clone() }));
-    }
+    let mut places = dropped(blocks, base);
     let (scope, missing) = (blocks.id(blocks.scope), missing_at(elsewhere));
-    found.sort_by_key(|read| (read.block != scope, !missing.contains(&read.block)));
-    found
+    places.sort_by_key(|&(block, _)| {
+        let id = blocks.id(block);
+        (id != scope, !missing.contains(&id), has[block])
+    });
+    let each = places.into_iter().enumerate().map(|(number, (block, read))| {
+        let would_do = if number < MOST { trials.would_know(block, read, base) } else { None };
+        let lacks = !has[block] && !matches!(elsewhere, Elsewhere::Here { .. });
+        let raw_read = blocks.job.blocks()[block].raw_reads()[read].clone();
+        (lacks || would_do == Some(true)).then(|| NotKept {
+            block: blocks.id(block),
+            read: raw_read,
+            would_do,
+        })
+    });
+    each.flatten().collect()
+}
+
+/// The reads that are not kept and would show the base, each by the places of its block and of
+/// itself.
+fn dropped(blocks: &Blocks, base: &Path) -> Vec<(usize, usize)> {
+    let of_block = |block: usize| {
+        let reads = blocks.job.blocks()[block].raw_reads().iter().enumerate();
+        let dropped = reads.filter(|(_, read)| !read.is_kept() && shows(&read.path, base));
+        dropped.map(move |(read, _)| (block, read)).collect::<Vec<_>>()
+    };
+    (0..blocks.len()).flat_map(of_block).collect()
 }
 
 /// The blocks that are told to keep a base from the scope block, at the nearest stop.

@@ -37,7 +37,8 @@ impl Found<'_> {
 pub(super) fn origins(steps: &[Step], step: usize) -> Vec<Origin> {
     let mut found: Vec<Found> = Vec::new();
     for Step { block, path, how } in on_the_way(steps, step).into_iter().map(|step| &steps[step]) {
-        let &How::Assumed { read_at } = how else { continue };
+        let How::Assumed { .. } = how else { continue };
+        let read_at = how.read_at();
         let is_same = |found: &&mut Found| {
             found.path.same_entries(path) && found.own[0].1.is_some() == read_at.is_some()
         };

@@ -5,6 +5,7 @@ use super::arrivals::{Arrivals, Moment, END};
 use crate::ids::{BlockId, NodeId};
 use crate::job::Job;
 use crate::path::Path;
+use crate::raw_read::RawRead;
 use crate::replay::{Replay, Side};
 use std::collections::HashMap;
 
@@ -25,8 +26,8 @@ pub struct Step {
 pub enum How {
     /// The block assumes it.
     Assumed {
-        /// The instruction of the block that reads it, where it is that of a raw read that is kept.
-        read_at: Option<u32>,
+        /// The raw read by which it does, the first that is kept, if there is one.
+        read: Option<RawRead>,
     },
     /// The block took it over from its neighbours on one side.
     TookOver {
@@ -60,6 +61,15 @@ impl How {
         match *self {
             Self::Assumed { .. } => None,
             Self::TookOver { visit, .. } | Self::Made { visit, .. } => Some(visit),
+        }
+    }
+
+    /// The instruction that reads a property of the path, where the block assumes it by a raw read.
+    #[must_use]
+    pub fn read_at(&self) -> Option<u32> {
+        match self {
+            Self::Assumed { read } => read.as_ref().map(|read| read.instruction),
+            _ => None,
         }
     }
 
@@ -132,7 +142,7 @@ impl<'a> Steps<'a> {
         }
         let (block, node, _) = key;
         let (block, path) = (self.job.blocks()[block].id(), self.replay.path(node));
-        self.found.push(Step { block, path, how: How::Assumed { read_at: None } });
+        self.found.push(Step { block, path, how: How::Assumed { read: None } });
         self.places.insert(key, self.found.len() - 1);
         self.open.push(key);
         self.found.len() - 1
@@ -145,17 +155,17 @@ impl<'a> Steps<'a> {
         }
     }
 
-    /// The instruction of the first raw read by which the block assumes a node, if there is one.
-    fn read_at(&self, block: usize, node: NodeId) -> Option<u32> {
+    /// The first raw read by which the block assumes a node, if there is one.
+    fn read(&self, block: usize, node: NodeId) -> Option<RawRead> {
         let reads = self.job.blocks()[block].kept_reads().zip(self.replay.assumed(block));
         let mut of_node = reads.filter(|(_, own)| **own == node);
-        of_node.next().map(|(read, _)| read.instruction)
+        of_node.next().map(|(read, _)| read.clone())
     }
 
     fn how(&mut self, (block, node, moment): (usize, NodeId, Moment)) -> How {
         let replay = self.replay;
         let Some((visit, place)) = moment else {
-            return How::Assumed { read_at: self.read_at(block, node) };
+            return How::Assumed { read: self.read(block, node) };
         };
         let event = &replay.visits()[visit];
         if place == 0 {

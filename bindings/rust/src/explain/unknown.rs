@@ -5,6 +5,7 @@ use super::not_kept::{not_kept, NotKept};
 use super::paths::{leaves_open, starts_optional};
 use super::steps::Steps;
 use super::stops::{held, holder, stops, Holder, Stop};
+use super::trials::Trials;
 use crate::ids::{BlockId, NodeId};
 use crate::job::Block;
 use crate::path::Path;
@@ -19,9 +20,18 @@ pub struct Unknown {
     pub open: Option<Holder>,
     /// What other blocks know of it.
     pub elsewhere: Elsewhere,
-    /// The raw reads by which blocks would have it that do not, and which are not kept. Where there
-    /// are several, the first is the nearest to the reason.
+    /// The raw reads of it that are not kept, the nearest to the reason first.
     pub not_kept: Vec<NotKept>,
+}
+
+impl Unknown {
+    /// The raw read that is told in short: the first by which the base would be known if it were
+    /// kept, or the nearest to the reason where there is none.
+    #[must_use]
+    pub fn first_not_kept(&self) -> Option<&NotKept> {
+        let would_do = self.not_kept.iter().find(|read| read.would_do == Some(true));
+        would_do.or(self.not_kept.first())
+    }
 }
 
 /// A path that a block assumes.
@@ -77,9 +87,9 @@ pub enum Before {
 pub(super) fn unknown(
     blocks: &Blocks,
     steps: &mut Steps,
+    trials: &mut Trials,
     base: &Path,
-    open: Option<NodeId>,
-    here: Option<NodeId>,
+    (open, here): (Option<NodeId>, Option<NodeId>),
 ) -> Unknown {
     let open = open.map(|node| held(blocks, steps, blocks.scope, node));
     let elsewhere = match (here, &open) {
@@ -90,7 +100,7 @@ pub(super) fn unknown(
         }
         _ => elsewhere(blocks, steps, base),
     };
-    let not_kept = not_kept(blocks, base, &elsewhere);
+    let not_kept = not_kept(blocks, trials, base, &elsewhere);
     Unknown { base: base.clone(), open, elsewhere, not_kept }
 }
 

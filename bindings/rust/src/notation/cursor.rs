@@ -76,6 +76,15 @@ impl<'t> Cursor<'t> {
 
     /// Says that something else is due here.
     pub(super) fn due(&self, what: &str) -> NotationError {
+        self.due_here(&format!("{what} is"))
+    }
+
+    /// The same of a word with what follows it.
+    pub(super) fn both_due(&self, what: &str) -> NotationError {
+        self.due_here(&format!("{what} are"))
+    }
+
+    fn due_here(&self, what: &str) -> NotationError {
         let found = match (self.word(), self.peek()) {
             ("", None) => "the end of the text".to_string(),
             ("", Some('\n' | '\r')) => "the end of the line".to_string(),
@@ -85,7 +94,7 @@ impl<'t> Cursor<'t> {
             ("", Some(character)) => format!("`{character}`"),
             (word, _) => format!("`{}`", short(word)),
         };
-        self.wrong(format!("{what} is due here, not {found}"))
+        self.wrong(format!("{what} due here, not {found}"))
     }
 
     /// Says what is wrong here.

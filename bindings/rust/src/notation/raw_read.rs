@@ -38,7 +38,8 @@ pub(super) fn raw_read(
     let instruction = whole_u32(cursor, "the number of the instruction")?;
     cursor.skip_blank();
     word(cursor, "range", "`range` and the start of the variable's range")?;
-    let range_start = whole(cursor, "the range's start", limits::RANGE_START.into())? as u32;
+    let range_start =
+        whole(cursor, "the range's start, to which 1 is added,", limits::RANGE_START.into())? as u32;
     let range_end = end(cursor, "the range's end")?;
     let (scope, goes_on_with) = scope(cursor)?;
     let known_immutable = cursor.keyword("immutable");
@@ -59,6 +60,9 @@ fn scope(cursor: &mut Cursor) -> Result<(ReadScope, &'static [&'static str]), No
         return Ok((ReadScope::NONE, &["`scope`", "`no scope`", "`immutable`"]));
     }
     cursor.skip_blank();
+    if is_none && !cursor.word().starts_with(|c: char| c.is_ascii_digit()) || cursor.word() == "none" {
+        return Err(cursor.wrong("where the variable has no scope, nothing is written"));
+    }
     let start = whole_u32(cursor, "the scope's start")?;
     let end = end(cursor, "the scope's end")?;
     Ok((ReadScope::of_fields((!is_none, start, end)), &["`immutable`"]))
@@ -73,10 +77,10 @@ fn end(cursor: &mut Cursor, what: &str) -> Result<u32, NotationError> {
     Ok(end)
 }
 
-/// The word that is due here, and the blanks behind it.
+/// The word that is due here, with what has to follow it, and the blanks behind it.
 fn word(cursor: &mut Cursor, due: &str, what: &str) -> Result<(), NotationError> {
     if !cursor.keyword(due) {
-        return Err(cursor.due(what));
+        return Err(cursor.both_due(what));
     }
     cursor.skip_blank();
     Ok(())

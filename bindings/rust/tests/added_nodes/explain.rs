@@ -154,7 +154,9 @@ fn in_full_each_has_the_assumed_paths_that_it_comes_from() {
 #[test]
 fn in_full_each_has_the_raw_reads_that_it_comes_from() {
     let own = "scope 7 block 7 reads 1?.10 at 3 range 0 to 1 assumes 1";
-    let line = "1.10 in round 1, forward walk: block 7 made 1?.10, which it reads at instruction 3, into 1.10, since it had 1\n";
+    let line =
+        "1.10 in round 1, forward walk: block 7 made 1?.10, of which it reads a property at instruction 3, \
+                into 1.10, since it had 1\n";
     assert!(full(own).ends_with(line), "{}", full(own));
     let read = |at: u32| format!("reads 1?.10 at {at} range 0 to 1");
     let joined = format!(
@@ -162,7 +164,9 @@ fn in_full_each_has_the_raw_reads_that_it_comes_from() {
         read(8),
         read(6)
     );
-    let comes = "1?.10 comes from blocks 1 and 2, which read it at instructions 8 and 6, and block 3, which assumes it\n";
+    let comes =
+        "1?.10 comes from blocks 1 and 2, which read a property of it at instructions 8 and 6, and block 3, \
+                 which assumes it\n";
     assert!(full(&joined).ends_with(comes), "{}", full(&joined));
     let explanation = explained(&job(&joined));
     let [Added { origins, .. }] = &explanation.added[..] else { panic!("{explanation:?}") };

@@ -32,7 +32,8 @@ fn the_largest_range_start_is_refused_with_its_place() {
     let mut bytes = hex(BYTES);
     bytes[START..START + 4].fill(0xff);
     let refusal = "scope-deps: standard input: refusal 10, LargestStart: a range start is 4,294,967,295, where start + 1 \
-                   would not fit; at byte 25, in RD record 1 of BL record 1: the range's start (0 to 4294967294)\n";
+                   would not fit; at byte 25, in RD record 1 of BL record 1: the range's start (0 to 4294967294); \
+                   block 7 says that it has 2 raw reads (byte 18)\n";
     for words in [
         &["decode"][..],
         &["answer"],
@@ -46,7 +47,7 @@ fn the_largest_range_start_is_refused_with_its_place() {
     }
     let said = message(&["encode"], TEXT.replace("range 1 to", "range 4294967295 to"), 1);
     let excerpt = "4 |   reads reactive athlete@4.10@5 at 3 range 4294967295 to 2 scope 5 to 9 immutable";
-    let place = "standard input:4:44: the range's start is at most 4294967294, and 4294967295 is more";
+    let place = "standard input:4:44: the range's start, to which 1 is added, is at most 4294967294, and 4294967295 is more";
     assert_eq!(said, format!("scope-deps: {place}\n{excerpt}\n  | {}^\n", " ".repeat(43)));
 }
 
@@ -71,7 +72,7 @@ fn they_count_where_they_are_kept() {
     }
     assert!(text(&["sheet"], job("scope 0 to 9")).ends_with("\nblock 0 holds nothing\n"));
     assert!(text(&["explain"], job("scope 0 to 9"))
-        .contains("block 0 reads 1 at instruction 3, but 1 can still change there: "));
-    assert!(text(&["explain"], job("")).contains("; block 0 reads it at instruction 3\n"));
+        .contains("block 0 reads a property of 1 at instruction 3, but 1 counts as mutable there: "));
+    assert!(text(&["explain"], job("")).contains("; block 0 reads a property of it at instruction 3\n"));
     assert!(text(&["draw"], job("scope 0 to 9")).contains("<tspan class=\"label\">not kept</tspan>"));
 }

@@ -6,8 +6,8 @@ use crate::read::{focused, number, of_text, shown, title, whole, Group, Picture}
 use scope_deps::Job;
 
 const LEGEND: [&str; 2] = [
-    "reads 1 at 3: read by instruction 3, and taken as given",
-    "not kept\u{a0}1 at 3: read while 1 can still change, so not taken",
+    "reads 1 at 3: a property of 1 is read at 3, so 1 is given",
+    "not kept\u{a0}1 at 3: a property of 1 read where 1 is mutable",
 ];
 
 /// Which lines of the legend are there.
@@ -51,8 +51,8 @@ fn reads_are_kept_or_struck_through_by_word_and_line() {
     assert!(picture.style().contains(".cut{text-decoration:line-through}"));
     assert_eq!(
         title(struck),
-        "read at instruction 2, but week can still change there: its range 1 to 4 is longer than one instruction, \
-         and instruction 2 is in its scope, 1 to 4"
+        "a property of week.10 is read at instruction 2, but week counts as mutable there: its range 1 to 4 is longer \
+         than one instruction, and instruction 2 is in its scope, 1 to 4"
     );
     assert_eq!(legend(&picture), [true, true]);
 }
@@ -97,7 +97,8 @@ fn of_many_those_beyond_the_last_line_are_counted() {
     assert_eq!((lines.len(), &lines[0][..], &lines[8][..]), (9, "0.10 at 0", "and 32 more"));
     let groups = picture.groups();
     let more = under(&groups[0], "not kept")[8];
-    assert!(title(more).starts_with("8.10 at 8, 9.10 at 9, ") && title(more).ends_with(", 39.10 at 39"));
+    assert!(title(more).starts_with("8.10 at 8 (not kept: 8 counts as mutable there: its range 0 to 2 is "));
+    assert_eq!(title(more).matches(" at ").count(), 32);
 }
 
 #[test]

@@ -83,8 +83,13 @@ pub fn check_unknown(world: &World, base: &Path, said: &str, sections: &[Section
     if let Some(found) = holes(&format!("{{}}; that does not make {shown} known to the stage"), said) {
         return check_open(world, base, found[0], sections);
     }
-    if let Some(found) = holes(NOT_KEPT, said) {
-        return check_not_kept(world, base, &found);
+    let (alone, more) = without_more(said);
+    let (reason, would) = without_would(world, base, alone);
+    if let Some(found) = holes(NOT_KEPT, reason) {
+        let kind = check_not_kept(world, base, &found, would);
+        let all = world.ids().map(|id| world.not_kept(id, base).len()).sum::<usize>();
+        assert!(more == 0 || more + 1 == all || world.count_dropped(base) > TRIED, "{said}");
+        return kind;
     }
     if let Some(found) = holes("{}, too, but {}", said) {
         return check_here(world, base, (found[0], found[1]), sections);
@@ -106,27 +111,59 @@ pub fn check_unknown(world: &World, base: &Path, said: &str, sections: &[Section
 
 /// That a raw read does not count, and why.
 pub const NOT_KEPT: &str =
-    "{} reads {} at {}, but {} can still change there: its range {} to {} is longer than one \
+    "{} reads a property of {} at {}, but {} counts as mutable there: its range {} to {} is longer than one \
                             instruction, and {} is in its scope, {} to {}";
 
-/// That the block has such a read, which would show the base; and that the reasons hold.
-fn check_not_kept(world: &World, base: &Path, found: &[&str]) -> &'static str {
+/// So many reads of one base are tried.
+pub const TRIED: usize = 64;
+
+/// A sentence on a read without what it says of others, and how many these are.
+pub fn without_more(said: &str) -> (&str, usize) {
+    if let Some(alone) = said.strip_suffix(" (and 1 more such read is not kept)") {
+        return (alone, 1);
+    }
+    match holes("{} (and {} more such reads are not kept)", said) {
+        Some(found) => (found[0], found[1].parse().unwrap()),
+        None => (said, 0),
+    }
+}
+
+/// A sentence on a read without what it says would be if the read were kept, and that.
+pub fn without_would<'s>(world: &World, base: &Path, said: &'s str) -> (&'s str, Option<bool>) {
+    let (base, scope) = (show(base), world.job.scope());
+    let would = format!("; if it were kept, {base} would be known in block {scope}");
+    let not = format!("; even if it were kept, {base} would not be known in block {scope}");
+    match (said.strip_suffix(&would), said.strip_suffix(&not)) {
+        (Some(reason), _) => (reason, Some(true)),
+        (_, Some(reason)) => (reason, Some(false)),
+        _ => (said, None),
+    }
+}
+
+/// That the block has such a read, which would show the base; that the reasons hold; and that the
+/// base would be known by it, or not, as is said.
+fn check_not_kept(world: &World, base: &Path, found: &[&str], would: Option<bool>) -> &'static str {
     let number = |hole: usize| found[hole].parse::<u32>().unwrap_or_else(|_| panic!("no number: {found:?}"));
     let (read_path, at) = (path(found[1]), instruction(found[2]));
     let (range, scope) = ((number(4), number(5)), (number(7), number(8)));
-    let is_told = |read: &&RawRead| {
+    let is_told = |read: &RawRead| {
         read.path.same_entries(&read_path)
             && read.instruction == at
             && (read.range_start, read.range_end) == range
             && read.scope == ReadScope::Some { start: scope.0, end: scope.1 }
     };
     let not_kept = world.not_kept(block(found[0]), base);
-    assert!(not_kept.iter().any(is_told), "{found:?}");
-    assert!(not_kept.iter().filter(|read| is_told(read)).any(|read| !read.known_immutable), "{found:?}");
+    let mut told = not_kept.iter().filter(|(read, _)| is_told(read) && !read.known_immutable);
+    let untried = would.is_none() && world.count_dropped(base) > TRIED;
+    assert!(told.any(|(_, known)| untried || *known == would), "{found:?} {would:?}");
     assert_eq!(found[3], show(&read_path.prefix(0)));
     assert_eq!(instruction(found[6]), at);
     assert!(u64::from(range.1) > u64::from(range.0) + 1 && scope.0 <= at && at < scope.1, "{found:?}");
-    "not kept"
+    match would {
+        Some(true) => "not kept, though it would do",
+        Some(false) => "not kept, and would not do",
+        None => "not kept",
+    }
 }
 
 /// `block 4 assumes 1?.10` or `block 4 reads 1?.10 at instruction 3`, which leaves the base open.

@@ -44,7 +44,7 @@ fn check_step(world: &World, steps: &[Step], step: &Step) {
             let in_block = |&base: &usize| steps[base].block == step.block;
             assert!(in_block(from) && bases.iter().all(in_block));
         }
-        (How::Assumed { read_at }, _) => assert_eq!(world.own(step.block, &step.path), Some(*read_at)),
+        (How::Assumed { .. }, _) => assert_eq!(world.own(step.block, &step.path), Some(step.how.read_at())),
         other => panic!("no event: {other:?}"),
     }
 }

@@ -42,7 +42,8 @@ const EXPECTED: &[(&str, usize)] = &[
     ("no block", 1_000),
     ("nodes", 1_000),
     ("not connected", 1_000),
-    ("not kept", 500),
+    ("not kept, and would not do", 100),
+    ("not kept, though it would do", 100),
     ("not settled", 100),
     ("one left out that lacks it", 50),
     ("one that lacks it", 1_000),
@@ -72,7 +73,8 @@ const EXPECTED_STRICT: &[(&str, usize)] = &[
     ("no block", 1_000),
     ("nodes", 1_000),
     ("not connected", 1_000),
-    ("not kept", 500),
+    ("not kept, and would not do", 100),
+    ("not kept, though it would do", 100),
     ("one that lacks it", 1_000),
     ("read", 1_000),
     ("read, and left open", 200),
@@ -159,12 +161,14 @@ fn every_sentence_is_true_for_the_stored_jobs() {
 }
 
 /// Jobs of which something false was said once, and which are seldom generated.
-const TOLD_FALSELY: [&str; 3] = [
+const TOLD_FALSELY: [&str; 4] = [
     "scope 3 block 0 block 1 after 0, 3 assumes 5 block 2 after 1 assumes 5.6 block 3 after 1, 2 block 4 after 1
      block 6 after 3 candidate 5.10",
     "scope 2 block 1 assumes 1?.10 block 2 after 1 assumes 1.11 candidate 1.12",
     "scope 5 block 0 block 1 after 0 assumes 7 block 2 after 0 assumes 7 block 3 after 0 assumes 7 block 4 after 0
      block 5 after 1, 2, 3, 4 candidate 7.1",
+    "scope 2 block 0 reads 1 at 1 range 0 to 2 scope 0 to 99 assumes 1.10 block 1 assumes 1 block 2 after 0, 1
+     candidate 1.10",
 ];
 
 #[test]

@@ -71,15 +71,15 @@ fn check_added(world: &World, line: &str) -> Vec<Path> {
     added
 }
 
-/// A sentence without what it says of the path that was replaced: `, which it assumes,` or `, which
-/// it reads at instruction 3,`. The instruction, if there is one.
+/// A sentence without what it says of the path that was replaced: `, which it assumes,` or `, of
+/// which it reads a property at instruction 3,`. The instruction, if there is one.
 fn without_own(line: &str) -> (String, Result<Option<u32>, &str>) {
-    let found = holes("{}, which it {}, into {}", line).unwrap_or_else(|| panic!("no origin: {line}"));
-    let read_at = match found[1] {
-        "assumes" => None,
-        reads => Some(instruction(reads.strip_prefix("reads at ").unwrap())),
-    };
-    (format!("{} into {}", found[0], found[2]), Ok(read_at))
+    if let Some(found) = holes("{}, which it assumes, into {}", line) {
+        return (format!("{} into {}", found[0], found[1]), Ok(None));
+    }
+    let found = holes("{}, of which it reads a property at {}, into {}", line);
+    let found = found.unwrap_or_else(|| panic!("no origin: {line}"));
+    (format!("{} into {}", found[0], found[2]), Ok(Some(instruction(found[1]))))
 }
 
 /// `1?.10 comes from block 0, which assumes it, and blocks 1 and 2, which read 1?.10?.11 at

@@ -45,11 +45,11 @@ pub fn block(text: &str) -> BlockId {
     blocks[0]
 }
 
-/// What one block does by which it assumes a path, or several: `assumes 1`, or `read 1 at
-/// instructions 3 and 4`. The path, and the instructions where it is read.
+/// What one block does by which it assumes a path, or several: `assumes 1`, or `read a property of
+/// 1 at instructions 3 and 4`. The path, and the instructions where it is read.
 pub fn assuming(text: &str, one: bool) -> Option<(&str, Option<&str>)> {
     let (assume, read) = if one { ("assumes", "reads") } else { ("assume", "read") };
-    if let Some(found) = holes(&format!("{read} {{}} at {{}}"), text) {
+    if let Some(found) = holes(&format!("{read} a property of {{}} at {{}}"), text) {
         return Some((found[0], Some(found[1])));
     }
     holes(&format!("{assume} {{}}"), text).map(|found| (found[0], None))

@@ -78,7 +78,7 @@ pub fn check_holders(world: &World, base: Option<&Path>, said: &str) -> Holders 
         None => (said, false),
     };
     let from = holes(&format!("{{}} {have} {{}} from {{}}"), said);
-    let reads = holes(&format!("{{}} {read} {{}} at {{}}"), said);
+    let reads = holes(&format!("{{}} {read} a property of {{}} at {{}}"), said);
     let found = from.clone().or(reads.clone()).or_else(|| holes(&format!("{{}} {assume} {{}}"), said));
     let found = found.unwrap_or_else(|| panic!("no holder: {said}"));
     let ((named, more), path) = (some_blocks(found[0]), path(found[1]));

@@ -22,11 +22,14 @@ pub fn check_section(world: &World, of: &Path, lines: &[&str], all: &[Told]) -> 
     kinds
 }
 
+/// That a block reads a property of a path, and why that read is kept.
+const READS: &str = "{} reads a property of {} at {} (kept: {})";
+
 /// What a sentence says, unchecked.
 pub fn told_by(line: &str) -> Told {
     let found = holes("{} took {} over from {}", line).map(|found| (found[0], found[1]));
     let found = found.or_else(|| holes("{} assumes {}", line).map(|found| (found[0], found[1])));
-    let found = found.or_else(|| holes("{} reads {} at {}", line).map(|found| (found[0], found[1])));
+    let found = found.or_else(|| holes(READS, line).map(|found| (found[0], found[1])));
     let found = found
         .or_else(|| holes("{} made {} into {}, since it had {}", line).map(|found| (found[0], found[2])));
     let (at, form) = found.unwrap_or_else(|| panic!("no step: {line}"));
@@ -47,8 +50,10 @@ fn check_step(world: &World, line: &str, told: &[Told], all: &[Told]) -> (Told, 
         return ((at, form), "made");
     }
     let Some(found) = holes("{} took {} over from {}", line) else {
-        let read_at = holes("{} reads {} at {}", line).map(|found| instruction(found[2]));
+        let read_at = holes(READS, line).map(|found| instruction(found[2]));
         assert_eq!(world.own(at, &form), Some(read_at), "{line}");
+        let kept = holes(READS, line).map(|found| found[3]);
+        assert_eq!(kept.map(String::from), world.why_kept(at, &form), "{line}");
         return ((at, form), if read_at.is_some() { "read" } else { "assumed" });
     };
     let (side, from, left_out, kind) = neighbours_said(found[2]);

@@ -1,10 +1,12 @@
 //! A whole explanation as text, sentence by sentence.
 
-use crate::bases::{check_known, check_left_out, check_unknown, NOT_KEPT};
+use crate::bases::{
+    check_known, check_left_out, check_unknown, without_more, without_would, NOT_KEPT, TRIED,
+};
 use crate::nodes::check_nodes;
 use crate::parse::{holes, path};
 use crate::steps::{check_section, told_by, Told};
-use crate::world::{show, World};
+use crate::world::{is_kept, show, World};
 use scope_deps::replay::Propagation;
 use scope_deps::Path;
 use std::collections::BTreeMap;
@@ -53,13 +55,25 @@ pub fn check_text(world: &World, text: &str, in_full: bool, kinds: &mut Kinds) {
     parts.truncate(parts.len() - sections.len());
     check_sections(world, &sections, kinds);
     if world.job.candidates().is_empty() {
-        assert_eq!(parts, [["the job has no candidate, so no path is returned"]]);
-        return;
+        return check_no_candidate(world, &parts);
     }
     assert_eq!(parts.len(), world.job.candidates().len());
     for (candidate, lines) in world.job.candidates().iter().zip(&parts) {
         check_candidate(world, candidate, lines, &sections, kinds);
     }
+}
+
+/// That there is no candidate, and how many raw reads do not count.
+fn check_no_candidate(world: &World, parts: &[Vec<&str>]) {
+    let first = "the job has no candidate, so no path is returned".to_string();
+    let reads = world.job.blocks().iter().flat_map(|block| block.raw_reads());
+    let count = reads.filter(|read| !is_kept(read)).count();
+    let not_kept = match count {
+        0 => None,
+        1 => Some("1 raw read is not kept".to_string()),
+        _ => Some(format!("{count} raw reads are not kept")),
+    };
+    assert_eq!(parts, [std::iter::once(first).chain(not_kept).collect::<Vec<_>>()]);
 }
 
 fn section<'t>(number: usize, lines: &[&'t str]) -> Section<'t> {
@@ -169,9 +183,28 @@ fn check_complete(world: &World, base: &Path, said: &[&str]) {
     assert_eq!(here, usize::from(world.has(scope, base)), "{said:?}");
     let nowhere = said.iter().filter(|line| line.starts_with("no block assumes ")).count();
     assert_eq!(nowhere, usize::from(world.having(base).is_empty()), "{said:?}");
-    let not_kept = said.iter().filter(|line| holes(NOT_KEPT, line).is_some()).count();
-    let all = world.ids().map(|id| world.not_kept(id, base).len()).sum::<usize>();
-    assert!(not_kept == all || not_kept == 1 && all > 1, "{not_kept} of {all}: {said:?}");
+    check_reads(world, base, said);
+}
+
+/// That of the reads that do not count all are told, or one, with how many more there are; and one
+/// that would do, where there is one.
+fn check_reads(world: &World, base: &Path, said: &[&str]) {
+    let told = said.iter().filter_map(|line| {
+        let (alone, more) = without_more(line);
+        let (reason, would) = without_would(world, base, alone);
+        holes(NOT_KEPT, reason).map(|_| (would, more))
+    });
+    let told: Vec<(Option<bool>, usize)> = told.collect();
+    if world.count_dropped(base) > TRIED {
+        return;
+    }
+    let due: Vec<Option<bool>> =
+        world.ids().flat_map(|id| world.not_kept(id, base)).map(|(_, would)| would).collect();
+    let more: usize = told.iter().map(|(_, more)| more).sum();
+    assert_eq!(told.len() + more, due.len(), "{said:?}");
+    assert!(more == 0 || told.len() == 1, "{said:?}");
+    let would_do = |would: &Option<bool>| *would == Some(true);
+    assert_eq!(told.iter().any(|(would, _)| would_do(would)), due.iter().any(would_do), "{said:?}");
 }
 
 /// `candidate 1.10 is cut at 1, and depending on that is enough`.

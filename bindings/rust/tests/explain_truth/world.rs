@@ -6,9 +6,10 @@
 
 use scope_deps::replay::{Propagation, Replay, Side, Visit};
 use scope_deps::{
-    answer, sheet, strict_answer, strict_sheet, Answer, Block, BlockId, Job, NodeId, Path, RawRead,
-    ReadScope, Sheet,
+    answer, sheet, strict_answer, strict_sheet, Answer, Block, BlockId, Job, JobBuilder, NodeId, Path,
+    RawRead, ReadScope, Sheet,
 };
+use std::cell::RefCell;
 use std::collections::{BTreeSet, HashMap};
 
 /// The blocks that assume a path, each with the form that it assumes, and with the instruction
@@ -36,6 +37,8 @@ pub struct World<'j> {
     before_last: HashMap<(usize, Side), Vec<BTreeSet<NodeId>>>,
     /// The last visit of each block on each side.
     last: HashMap<(usize, Side), usize>,
+    /// What the scope block would hold if a read counted, by the places of its block and of itself.
+    trials: RefCell<HashMap<(usize, usize), Option<Vec<Path>>>>,
 }
 
 pub fn show(path: &Path) -> String {
@@ -103,6 +106,7 @@ impl<'j> World<'j> {
             sources,
             before_last,
             last,
+            trials: RefCell::default(),
         };
         world.go_through_events();
         Some(world)
@@ -144,12 +148,73 @@ impl<'j> World<'j> {
         self.job.blocks().iter().flat_map(|block| assumed(block).map(|(path, _)| path))
     }
 
-    /// The raw reads of a block that do not count and would show the base, in a job whose scope
-    /// block does not have it, where the block does not, either.
-    pub fn not_kept(&self, id: BlockId, base: &Path) -> Vec<&RawRead> {
+    /// Why the first raw read by which the block assumes the path counts, if it does so by one.
+    pub fn why_kept(&self, id: BlockId, path: &Path) -> Option<String> {
+        let reads = self.job.blocks()[self.place(id)].raw_reads().iter();
+        let read = reads.filter(|read| is_kept(read)).find(|read| read.path.same_entries(path))?;
+        let RawRead { instruction: at, range_start: start, range_end: end, .. } = read;
+        if end.saturating_sub(*start) <= 1 {
+            return Some(format!("its range {start} to {end} is not longer than one instruction"));
+        }
+        Some(match read.scope {
+            ReadScope::None { .. } => "it has no scope".to_string(),
+            ReadScope::Some { start, end } if !(start..end).contains(at) => {
+                format!("instruction {at} is not in its scope, {start} to {end}")
+            }
+            ReadScope::Some { .. } => "known to be immutable".to_string(),
+        })
+    }
+
+    /// The raw reads of a block that do not count and would show the base, by their places.
+    fn dropped(&self, id: BlockId, base: &Path) -> Vec<usize> {
+        let reads = self.job.blocks()[self.place(id)].raw_reads().iter().enumerate();
+        let dropped = reads.filter(|(_, read)| !is_kept(read) && shows(&read.path, base));
+        dropped.map(|(place, _)| place).collect()
+    }
+
+    /// How many there are in all blocks.
+    pub fn count_dropped(&self, base: &Path) -> usize {
+        self.ids().map(|id| self.dropped(id, base).len()).sum()
+    }
+
+    /// Those of them that are to be told, each with whether the base would be known by it: all, in
+    /// a job whose scope block does not have the base, where the block does not, either; else those
+    /// by which it would.
+    pub fn not_kept(&self, id: BlockId, base: &Path) -> Vec<(&RawRead, Option<bool>)> {
         let lacks = !self.has(id, base) && !self.has(self.job.scope(), base);
-        let reads = self.job.blocks()[self.place(id)].raw_reads().iter().filter(|_| lacks);
-        reads.filter(|read| !is_kept(read) && shows(&read.path, base)).collect()
+        let dropped = self.dropped(id, base).into_iter().map(|read| {
+            let would = self.would_know(id, read, base);
+            (&self.job.blocks()[self.place(id)].raw_reads()[read], would)
+        });
+        dropped.filter(|(_, would)| lacks || *would == Some(true)).collect()
+    }
+
+    /// Whether the base would be known if the read counted, by the library's sheet of that job;
+    /// nothing where it refuses the job.
+    fn would_know(&self, id: BlockId, read: usize, base: &Path) -> Option<bool> {
+        let key = (self.place(id), read);
+        let mut trials = self.trials.borrow_mut();
+        let held = trials.entry(key).or_insert_with(|| self.held_with(key));
+        held.as_ref().map(|held| knows(held, base))
+    }
+
+    /// What the scope block would hold if the read counted.
+    fn held_with(&self, (block, read): (usize, usize)) -> Option<Vec<Path>> {
+        let mut blocks = self.job.blocks().to_vec();
+        let old = &self.job.blocks()[block];
+        let mut reads = old.raw_reads().to_vec();
+        reads[read].known_immutable = true;
+        blocks[block] = Block::new(old.id())
+            .after(old.predecessors().iter().copied())
+            .reading(reads)
+            .assuming(old.assumed().to_vec());
+        let builder = blocks.into_iter().fold(Job::builder(self.job.scope()), JobBuilder::block);
+        let job = builder.build().unwrap();
+        let sheet = match self.replay.propagation() {
+            Propagation::Existing => sheet(&job),
+            Propagation::Strict => strict_sheet(&job),
+        };
+        Some(sheet.ok()?.paths(job.scope()).collect())
     }
 
     /// Whether the block holds the very path in the end.
@@ -182,10 +247,7 @@ impl<'j> World<'j> {
 
     /// The paths of the scope block, in the order in which the first counts.
     pub fn deciding(&self) -> Vec<&Path> {
-        let held = &self.held[self.place(self.job.scope())];
-        let (ahead, others): (Vec<&Path>, Vec<&Path>) =
-            held.iter().partition(|path| path.entries().first().is_some_and(|entry| entry.optional));
-        ahead.into_iter().chain(others).collect()
+        deciding(&self.held[self.place(self.job.scope())])
     }
 
     /// The first of them with the base's names.
@@ -195,8 +257,7 @@ impl<'j> World<'j> {
 
     /// Whether the stage takes the base to be there in the scope block.
     pub fn is_known(&self, base: &Path) -> bool {
-        let deciding = self.deciding();
-        deciding.iter().find(|path| base.names_start(path)).is_some_and(|path| shows(path, base))
+        knows(&self.held[self.place(self.job.scope())], base)
     }
 
     /// Whether the stage met the first path before the second. It goes through the assumed paths in
@@ -296,6 +357,18 @@ impl<'j> World<'j> {
         let node = self.replay.nodes().find(|&node| self.path(node).same_entries(path));
         &self.sources[&(self.place(id), node.unwrap())]
     }
+}
+
+/// Paths that a block holds, in the order in which the first counts.
+fn deciding(held: &[Path]) -> Vec<&Path> {
+    let (ahead, others): (Vec<&Path>, Vec<&Path>) =
+        held.iter().partition(|path| path.entries().first().is_some_and(|entry| entry.optional));
+    ahead.into_iter().chain(others).collect()
+}
+
+/// Whether the stage takes the base to be there where a block holds these.
+fn knows(held: &[Path], base: &Path) -> bool {
+    deciding(held).iter().find(|path| base.names_start(path)).is_some_and(|path| shows(path, base))
 }
 
 /// What an event does. A path that is there already keeps its sources.

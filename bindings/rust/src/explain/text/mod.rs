@@ -12,10 +12,12 @@ use crate::replay::Propagation;
 use known::known;
 use sections::Sections;
 #[cfg(feature = "draw")]
-pub(crate) use show::{can_change, some_listed};
-use show::{show_entry, show_path};
+pub(crate) use show::{counts_as_mutable, some_listed, why_kept};
+use show::{for_count, show_entry, show_path};
 use std::fmt;
 use unknown::unknown;
+#[cfg(feature = "draw")]
+pub(crate) use unknown::would_do;
 
 /// What stands before all else where the propagation is the strict one.
 const STRICT: &str = "strict propagation: a block takes paths over from the blocks before it, or after it, \
@@ -96,6 +98,7 @@ impl Text<'_> {
         }
         if self.explanation.reasons.is_empty() {
             writeln!(f, "the job has no candidate, so no path is returned")?;
+            self.not_kept(f)?;
         }
         for (place, reason) in self.explanation.reasons.iter().enumerate() {
             let gap = if place > 0 { "\n" } else { "" };
@@ -104,6 +107,14 @@ impl Text<'_> {
             self.lines(reason).iter().try_for_each(|line| writeln!(f, "    {line}"))?;
         }
         Ok(())
+    }
+
+    /// How many raw reads are not kept, where there is no candidate to which one could matter.
+    fn not_kept(&self, f: &mut fmt::Formatter<'_>) -> fmt::Result {
+        match self.explanation.reads_not_kept {
+            0 => Ok(()),
+            count => writeln!(f, "{count} raw {} not kept", for_count(count, "read is", "reads are")),
+        }
     }
 
     /// Lines for each entry that is returned, and for the first that is not: the first line has the

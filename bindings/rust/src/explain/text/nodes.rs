@@ -50,7 +50,7 @@ fn line(text: &Text, added: &Added) -> String {
 fn own(origin: &Origin) -> String {
     match origin.read_at.first() {
         None => ", which it assumes,".to_string(),
-        Some(instruction) => format!(", which it reads at instruction {instruction},"),
+        Some(instruction) => format!(", of which it reads a property at instruction {instruction},"),
     }
 }
 

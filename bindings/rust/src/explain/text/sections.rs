@@ -1,6 +1,6 @@
 //! The steps by which paths came to blocks, in words: a section for each path, whatever its forms.
 
-use super::show::{assumes, listed, show_block, show_blocks, show_path};
+use super::show::{assumes, listed, show_block, show_blocks, show_path, why_kept};
 use crate::explain::{Explanation, How, Step};
 use crate::ids::BlockId;
 use crate::names::Names;
@@ -61,7 +61,10 @@ impl<'a> Sections<'a> {
     fn sentence(&self, step: &Step) -> String {
         let (block, path) = (show_block(step.block), show_path(&step.path, self.names));
         match &step.how {
-            How::Assumed { read_at } => format!("{block} {}", assumes(&path, *read_at)),
+            How::Assumed { read } => {
+                let kept = read.as_ref().map(|read| format!(" (kept: {})", why_kept(read)));
+                format!("{block} {}{}", assumes(&path, step.how.read_at()), kept.unwrap_or_default())
+            }
             How::Made { from, bases, .. } => {
                 let bases: Vec<String> = bases.iter().map(|&base| self.path(base)).collect();
                 let from = self.path(*from);

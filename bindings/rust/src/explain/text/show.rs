@@ -54,8 +54,9 @@ pub(super) fn listed(items: &[String]) -> String {
     }
 }
 
-/// That so many blocks assume a path: `assumes 1.10`, or where they read it, at these instructions,
-/// `reads 1.10 at instruction 3`. Of the instructions so many are named.
+/// That so many blocks assume a path: `assumes 1.10`, or where they read a property of it, at these
+/// instructions, `reads a property of 1.10 at instruction 3`. Of the instructions so many are
+/// named.
 pub(super) fn assume(blocks: usize, path: &str, read_at: &[u32], most: usize) -> String {
     if read_at.is_empty() {
         return format!("{} {path}", for_count(blocks, "assumes", "assume"));
@@ -65,7 +66,7 @@ pub(super) fn assume(blocks: usize, path: &str, read_at: &[u32], most: usize) ->
         true => format!("instruction {}", instructions[0]),
         false => format!("instructions {}", some_listed(&instructions, most)),
     };
-    format!("{} {path} at {at}", for_count(blocks, "reads", "read"))
+    format!("{} a property of {path} at {at}", for_count(blocks, "reads", "read"))
 }
 
 /// The same of one block.
@@ -74,14 +75,28 @@ pub(super) fn assumes(path: &str, read_at: Option<u32>) -> String {
 }
 
 /// Why a raw read is not kept.
-pub(crate) fn can_change(read: &RawRead, names: &Names) -> String {
+pub(crate) fn counts_as_mutable(read: &RawRead, names: &Names) -> String {
     let RawRead { instruction, range_start, range_end, .. } = read;
     let (variable, (_, start, end)) = (read.path.identifier(), read.scope.fields());
     let variable = variable.with_names(names);
     format!(
-        "{variable} can still change there: its range {range_start} to {range_end} is longer than one instruction, \
+        "{variable} counts as mutable there: its range {range_start} to {range_end} is longer than one instruction, \
          and instruction {instruction} is in its scope, {start} to {end}"
     )
+}
+
+/// Why a raw read is kept.
+pub(crate) fn why_kept(read: &RawRead) -> String {
+    let RawRead { instruction, range_start, range_end, .. } = read;
+    let is_long = u64::from(*range_end) > u64::from(*range_start) + 1;
+    match read.scope.range() {
+        _ if !is_long => format!("its range {range_start} to {range_end} is not longer than one instruction"),
+        None => "it has no scope".to_string(),
+        Some(range) if !range.contains(instruction) => {
+            format!("instruction {instruction} is not in its scope, {} to {}", range.start, range.end)
+        }
+        Some(_) => "known to be immutable".to_string(),
+    }
 }
 
 /// The word for one or for more.
@@ -109,11 +124,13 @@ mod tests {
     #[test]
     fn what_blocks_assume_or_read_is_told() {
         assert_eq!(assumes("1.10", None), "assumes 1.10");
-        assert_eq!(assumes("1.10", Some(3)), "reads 1.10 at instruction 3");
+        assert_eq!(assumes("1.10", Some(3)), "reads a property of 1.10 at instruction 3");
         assert_eq!(assume(2, "it", &[], MOST), "assume it");
-        assert_eq!(assume(2, "it", &[3, 3], MOST), "read it at instruction 3");
-        assert_eq!(assume(2, "it", &[3, 5], MOST), "read it at instructions 3 and 5");
-        assert_eq!(assume(5, "it", &[9, 8, 7, 6, 5], MOST), "read it at instructions 9, 8, 7 and 2 more");
-        assert_eq!(assume(5, "it", &[9, 8, 7, 6, 5], 5), "read it at instructions 9, 8, 7, 6 and 5");
+        assert_eq!(assume(2, "it", &[3, 3], MOST), "read a property of it at instruction 3");
+        assert_eq!(assume(2, "it", &[3, 5], MOST), "read a property of it at instructions 3 and 5");
+        let five = [9, 8, 7, 6, 5];
+        let read = "read a property of it at instructions";
+        assert_eq!(assume(5, "it", &five, MOST), format!("{read} 9, 8, 7 and 2 more"));
+        assert_eq!(assume(5, "it", &five, 5), format!("{read} 9, 8, 7, 6 and 5"));
     }
 }

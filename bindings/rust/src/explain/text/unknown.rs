@@ -1,9 +1,13 @@
 //! Why a base is not known, in words.
 
 use super::known::sources;
-use super::show::{assumes, can_change, for_count, show_block, show_blocks, show_some_blocks};
+use super::show::{
+    assumes, counts_as_mutable, for_count, show_block, show_blocks, show_path, show_some_blocks,
+};
 use super::{Sections, Text};
-use crate::explain::{AssumedPath, Before, Elsewhere, Holder, How, NotKept, Stop, Unknown, Way, Why};
+use crate::explain::{
+    AssumedPath, Before, Elsewhere, Explanation, Holder, How, NotKept, Stop, Unknown, Way, Why,
+};
 use crate::ids::BlockId;
 use crate::path::Path;
 use crate::replay::Side;
@@ -13,8 +17,7 @@ pub(super) fn unknown(text: &Text, why: &Unknown) -> Vec<String> {
     let mut lines = vec![format!("{base} is not known to be there in {scope}")];
     lines.extend(why.open.as_ref().map(|open| own(text, open) + "; that " + &leaves_open(text, &why.base)));
     lines.extend(elsewhere(text, why));
-    let shown = if text.sections.is_some() { why.not_kept.len() } else { 1 };
-    lines.extend(why.not_kept.iter().take(shown).map(|read| not_kept(text, read)));
+    lines.extend(not_kept(text, why));
     if !text.explanation.settled {
         lines.push("the stage stopped after 100 rounds, before it had settled".to_string());
     }
@@ -25,10 +28,38 @@ fn leaves_open(text: &Text, base: &Path) -> String {
     format!("does not make {} known to the stage", text.path(base))
 }
 
-/// That a block reads the base, and why that read is not kept.
-fn not_kept(text: &Text, NotKept { block, read }: &NotKept) -> String {
-    let (block, reads) = (show_block(*block), assumes(&text.path(&read.path), Some(read.instruction)));
-    format!("{block} {reads}, but {}", can_change(read, &text.explanation.names))
+/// The raw reads of the base that are not kept: one of them and how many more there are, or all
+/// where all is shown.
+fn not_kept(text: &Text, why: &Unknown) -> Vec<String> {
+    if text.sections.is_some() {
+        return why.not_kept.iter().map(|read| read_not_kept(text, &why.base, read)).collect();
+    }
+    let more = match why.not_kept.len() {
+        0 | 1 => String::new(),
+        2 => " (and 1 more such read is not kept)".to_string(),
+        count => format!(" (and {} more such reads are not kept)", count - 1),
+    };
+    why.first_not_kept().map(|read| read_not_kept(text, &why.base, read) + &more).into_iter().collect()
+}
+
+/// That a block reads a property of the base, why that read is not kept, and whether it matters.
+fn read_not_kept(text: &Text, base: &Path, not_kept: &NotKept) -> String {
+    let (read, names) = (&not_kept.read, &text.explanation.names);
+    let reads = assumes(&text.path(&read.path), Some(read.instruction));
+    let (block, why) = (show_block(not_kept.block), counts_as_mutable(read, names));
+    let would = would_do(not_kept, base, text.explanation);
+    let joint = if would.is_empty() { "" } else { "; " };
+    format!("{block} {reads}, but {why}{joint}{would}")
+}
+
+/// Whether the base would be known if the read were kept; nothing where that was not tried.
+pub(crate) fn would_do(read: &NotKept, base: &Path, explanation: &Explanation) -> String {
+    let (base, scope) = (show_path(base, &explanation.names), show_block(explanation.scope));
+    match read.would_do {
+        Some(true) => format!("if it were kept, {base} would be known in {scope}"),
+        Some(false) => format!("even if it were kept, {base} would not be known in {scope}"),
+        None => String::new(),
+    }
 }
 
 /// That the scope block has a path: from where, or where it is told.
@@ -107,8 +138,10 @@ fn apart(text: &Text, base: &Path, holder: &Holder, holders: &[Holder]) -> Strin
 fn has(text: &Text, base: &Path, one: &Holder, blocks: &[BlockId]) -> String {
     let have = for_count(blocks.len(), "has", "have");
     let verb = match text.explanation.steps[one.step].how {
-        How::Assumed { read_at: None } => for_count(blocks.len(), "assumes", "assume"),
-        How::Assumed { read_at: Some(_) } => for_count(blocks.len(), "reads", "read"),
+        How::Assumed { read: None } => for_count(blocks.len(), "assumes", "assume"),
+        How::Assumed { read: Some(_) } => {
+            for_count(blocks.len(), "reads a property of", "read a property of")
+        }
         _ => have,
     };
     let so = if one.path.same_names(base) {
@@ -122,9 +155,9 @@ fn has(text: &Text, base: &Path, one: &Holder, blocks: &[BlockId]) -> String {
 /// The path by which a block has the base, and from where if not by itself.
 fn whence(text: &Text, holder: &Holder) -> String {
     let path = text.path(&holder.path);
-    match text.explanation.steps[holder.step].how {
-        How::Assumed { read_at: None } => path,
-        How::Assumed { read_at: Some(instruction) } => format!("{path} at instruction {instruction}"),
+    match &text.explanation.steps[holder.step].how {
+        How::Assumed { read: None } => path,
+        How::Assumed { read: Some(read) } => format!("{path} at instruction {}", read.instruction),
         _ => format!("{path} from {}", sources(text, holder.step)),
     }
 }
