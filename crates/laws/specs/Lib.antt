@@ -10,6 +10,8 @@ pub mod GraphLaws
 pub mod GraphsAgree
 -- the trees
 pub mod ForestLaws
+pub mod Flat
+pub mod FlatLaws
 pub mod TreeLaws
 pub mod AddedAgain
 -- what is written and read

@@ -14,10 +14,10 @@ use Rattle.model.specs.Forest.{Key, sameKey, Forest, empty, position, chain, ad
 use Rattle.model.specs.Tree.{DependencyPosition, dependencyKey, mergePosition, rootPosition}
 use Rattle.tree.specs.declared.Way.{Way}
 use Rattle.tree.specs.declared.Left.{Left}
-use Rattle.tree.specs.Flat.{grow}
+use Rattle.laws.specs.Flat.{grow}
 use Rattle.tree.specs.Words.{positionsFrom}
 use Rattle.tree.specs.Walk.{walkBy, bitsOf, pathAt, Walks}
-use Rattle.tree.proofs.FlatLaws.{grow-enter}
+use Rattle.laws.specs.FlatLaws.{grow-enter}
 use Rattle.tree.specs.Tree.{countIn, nodesOf, forestOf, height, Held, entered, Leaves, Descends, Appends, Adds}
 
 -- The height.

@@ -19,10 +19,10 @@ use Rattle.writer.specs.Writes.{Writes, pathHeadBytes}
 use Rattle.writer.proofs.Bytes.{path-head-length, writes-none, writes-as, Coming, coming-start, coming-more, coming-over, coming-room, coming-as}
 use Rattle.tree.specs.declared.Way.{Way}
 use Rattle.tree.specs.declared.Written.{Written}
-use Rattle.tree.specs.Flat.{grow, flatFirsts}
+use Rattle.laws.specs.Flat.{grow, flatFirsts}
 use Rattle.tree.specs.Words.{parentIn, placeIn, accessIn, positionOf, nodeOf, nodesFrom}
 use Rattle.tree.specs.Walk.{wayPositions}
-use Rattle.tree.proofs.FlatLaws.{flat-firsts}
+use Rattle.laws.specs.FlatLaws.{flat-firsts}
 use Rattle.tree.specs.Tree.{
   countIn,
   nodesOf,

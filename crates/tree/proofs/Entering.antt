@@ -15,7 +15,7 @@ use Rattle.model.specs.Tree.{DependencyPosition, mergePosition}
 use Rattle.entries.specs.declared.PropertyAccessType.{PropertyAccessType}
 use Rattle.tree.specs.declared.Way.{Way}
 use Rattle.tree.specs.declared.Left.{Left}
-use Rattle.tree.specs.Flat.{Node, fresh}
+use Rattle.laws.specs.Flat.{Node, fresh}
 use Rattle.tree.specs.Words.{parentIn, placeIn, accessIn, pack, positionAs, positionOf, nodeOf, nodesFrom, mergedWord}
 use Rattle.tree.specs.Walk.{wayPositions}
 use Rattle.tree.specs.Tree.{countIn, nodesOf, Sized, entered, matches, restOf, Leaves, Descends, Appends}

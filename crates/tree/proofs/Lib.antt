@@ -1,4 +1,3 @@
-pub mod FlatLaws
 pub mod Packed
 pub mod Walking
 pub mod Entering

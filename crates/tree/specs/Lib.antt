@@ -1,4 +1,3 @@
-pub mod Flat
 pub mod Words
 pub mod Walk
 pub mod Tree

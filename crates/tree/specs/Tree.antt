@@ -24,7 +24,7 @@ use Rattle.tree.specs.declared.Position.{Position}
 use Rattle.tree.specs.declared.Way.{Way}
 use Rattle.tree.specs.declared.Written.{Written}
 use Rattle.writer.specs.Writes.{Writes}
-use Rattle.tree.specs.Flat.{Node, grow, fresh, enter, flatFirsts}
+use Rattle.laws.specs.Flat.{Node, grow, fresh, enter, flatFirsts}
 use Rattle.tree.specs.Words.{parentIn, positionsFrom, nodesFrom}
 use Rattle.tree.specs.Walk.{walkBy, bitsOf, pathAt, wayPositions}
 

@@ -17,7 +17,7 @@ use Rattle.model.specs.Forest.{identifierKey}
 use Rattle.model.specs.Tree.{DependencyPosition, stepTo}
 use Rattle.job.specs.Head.{readPathHead}
 use Rattle.job.specs.declared.PathHead.{PathHead}
-use Rattle.tree.specs.Flat.{Node}
+use Rattle.laws.specs.Flat.{Node}
 
 -- The head that was read; the fields are 0 where none can be read.
 abbrev pub headOr : Read PathHead → PathHead

@@ -8,7 +8,7 @@ use mathlib.Core.List.{List, [], _∷_}
 use lib.Dec.{eqb}
 use Rattle.model.specs.Tests.{by-cond, decide, and-first, eqb-same, eqb-true, eqb-apart}
 use Rattle.model.specs.Forest.{Key, sameKey, Forest, empty, position, chain, add, firsts}
-use Rattle.tree.specs.Flat.{Node, grow, fresh, flatFirsts, enter}
+use Rattle.laws.specs.Flat.{Node, grow, fresh, flatFirsts, enter}
 
 module _ {P : Type 0} (test : P → Bool) where
   pub flat-firsts : (xs : List (Node P)) (i p : ℕ) → flatFirsts test xs i p ≡ firsts test (grow xs i p)
