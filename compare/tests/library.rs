@@ -117,6 +117,17 @@ fn some_jobs_agree_with_the_rust() {
     assert_eq!(generated_jobs(&mut comparison, &asked).unwrap().jobs, 1500);
 }
 
+/// How many nodes a job has in the end, where it is accepted.
+#[cfg(reference)]
+fn nodes(job: &[u8]) -> Option<usize> {
+    use compare::job::limits;
+    use compare::oracle::Oracle;
+    use compare::propagation::Propagation;
+
+    let both = Oracle::open().unwrap().both(Propagation::Existing, job, limits::OUT_BYTES);
+    both.answer.ok().and(both.counts).map(|counts| counts.nodes)
+}
+
 #[cfg(reference)]
 #[test]
 fn times_are_measured_and_plotted() {
@@ -129,8 +140,9 @@ fn times_are_measured_and_plotted() {
     let svg = plot::svg(&[(job.len(), times), (10 * job.len(), times)]);
     assert!(svg.starts_with("<svg") && svg.ends_with("</svg>\n") && svg.matches("<circle").count() == 6);
     assert!((geometric_mean([2.0, 8.0]) - 4.0).abs() < 1e-9);
-    let all = classes::classes(1, 2, |_| true);
+    let all = classes::classes(1, 2, nodes);
     assert!(all.iter().all(|class| class.jobs.len() == 2));
+    assert_eq!(all.last().unwrap().name, classes::REFUSED);
 }
 
 #[cfg(reference)]
@@ -141,7 +153,7 @@ fn what_the_rust_has_not_is_timed_beside_the_harness() {
     use compare::operation::Operation;
     use compare::oracle::Oracle;
 
-    let timed = [(Operation::Thin, thin_classes(1, 2)), (Operation::StrictAnswer, classes(1, 2, |_| true))];
+    let timed = [(Operation::Thin, thin_classes(1, 2)), (Operation::StrictAnswer, classes(1, 2, nodes))];
     for (operation, classes) in timed {
         let mut timer = BesideTimer::new(Oracle::open().unwrap(), operation, 1);
         for class in classes {

@@ -1,6 +1,6 @@
 //! Times operations that the Rust has not: the harness's own stands beside the library.
 
-use super::{MOST_TIME, nanoseconds, time_library};
+use super::{MOST_TIME, geometric_mean, nanoseconds, time_library};
 use crate::operation::Operation;
 use crate::oracle::Oracle;
 use std::hint::black_box;
@@ -29,10 +29,10 @@ impl BesideTimer {
         Self { oracle, operation, out: vec![0; operation.least_bytes()], repeat }
     }
 
-    /// The mean over the jobs.
+    /// The geometric mean over the jobs.
     pub fn mean(&mut self, jobs: &[Vec<u8>]) -> BesideTimes {
         let all: Vec<BesideTimes> = jobs.iter().map(|job| self.time(job)).collect();
-        let mean = |of: fn(&BesideTimes) -> f64| all.iter().map(of).sum::<f64>() / all.len() as f64;
+        let mean = |of: fn(&BesideTimes) -> f64| geometric_mean(all.iter().map(of));
         BesideTimes { library: mean(|times| times.library), harness: mean(|times| times.harness) }
     }
 

@@ -1,9 +1,9 @@
-//! The jobs that are timed, by class. All are accepted.
+//! The jobs that are timed, by class. They are those of the comparison's generator, in its order and
+//! with its weights; a class only says which of them it takes, by what is in a job.
 
-use crate::generate::graph::Graph;
 use crate::generate::{edges, generate};
-use crate::job::{Block, Entry, Job, Path, Property, limits};
-use crate::prng::Prng;
+use crate::job::{Block, Job, Path, limits};
+use crate::reader::read_job;
 use crate::worst;
 
 /// Jobs of a class in the timing.
@@ -12,137 +12,71 @@ pub struct Class {
     pub jobs: Vec<Vec<u8>>,
 }
 
-/// What the jobs of a class are made of; of each pair a number between.
-struct Shape {
-    blocks: (usize, usize),
-    graph: fn(&mut Prng, usize) -> Graph,
-    identifiers: usize,
-    names: usize,
-    longest: usize,
-    /// How many entries in a hundred are optional.
-    optional: usize,
-    assumed: (usize, usize),
-    candidates: (usize, usize),
+/// A class of accepted jobs: which ones it has, by the job and by its nodes at the end.
+struct Kind {
+    name: &'static str,
+    has: fn(&Job, usize) -> bool,
 }
 
-/// A component: a few conditions and perhaps a loop, short paths over some props and state.
-const SMALL: Shape = Shape {
-    blocks: (5, 12),
-    graph: structured,
-    identifiers: 4,
-    names: 8,
-    longest: 3,
-    optional: 20,
-    assumed: (0, 3),
-    candidates: (2, 8),
-};
+const KINDS: &[Kind] = &[
+    Kind { name: "1 to 12 blocks", has: |job, _| job.blocks.len() <= 12 },
+    Kind { name: "13 to 48 blocks", has: |job, _| (13..=48).contains(&job.blocks.len()) },
+    Kind { name: "49 to 128 blocks", has: |job, _| 49 <= job.blocks.len() },
+    Kind { name: "dense graphs", has: |job, _| 8 * job.blocks.len() <= predecessors(job) },
+    Kind { name: "many candidates", has: |job, _| 16 <= job.candidates.len() },
+    Kind { name: "many optional chains", has: |job, _| 24 <= optional_chains(job) },
+    Kind { name: "near 512 nodes", has: |_, nodes| 448 <= nodes },
+];
 
-const LARGE: Shape = Shape { blocks: (64, 128), identifiers: 12, names: 12, candidates: (8, 32), ..SMALL };
+/// The name of the class of refused jobs.
+pub const REFUSED: &str = "refused";
 
-const DENSE: Shape = Shape {
-    blocks: (48, 96),
-    graph: dense,
-    identifiers: 6,
-    names: 8,
-    assumed: (1, 4),
-    candidates: (4, 16),
-    ..SMALL
-};
+fn predecessors(job: &Job) -> usize {
+    job.blocks.iter().map(|block| block.predecessors.len()).sum()
+}
 
-const OPTIONAL: Shape = Shape {
-    blocks: (8, 24),
-    identifiers: 2,
-    names: 2,
-    longest: 6,
-    optional: 70,
-    assumed: (4, 10),
-    candidates: (8, 24),
-    ..SMALL
-};
+/// How many assumed paths, those of raw reads included, have an optional entry.
+fn optional_chains(job: &Job) -> usize {
+    let is_chain = |path: &&Path| path.entries.iter().any(|entry| entry.optional);
+    let paths = |block: &Block| {
+        block.assumed.iter().chain(block.reads.iter().map(|read| &read.path)).filter(is_chain).count()
+    };
+    job.blocks.iter().map(paths).sum()
+}
 
-/// Fork, sides and join, or a chain, or a loop, one after the other.
-fn structured(prng: &mut Prng, size: usize) -> Graph {
-    let mut graph: Graph = vec![vec![]];
-    while graph.len() < size {
-        let last = graph.len() - 1;
-        let left = size - graph.len();
-        match prng.below(4) {
-            0 | 1 if left >= 3 => {
-                graph.extend([vec![last], vec![last], vec![last + 1, last + 2]]);
+/// The classes, with `count` jobs of each: those of accepted jobs in order, and the refused ones
+/// last. What is in several is timed in each. `nodes` says how many nodes a job has in the end, and
+/// nothing of a refused one.
+pub fn classes(seed: u64, count: usize, mut nodes: impl FnMut(&[u8]) -> Option<usize>) -> Vec<Class> {
+    let mut classes: Vec<Class> = KINDS.iter().map(|kind| Class { name: kind.name, jobs: vec![] }).collect();
+    let mut refused = Class { name: REFUSED, jobs: vec![] };
+    for number in 0.. {
+        let bytes = generate(seed, number, None).job;
+        let (job, nodes) = match (read_job(&bytes, limits::OUT_BYTES), nodes(&bytes)) {
+            (Ok(job), Some(nodes)) => (job, nodes),
+            _ => {
+                add(&mut refused, count, &bytes);
+                continue;
             }
-            2 if left >= 2 => {
-                // The head of a loop comes after the block before it and after the loop's end.
-                graph.extend([vec![last, last + 2], vec![last + 1]]);
-            }
-            _ => graph.push(vec![last]),
-        }
-    }
-    graph
-}
-
-/// Each block after half of the blocks before it and a few of those behind it.
-fn dense(prng: &mut Prng, size: usize) -> Graph {
-    let mut graph: Graph = (0..size).map(|n| (0..n).filter(|_| prng.chance(50)).collect()).collect();
-    for (place, predecessors) in graph.iter_mut().enumerate() {
-        predecessors.extend((place..size).filter(|_| prng.chance(3)));
-        predecessors.truncate(limits::PREDECESSORS);
-    }
-    graph
-}
-
-impl Shape {
-    fn path(&self, prng: &mut Prng) -> Path {
-        let length = prng.below(self.longest + 1);
-        let entry = |prng: &mut Prng| Entry {
-            optional: prng.chance(self.optional),
-            property: Property::Name(prng.below(self.names) as u64),
-            span: prng.between(1, 5000) as u32,
         };
-        Path {
-            identifier: prng.below(self.identifiers) as u32,
-            reactive: prng.chance(50),
-            span: prng.between(1, 5000) as u32,
-            entries: (0..length).map(|_| entry(prng)).collect(),
+        for (kind, class) in KINDS.iter().zip(&mut classes) {
+            if (kind.has)(&job, nodes) {
+                add(class, count, &bytes);
+            }
+        }
+        if classes.iter().chain([&refused]).all(|class| class.jobs.len() == count) {
+            break;
         }
     }
-
-    fn paths(&self, prng: &mut Prng, (least, most): (usize, usize)) -> Vec<Path> {
-        (0..prng.between(least, most)).map(|_| self.path(prng)).collect()
-    }
-
-    fn job(&self, prng: &mut Prng) -> Vec<u8> {
-        let size = prng.between(self.blocks.0, self.blocks.1);
-        let graph = (self.graph)(prng, size);
-        let blocks: Vec<Block> = (0..size)
-            .map(|n| Block {
-                id: n as u32,
-                predecessors: graph[n].iter().map(|&place| place as u32).collect(),
-                reads: vec![],
-                assumed: self.paths(prng, self.assumed),
-            })
-            .collect();
-        let scope = prng.below(size) as u32;
-        Job { scope, blocks, candidates: self.paths(prng, self.candidates) }.to_bytes()
-    }
+    classes.push(refused);
+    classes
 }
 
-/// The classes, with `count` jobs of each. A job that `accepted` turns down is passed over.
-pub fn classes(seed: u64, count: usize, mut accepted: impl FnMut(&[u8]) -> bool) -> Vec<Class> {
-    let mut class = |name, stream: u64, make: &dyn Fn(&mut Prng) -> Vec<u8>| {
-        let jobs = (0..).map(|n| make(&mut Prng::new(seed, 1000 * stream + n)));
-        Class { name, jobs: jobs.filter(|job| accepted(job)).take(count).collect() }
-    };
-    let near = |prng: &mut Prng| {
-        let class = prng.pick(&["nodes-entered", "nodes-reduced"]);
-        generate(seed, prng.next(), Some(class)).job
-    };
-    vec![
-        class("small components", 1, &|prng| SMALL.job(prng)),
-        class("large", 2, &|prng| LARGE.job(prng)),
-        class("dense graphs", 3, &|prng| DENSE.job(prng)),
-        class("many optional chains", 4, &|prng| OPTIONAL.job(prng)),
-        class("near 512 nodes", 5, &near),
-    ]
+/// Adds a job where the class has fewer than `count`.
+fn add(class: &mut Class, count: usize, job: &[u8]) {
+    if class.jobs.len() < count {
+        class.jobs.push(job.to_vec());
+    }
 }
 
 /// Jobs for the timing of thin jobs alone: with many repeats, and with the most comparisons.

@@ -48,18 +48,6 @@ impl Times {
         self.rust_reading = self.rust_reading.min(other.rust_reading);
         self.rust_writing = self.rust_writing.min(other.rust_writing);
     }
-
-    /// The mean of the times of some jobs.
-    pub fn mean(all: &[Self]) -> Self {
-        let mean = |of: fn(&Self) -> f64| all.iter().map(of).sum::<f64>() / all.len() as f64;
-        Self {
-            library: mean(|times| times.library),
-            library_reading: mean(|times| times.library_reading),
-            rust_stage: mean(|times| times.rust_stage),
-            rust_reading: mean(|times| times.rust_reading),
-            rust_writing: mean(|times| times.rust_writing),
-        }
-    }
 }
 
 /// Times jobs. Arena and buffers are kept from one job to the next.

@@ -34,7 +34,7 @@ mod timing {
     use std::fs;
 
     const REPEAT: usize = 15;
-    const EACH: usize = 60;
+    const EACH: usize = 100;
     const SPREAD: usize = 300;
 
     /// The size of a job in bytes, and its times.
@@ -42,34 +42,30 @@ mod timing {
 
     pub fn run(options: &Options) -> Result<(), Failure> {
         let mut oracle = Oracle::open().map_err(failed)?;
-        let mut accepted = |job: &[u8]| oracle.answer(Propagation::Existing, job, limits::OUT_BYTES).is_ok();
         let seed = options.seed.unwrap_or(SEED);
         let repeat = options.repeat.unwrap_or(REPEAT);
+        let mut classes = classes(seed, EACH, |job| nodes(&mut oracle, job));
+        let refused = classes.pop().expect("the refused jobs are the last class");
         let mut timer = Timer::new(repeat);
+        let mut all = Vec::new();
         head()?;
-        let (mut ratios, mut all) = (Vec::new(), Vec::new());
-        let classes = classes(seed, EACH, &mut accepted);
         for class in &classes {
             let timed = time_jobs(&mut timer, class.name, &class.jobs);
-            ratios.push(row(class.name, &timed)?);
+            row(class.name, &timed)?;
             all.extend(timed);
         }
         let (name, job, tried) = slowest(Operation::Answer)?;
         let timed = time_jobs(&mut timer, "slowest found", &[job]);
-        ratios.push(row("slowest found", &timed)?);
+        row("slowest found", &timed)?;
         all.extend(timed);
-        let mean = |of: fn(&[f64; 2]) -> f64| geometric_mean(ratios.iter().map(of));
-        say!("{:<76} {:>7.1} {:>7.1}", "geometric mean of the classes", mean(|r| r[0]), mean(|r| r[1]))?;
         say!("the slowest of {tried} accepted jobs at the limits: {name}")?;
+        refused_row(&refused, repeat)?;
         strict_rows(&classes, repeat)?;
         let for_thin: Vec<Class> = classes.into_iter().chain(thin_classes(seed, EACH)).collect();
         thin_rows(&for_thin, repeat)?;
         if let Some(file) = &options.plot {
-            all.extend(time_jobs(
-                &mut timer,
-                "further jobs for the plot",
-                &spread(seed, SPREAD, &mut accepted),
-            ));
+            let spread = spread(seed, SPREAD, |job| nodes(&mut oracle, job).is_some());
+            all.extend(time_jobs(&mut timer, "further jobs for the plot", &spread));
             fs::write(file, plot::svg(&all))
                 .map_err(|why| failed(format!("{file} cannot be written: {why}")))?;
             say!("the plot of {} jobs is in {file}", all.len())?;
@@ -77,9 +73,15 @@ mod timing {
         Ok(())
     }
 
+    /// How many nodes a job has in the end, where it is accepted.
+    fn nodes(oracle: &mut Oracle, job: &[u8]) -> Option<usize> {
+        let both = oracle.both(Propagation::Existing, job, limits::OUT_BYTES);
+        both.answer.ok().and(both.counts).map(|counts| counts.nodes)
+    }
+
     fn head() -> Result<(), Failure> {
         say!(
-            "{:<22} {:>9} {:>10} {:>10} {:>11} {:>10} {:>7} {:>7}",
+            "{:<22} {:>9} {:>10} {:>10} {:>11} {:>10} {:>7} {:>7} {:>7}",
             "microseconds per job",
             "bytes",
             "library",
@@ -87,6 +89,7 @@ mod timing {
             "Rust stage",
             "Rust all",
             "stage",
+            "least",
             "all"
         )
     }
@@ -95,7 +98,7 @@ mod timing {
         Ok(BesideTimer::new(Oracle::open().map_err(failed)?, operation, repeat))
     }
 
-    /// Prints the mean times of strict answers beside those of answers. The Rust has no strict
+    /// Prints the times of strict answers beside those of answers. The Rust has no strict
     /// propagation: the harness's is beside.
     fn strict_rows(classes: &[Class], repeat: usize) -> Result<(), Failure> {
         let (name, job, tried) = slowest(Operation::StrictAnswer)?;
@@ -119,7 +122,7 @@ mod timing {
         say!("the slowest of {tried} jobs at the limits that are accepted strictly: {name}")
     }
 
-    /// Prints the mean times of thin jobs. The Rust makes none: the harness's writer is beside.
+    /// Prints the times of thin jobs. The Rust makes none: the harness's writer is beside.
     fn thin_rows(classes: &[Class], repeat: usize) -> Result<(), Failure> {
         let mut timer = beside(Operation::Thin, repeat)?;
         say!("{:<22} {:>9} {:>10} {:>18}", "thin, microseconds", "bytes", "library", "harness's writer")?;
@@ -144,19 +147,28 @@ mod timing {
         jobs.iter().enumerate().map(time).collect()
     }
 
-    /// Prints the mean times of a class, and gives its two ratios.
-    fn row(name: &str, timed: &[Timed]) -> Result<[f64; 2], Failure> {
+    /// Prints the times and ratios of a class, the geometric means over its jobs, and the least of
+    /// the ratios "stage".
+    fn row(name: &str, timed: &[Timed]) -> Result<(), Failure> {
         let bytes = timed.iter().map(|(bytes, _)| bytes).sum::<usize>() / timed.len();
-        let times = Times::mean(&timed.iter().map(|(_, times)| *times).collect::<Vec<_>>());
-        let ratios = [times.rust_stage / times.library, times.rust() / times.library];
+        let mean = |of: fn(&Times) -> f64| geometric_mean(timed.iter().map(|(_, times)| of(times)));
         let [library, reading, stage, all] =
-            [times.library, times.library_reading, times.rust_stage, times.rust()].map(|time| time / 1000.0);
+            [mean(|t| t.library), mean(|t| t.library_reading), mean(|t| t.rust_stage), mean(Times::rust)]
+                .map(|time| time / 1000.0);
+        let least = timed.iter().map(|(_, t)| t.rust_stage / t.library).fold(f64::INFINITY, f64::min);
         say!(
-            "{name:<22} {bytes:>9} {library:>10.2} {reading:>10.2} {stage:>11.2} {all:>10.2} {:>7.1} {:>7.1}",
-            ratios[0],
-            ratios[1]
-        )?;
-        Ok(ratios)
+            "{name:<22} {bytes:>9} {library:>10.2} {reading:>10.2} {stage:>11.2} {all:>10.2} {:>7.1} {least:>7.1} {:>7.1}",
+            stage / library,
+            all / library
+        )
+    }
+
+    /// Prints the times of refused jobs, most of which are decided while they are read.
+    fn refused_row(class: &Class, repeat: usize) -> Result<(), Failure> {
+        let times = beside(Operation::Answer, repeat)?.mean(&class.jobs);
+        let [library, harness] = [times.library, times.harness].map(|time| time / 1000.0);
+        say!("{:<22} {:>9} {:>10} {:>18}", "refused, microseconds", "bytes", "library", "harness and Rust")?;
+        say!("{:<22} {:>9} {library:>10.2} {harness:>18.2}", class.name, mean_bytes(&class.jobs))
     }
 
     /// The job for which the library's operation takes longest, with its name, and how many were
