@@ -4,7 +4,7 @@ use Prim.Native.Nat.{ℕ, zero, suc, _+_, _-_, _≤_, _<_}
 use native.Mathlib.Omega.{arith}
 use native.Mathlib.Nat.{zero-add}
 use mathlib.Core.Path.{_≡_, refl, sym, ap, subst, _∙_}
-use mathlib.Core.Bool.{Bool, true, false}
+use mathlib.Core.Bool.{Bool, true, false, not}
 use mathlib.Core.List.{List, [], _∷_, map}
 use lib.ListN.{length, getD, set, drop, replicate}
 use lib.Seq.{getD-drop}
@@ -12,7 +12,7 @@ use lib.Dec.{eqb, leb, ltb, leb→le, le→leb}
 use Rattle.entries.specs.declared.BlockId.{BlockId}
 use Rattle.model.specs.Lists.{select, anyOf}
 use Rattle.model.specs.ListLaws.{All, all-map, all-getD, NoRepeats}
-use Rattle.model.specs.Tests.{decide, never, passes-test, test-passes, eqb-same, eqb-equal, eqb-apart, ltb-true, ltb-false}
+use Rattle.model.specs.Tests.{decide, never, passes-test, test-passes, eqb-same, eqb-equal, eqb-true, eqb-apart, ltb-true, ltb-false}
 use Rattle.model.specs.ReadingBytes.{got, readMany}
 use Rattle.model.specs.Job.{Block, Job, readBlockId, sameBlock, containsId, idsOf}
 use Rattle.model.specs.Rounds.{placesFrom, jobOrder}
@@ -22,7 +22,7 @@ use Rattle.job.specs.Kept.{BlocksAt, blocksOf}
 use Rattle.job.proofs.Many.{many-all}
 use Rattle.job.proofs.BlocksAt.{blocks-read, job-accepted, same-job, block-there}
 use Rattle.job.proofs.RecordParts.{block-parts}
-use Rattle.laws.specs.Membership.{Member}
+use Rattle.laws.specs.Membership.{Member, some-map, any-some, some-any}
 use Rattle.laws.specs.GraphLaws.{
   ProperBlocks,
   proper-blocks,
@@ -31,6 +31,8 @@ use Rattle.laws.specs.GraphLaws.{
   known-at,
   same-block,
   predecessors-inside,
+  predecessor-succeeds,
+  successor-predecessor,
   predecessors-once,
   successors-once,
 }
@@ -43,6 +45,15 @@ use Rattle.edges.proofs.Noting.{row-noted}
 use Rattle.edges.proofs.Filling.{row-few}
 use Rattle.edges.proofs.Ordering.{sort-all, places-below}
 use Rattle.edges.proofs.Graphs.{ranks-fit, ranked-inside, size-is, degree-is, predecessor-is, rank-is, predecessors-are, bit-below, successors-are}
+
+-- Blocks among neighbours.
+
+member-of : (b : ℕ) {bs cs : List ℕ} → bs ≡ cs → anyOf (eqb b) bs ≡ true → Member b cs
+member-of b {bs} e h = subst (Member b) e (some-map (λ c. eqb b c ≡ true) (λ c. c ≡ b) (λ c t. sym (eqb-true b c t)) bs (any-some (eqb b) bs h))
+
+among : (b : ℕ) {bs cs : List ℕ} → cs ≡ bs → Member b cs → anyOf (eqb b) bs ≡ true
+among b {bs} {cs} e m = subst (λ (xs : List ℕ). anyOf (eqb b) xs ≡ true) e
+    (some-any (eqb b) cs (some-map (λ c. c ≡ b) (λ c. eqb b c ≡ true) (λ c t. eqb-equal b c (sym t)) cs m))
 
 -- Ids by the numbers noted.
 
@@ -214,6 +225,21 @@ module _ (s ids places : List ℕ) (n : ℕ) (job : NotedJob s ids places n) (g�
     held-once true b l = subst NoRepeats (sym (held-successors b l))
         (successors-once (job .job .blocks) b)
 
+    held-both-ways : (backward : Bool) (b c : ℕ) → b < n → c < n → anyOf (eqb b) (neighbours (set g₃ 10496 n) backward c) ≡ true
+        → anyOf (eqb c) (neighbours (set g₃ 10496 n) (not backward) b) ≡ true
+    held-both-ways false b c l h e =
+        let bs = job .job .blocks in
+        let count = job .blocks .count in
+        among c (sym (held-successors b l))
+        (predecessor-succeeds bs (proper s ids places n (job .job) (job .blocks) (job .numbers)) b c (omega arith)
+        (member-of b (held-predecessors c h) e))
+    held-both-ways true b c l h e =
+        let bs = job .job .blocks in
+        let count = job .blocks .count in
+        among c (sym (held-predecessors b l))
+        (successor-predecessor bs (proper s ids places n (job .job) (job .blocks) (job .numbers)) c b (omega arith)
+        (member-of b (held-successors c h) e))
+
     job-held : HoldsGraph (job .job .blocks) (set g₃ 10496 n)
     job-held =
         let at = job .blocks in
@@ -241,6 +267,7 @@ module _ (s ids places : List ℕ) (n : ℕ) (job : NotedJob s ids places n) (g�
             low = λ b r l h. below b r (omega arith) (omega arith);
           };
           once = λ backward b l. held-once backward b (omega arith);
+          both-ways = λ backward b c l h. held-both-ways backward b c (omega arith) (omega arith);
           size = size ∙ sym count;
           predecessors = λ b l. held-predecessors b (omega arith);
           successors = λ b l. held-successors b (omega arith);

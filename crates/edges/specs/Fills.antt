@@ -7,7 +7,7 @@ use lib.ListN.{length, getD}
 use Rattle.model.specs.Job.{Block, Job}
 use Rattle.model.specs.Stage.{blockAt, predecessorsOf, successorsOf}
 use Rattle.job.specs.Kept.{BlocksAt}
-use Rattle.graph.specs.Bytes.{sizeIn, neighbours, GraphFits, NeighboursOnce}
+use Rattle.graph.specs.Bytes.{sizeIn, neighbours, GraphFits, NeighboursOnce, NeighboursMutual}
 
 -- The numbers of the blocks' ids are noted.
 abbrev pub IdsAt : List ℕ → Job → Type 0
@@ -21,10 +21,11 @@ pub record NotedJob (s ids places : List ℕ) (n : ℕ) : Type 0 where
   pub few : n ≤ 128
 
 -- The bytes hold the graph of these blocks, "predecessors in job order", "successors by ascending
--- id", and can be read as one, and no neighbour of a block stands twice.
+-- id", and can be read as one; no neighbour of a block stands twice, and neighbours are mutual.
 pub record HoldsGraph (bs : List Block) (g : List ℕ) : Type 0 where
   pub fits : GraphFits g
   pub once : NeighboursOnce g
+  pub both-ways : NeighboursMutual g
   pub size : sizeIn g ≡ length bs
   pub predecessors : (b : ℕ) → b < length bs → neighbours g false b ≡ predecessorsOf bs b
   pub successors : (b : ℕ) → b < length bs → neighbours g true b ≡ successorsOf bs b

@@ -2,10 +2,11 @@
 -- ascending id, and the successors of each as bits.
 use Prim.Native.Nat.{ℕ, _+_, _*_, _-_, _/_, _%_, _≤_, _<_}
 use mathlib.Core.Path.{_≡_}
-use mathlib.Core.Bool.{Bool, true, false}
+use mathlib.Core.Bool.{Bool, true, false, not}
 use mathlib.Core.List.{List, [], _∷_, map}
 use lib.ListN.{getD}
-use Rattle.model.specs.Lists.{select}
+use lib.Dec.{eqb}
+use Rattle.model.specs.Lists.{select, anyOf}
 use Rattle.model.specs.Rounds.{placesFrom}
 use Rattle.model.specs.Propagation.{Graph}
 use Rattle.model.specs.ListLaws.{NoRepeats}
@@ -71,6 +72,11 @@ pub record GraphFits (g : List ℕ) : Type 0 where
 -- No neighbour of a block stands twice among its neighbours.
 abbrev pub NeighboursOnce : List ℕ → Type 0
 NeighboursOnce g = (backward : Bool) (b : ℕ) → b < sizeIn g → NoRepeats (neighbours g backward b)
+
+-- A block that is another's neighbour in one direction has that for a neighbour in the other.
+abbrev pub NeighboursMutual : List ℕ → Type 0
+NeighboursMutual g = (backward : Bool) (b c : ℕ) → b < sizeIn g → c < sizeIn g → anyOf (eqb b) (neighbours g backward c) ≡ true
+    → anyOf (eqb c) (neighbours g (not backward) b) ≡ true
 
 -- k is the next neighbour, and the others come from number `next` on
 pub record Next (g : List ℕ) (backward : Bool) (b from k next : ℕ) : Type 0 where

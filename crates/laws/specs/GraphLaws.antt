@@ -229,6 +229,10 @@ module _ (bs : List Block) (ok : ProperBlocks bs) where
       (some-of (λ k. (containsId (blockAt bs k .predecessors) (blockAt bs b .id) ≡ true) × P k) (jobOrder (length bs)) c
       (member-contains (blockAt bs c .predecessors) (blockAt bs b .id) n, p) (order-member (length bs) c h)))
 
+  -- so each is a successor of its predecessors
+  pub predecessor-succeeds : (b c : ℕ) → c < length bs → Member b (predecessorsOf bs c) → Member c (successorsOf bs b)
+  predecessor-succeeds b c l m = precedes-successor b (λ k. k ≡ c) c l refl (predecessor-precedes b c m)
+
   pub no-successor : (b : ℕ) → All (λ c. Member (blockAt bs b .id) (c .predecessors) → ⊥) bs → successorsOf bs b ≡ []
   unfolding successorsOf byAscendingId
   no-successor b none =
@@ -245,7 +249,7 @@ module _ (bs : List Block) (ok : ProperBlocks bs) where
 
   -- Going on by successors from a block of the job is going back by predecessors.
 
-  successor-predecessor : (b c : ℕ) → b < length bs → Member c (successorsOf bs b) → Member b (predecessorsOf bs c)
+  pub successor-predecessor : (b c : ℕ) → b < length bs → Member c (successorsOf bs b) → Member b (predecessorsOf bs c)
   successor-predecessor b c h m =
       subst (λ k. Member k (predecessorsOf bs c)) (place-own bs b (ok .distinct) h)
       (precedes-predecessor (blockAt bs b) c (member-getD bs b _ h) (successor-precedes b c m))

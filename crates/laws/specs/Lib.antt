@@ -8,6 +8,7 @@ pub mod VisitOrder
 pub mod WalksAgree
 pub mod GraphLaws
 pub mod GraphsAgree
+pub mod WalkSteps
 -- the trees
 pub mod ForestLaws
 pub mod Flat

@@ -8,11 +8,12 @@ use mathlib.Core.Logic.{_⊎_, inl, inr}
 use mathlib.Core.Bool.{Bool, true, false, _&&_, not, cond}
 use mathlib.Core.List.{List, [], _∷_, _++_, map}
 use lib.ListN.{length, getD, set, length-set, take}
+use lib.Dec.{ltb}
 use lib.Seq.{append-snoc, take-set-le, take-suc-set}
 use Rattle.model.specs.Sets.{NodeSet}
 use Rattle.model.specs.ListLaws.{All, all-map, all-append, NoRepeats, no-repeats-select}
 use Rattle.model.specs.Tests.{by-cond, decide}
-use Rattle.model.specs.Visit.{Unmarked, isDone}
+use Rattle.model.specs.Visit.{TraversalState, Unmarked, isDone}
 use Rattle.model.specs.Propagation.{setOf, doneNeighbours, intersectionOf}
 use Rattle.model.specs.Strict.{allDone, strictNeighbours}
 use Rattle.model.specs.StrictLaws.{strict-joins, strict-none}
@@ -22,7 +23,8 @@ use Rattle.graph.specs.Bytes.{sizeIn, neighboursFrom, neighbours, NeighboursOnc
 use Rattle.propagation.specs.declared.Joining.{Joining}
 use Rattle.propagation.specs.declared.Joining.the-variants.{DoneNeighbours, StrictNeighbours}
 use Rattle.propagation.specs.Rules.{ruleOf, asksAll}
-use Rattle.propagation.specs.Joins.{marksOf, setsToJoin, neighboursToJoin, Gathers}
+use Rattle.propagation.specs.Order.{doneBefore}
+use Rattle.propagation.specs.Joins.{setsToJoin, neighboursToJoin, Gathers}
 use Rattle.propagation.proofs.Marks.{below-done, is-done}
 
 append-none : {A : Type 0} (xs : List A) → xs ++ [] ≡ xs
@@ -30,70 +32,68 @@ append-none [] = refl
 append-none (x ∷ xs) = ap (λ (l : List _). x ∷ l) (append-none xs)
 
 -- A rule chooses none twice.
-rule-once : (joining : Joining) (n : ℕ) (marks bs : List ℕ) → NoRepeats bs → NoRepeats (ruleOf joining (marksOf n marks) bs)
+rule-once : (joining : Joining) (ms : List TraversalState) (bs : List ℕ) → NoRepeats bs → NoRepeats (ruleOf joining ms bs)
 unfolding doneNeighbours strictNeighbours
-rule-once DoneNeighbours n marks bs o = no-repeats-select (λ b. isDone (getD (marksOf n marks) b Unmarked)) bs o
-rule-once StrictNeighbours n marks bs o = by-cond NoRepeats (allDone (marksOf n marks) bs) (λ e. o) (λ e. tt)
+rule-once DoneNeighbours ms bs o = no-repeats-select (λ b. isDone (getD ms b Unmarked)) bs o
+rule-once StrictNeighbours ms bs o = by-cond NoRepeats (allDone ms bs) (λ e. o) (λ e. tt)
 
 -- Whether a neighbour that is not Done is among these and keeps all from joining.
-abbrev keptBack : Joining → ℕ → List ℕ → List ℕ → Bool
-keptBack joining n marks bs = asksAll joining && not (allDone (marksOf n marks) bs)
+abbrev keptBack : Joining → List TraversalState → List ℕ → Bool
+keptBack joining ms bs = asksAll joining && not (allDone ms bs)
 
 -- The rule chooses none where one keeps all back, and else the Done ones.
-rule-is : (joining : Joining) (n : ℕ) (marks bs : List ℕ) → ruleOf joining (marksOf n marks) bs ≡ cond (keptBack joining n marks bs) []
-    (doneNeighbours (marksOf n marks) bs)
-rule-is DoneNeighbours n marks bs = refl
-rule-is StrictNeighbours n marks bs =
-    decide (allDone (marksOf n marks) bs) (λ e. strict-joins (marksOf n marks) bs e ∙ rw e)
-    (λ e. strict-none (marksOf n marks) bs e ∙ rw e)
+rule-is : (joining : Joining) (ms : List TraversalState) (bs : List ℕ) → ruleOf joining ms bs ≡ cond (keptBack joining ms bs) []
+    (doneNeighbours ms bs)
+rule-is DoneNeighbours ms bs = refl
+rule-is StrictNeighbours ms bs = decide (allDone ms bs) (λ e. strict-joins ms bs e ∙ rw e) (λ e. strict-none ms bs e ∙ rw e)
 
 -- one that is Done, or under a rule that does not ask for all, keeps none back
-not-kept : (joining : Joining) (n : ℕ) (marks : List ℕ) (k : ℕ) (bs : List ℕ) → k < n → asksAll joining ≡ false ⊎ 2 ≤ getD marks k 0
-    → keptBack joining n marks (k ∷ bs) ≡ keptBack joining n marks bs
-not-kept joining n marks k bs l (inl e) = rw e
-not-kept joining n marks k bs l (inr done) = rw (is-done n marks k l done)
+not-kept : (joining : Joining) (ms : List TraversalState) (k : ℕ) (bs : List ℕ) → asksAll joining ≡ false ⊎ isDone
+    (getD ms k Unmarked) ≡ true → keptBack joining ms (k ∷ bs) ≡ keptBack joining ms bs
+not-kept joining ms k bs (inl e) = rw e
+not-kept joining ms k bs (inr done) = rw done
 
 -- The loop over a block's neighbours: those from `from` on are still to come.
-pub record Gathering (joining : Joining) (g : List ℕ) (backward : Bool) (b : ℕ) (marks places : List ℕ) (count from : ℕ) : Type 0 where
+pub record Gathering (joining : Joining) (g : List ℕ) (backward : Bool) (b : ℕ) (o places : List ℕ) (count from : ℕ) : Type 0 where
   pub within : from ≤ 128
   pub behind : count ≤ from
   pub long : length places ≡ 128
   pub inside : All (λ k. k < sizeIn g) (take count places)
-  pub rest : cond (keptBack joining (sizeIn g) marks (neighboursFrom g backward b from)) []
-      (take count places ++ doneNeighbours (marksOf (sizeIn g) marks) (neighboursFrom g backward b from))
-      ≡ neighboursToJoin (ruleOf joining) g backward b marks
+  pub rest : cond (keptBack joining (doneBefore (sizeIn g) o b) (neighboursFrom g backward b from)) []
+      (take count places ++ doneNeighbours (doneBefore (sizeIn g) o b) (neighboursFrom g backward b from))
+      ≡ neighboursToJoin (ruleOf joining) g backward b o
 
-pub gathering-start : (joining : Joining) (g : List ℕ) (backward : Bool) (b : ℕ) (marks places : List ℕ) → length places ≡ 128 → Gathering
-    joining g backward b marks places 0 0
-gathering-start joining g backward b marks places long = record {
+pub gathering-start : (joining : Joining) (g : List ℕ) (backward : Bool) (b : ℕ) (o places : List ℕ) → length places ≡ 128 → Gathering
+    joining g backward b o places 0 0
+gathering-start joining g backward b o places long = record {
   within = omega arith;
   behind = omega arith;
   long = long;
   inside = tt;
-  rest = sym (rule-is joining (sizeIn g) marks (neighbours g backward b));
+  rest = sym (rule-is joining (doneBefore (sizeIn g) o b) (neighbours g backward b));
 }
 
-module _ {joining : Joining} {g : List ℕ} {backward : Bool} {b : ℕ} {marks places : List ℕ} {count from : ℕ}
-    (a : Gathering joining g backward b marks places count from) where
+module _ {joining : Joining} {g : List ℕ} {backward : Bool} {b : ℕ} {o places : List ℕ} {count from : ℕ}
+    (a : Gathering joining g backward b o places count from) where
   -- what is to be gathered, by the neighbours that are to come
-  to-come : (bs : List ℕ) → neighboursFrom g backward b from ≡ bs → cond (keptBack joining (sizeIn g) marks bs) []
-      (take count places ++ doneNeighbours (marksOf (sizeIn g) marks) bs) ≡ neighboursToJoin (ruleOf joining) g backward b marks
-  to-come bs e = subst (λ (ks : List ℕ). cond (keptBack joining (sizeIn g) marks ks) []
-      (take count places ++ doneNeighbours (marksOf (sizeIn g) marks) ks) ≡ neighboursToJoin (ruleOf joining) g backward b marks) e (a .rest)
+  to-come : (bs : List ℕ) → neighboursFrom g backward b from ≡ bs → cond (keptBack joining (doneBefore (sizeIn g) o b) bs) []
+      (take count places ++ doneNeighbours (doneBefore (sizeIn g) o b) bs) ≡ neighboursToJoin (ruleOf joining) g backward b o
+  to-come bs e = subst (λ (ks : List ℕ). cond (keptBack joining (doneBefore (sizeIn g) o b) ks) []
+      (take count places ++ doneNeighbours (doneBefore (sizeIn g) o b) ks) ≡ neighboursToJoin (ruleOf joining) g backward b o) e (a .rest)
 
   module _ (distinct : NeighboursOnce g) (here : b < sizeIn g) where
-    gathers : (m : ℕ) (ps : List ℕ) → length ps ≡ 128 → take m ps ≡ neighboursToJoin (ruleOf joining) g backward b marks → m ≤ 128
-        → All (λ k. k < sizeIn g) (take m ps) → Gathers (neighboursToJoin (ruleOf joining) g backward b marks) (sizeIn g) m ps
+    gathers : (m : ℕ) (ps : List ℕ) → length ps ≡ 128 → take m ps ≡ neighboursToJoin (ruleOf joining) g backward b o → m ≤ 128
+        → All (λ k. k < sizeIn g) (take m ps) → Gathers (neighboursToJoin (ruleOf joining) g backward b o) (sizeIn g) m ps
     gathers m ps long same few inside = record {
       few = few;
       long = long;
       same = same;
       inside = inside;
-      once = subst NoRepeats (sym same) (rule-once joining (sizeIn g) marks (neighbours g backward b) (distinct backward b here));
+      once = subst NoRepeats (sym same) (rule-once joining (doneBefore (sizeIn g) o b) (neighbours g backward b) (distinct backward b here));
     }
 
     -- none is to come
-    pub gathered-all : neighboursFrom g backward b from ≡ [] → Gathers (neighboursToJoin (ruleOf joining) g backward b marks) (sizeIn g) count places
+    pub gathered-all : neighboursFrom g backward b from ≡ [] → Gathers (neighboursToJoin (ruleOf joining) g backward b o) (sizeIn g) count places
     unfolding doneNeighbours
     gathered-all none =
         let within = a .within in
@@ -102,18 +102,18 @@ module _ {joining : Joining} {g : List ℕ} {backward : Bool} {b : ℕ} {marks p
         (sym (append-none (take count places)) ∙ ap (λ (t : Bool). cond t [] (take count places ++ [])) (sym (none-kept joining)) ∙ to-come [] none)
         (omega arith) (a .inside)
       where
-        none-kept : (j : Joining) → keptBack j (sizeIn g) marks [] ≡ false
+        none-kept : (j : Joining) → keptBack j (doneBefore (sizeIn g) o b) [] ≡ false
         none-kept DoneNeighbours = refl
         none-kept StrictNeighbours = refl
 
     -- one is not Done, where all are asked for: whatever was stored, none is gathered
-    pub gathered-none : {k next : ℕ} → Next g backward b from k next → asksAll joining ≡ true → getD marks k 0 < 2 → (ps : List ℕ)
-        → length ps ≡ 128 → Gathers (neighboursToJoin (ruleOf joining) g backward b marks) (sizeIn g) 0 ps
+    pub gathered-none : {k next : ℕ} → Next g backward b from k next → asksAll joining ≡ true → ltb (getD o b 0) (getD o k 0) ≡ false → (ps : List ℕ)
+        → length ps ≡ 128 → Gathers (neighboursToJoin (ruleOf joining) g backward b o) (sizeIn g) 0 ps
     gathered-none {k} {next} to all low ps long =
         let bs = k ∷ neighboursFrom g backward b next in
-        let kept : keptBack joining (sizeIn g) marks bs ≡ true = rw (all, below-done (sizeIn g) marks k (to .inside) low) in
+        let kept : keptBack joining (doneBefore (sizeIn g) o b) bs ≡ true = rw (all, below-done (sizeIn g) o k (to .inside) (getD o b 0) low) in
         gathers 0 ps long
-        (ap (λ (t : Bool). cond t [] (take count places ++ doneNeighbours (marksOf (sizeIn g) marks) bs)) (sym kept) ∙ to-come bs (to .rest))
+        (ap (λ (t : Bool). cond t [] (take count places ++ doneNeighbours (doneBefore (sizeIn g) o b) bs)) (sym kept) ∙ to-come bs (to .rest))
         (omega arith) tt
 
   module _ {k next : ℕ} (to : Next g backward b from k next) where
@@ -126,7 +126,7 @@ module _ {joining : Joining} {g : List ℕ} {backward : Bool} {b : ℕ} {marks p
     stored = set places count k
 
     -- a Done one is gathered
-    pub gathering-more : 2 ≤ getD marks k 0 → Gathering joining g backward b marks stored (count + 1) next
+    pub gathering-more : ltb (getD o b 0) (getD o k 0) ≡ true → Gathering joining g backward b o stored (count + 1) next
     unfolding doneNeighbours
     gathering-more done =
         let room = gathering-room in
@@ -134,7 +134,7 @@ module _ {joining : Joining} {g : List ℕ} {backward : Bool} {b : ℕ} {marks p
         let behind = a .behind in
         let onward = to .onward in
         let bs = neighboursFrom g backward b next in
-        let chosen = doneNeighbours (marksOf (sizeIn g) marks) bs in
+        let chosen = doneNeighbours (doneBefore (sizeIn g) o b) bs in
         let one : take (count + 1) stored ≡ take count places ++ k ∷ [] =
         ap (λ (m : ℕ). take m stored) (add-one count) ∙ take-suc-set places count k (omega arith) in
         record {
@@ -142,15 +142,15 @@ module _ {joining : Joining} {g : List ℕ} {backward : Bool} {b : ℕ} {marks p
           behind = omega arith;
           long = length-set places count k ∙ long;
           inside = subst (All (λ k. k < sizeIn g)) (sym one) (all-append (λ k. k < sizeIn g) (take count places) (k ∷ []) (a .inside) (to .inside, tt));
-          rest = ap₂ (λ (t : Bool) (l : List ℕ). cond t [] l) (sym (not-kept joining (sizeIn g) marks k bs (to .inside) (inr done)))
+          rest = ap₂ (λ (t : Bool) (l : List ℕ). cond t [] l) (sym (not-kept joining (doneBefore (sizeIn g) o b) k bs (inr (is-done (sizeIn g) o k (to .inside) (getD o b 0) done))))
               (ap (λ (l : List ℕ). l ++ chosen) one
               ∙ append-snoc (take count places) k chosen
-              ∙ rw (is-done (sizeIn g) marks k (to .inside) done))
+              ∙ rw (is-done (sizeIn g) o k (to .inside) (getD o b 0) done))
               ∙ to-come (k ∷ bs) (to .rest);
         }
 
     -- another is passed, where not all are asked for
-    pub gathering-passed : getD marks k 0 < 2 → asksAll joining ≡ false → Gathering joining g backward b marks stored count next
+    pub gathering-passed : ltb (getD o b 0) (getD o k 0) ≡ false → asksAll joining ≡ false → Gathering joining g backward b o stored count next
     unfolding doneNeighbours
     gathering-passed low some =
         let behind = a .behind in
@@ -162,14 +162,14 @@ module _ {joining : Joining} {g : List ℕ} {backward : Bool} {b : ℕ} {marks p
           behind = omega arith;
           long = length-set places count k ∙ a .long;
           inside = subst (All (λ k. k < sizeIn g)) (sym same) (a .inside);
-          rest = ap₂ (λ (t : Bool) (l : List ℕ). cond t [] l) (sym (not-kept joining (sizeIn g) marks k bs (to .inside) (inl some)))
-              (ap (λ (l : List ℕ). l ++ doneNeighbours (marksOf (sizeIn g) marks) bs) same
-              ∙ rw (below-done (sizeIn g) marks k (to .inside) low)) ∙ to-come (k ∷ bs) (to .rest);
+          rest = ap₂ (λ (t : Bool) (l : List ℕ). cond t [] l) (sym (not-kept joining (doneBefore (sizeIn g) o b) k bs (inl some)))
+              (ap (λ (l : List ℕ). l ++ doneNeighbours (doneBefore (sizeIn g) o b) bs) same
+              ∙ rw (below-done (sizeIn g) o k (to .inside) (getD o b 0) low)) ∙ to-come (k ∷ bs) (to .rest);
         }
 
 -- Their sets are the rows at their places.
-module _ (joining : Joining) (g : List ℕ) (backward : Bool) (b : ℕ) (marks : List ℕ) {count : ℕ} {places : List ℕ}
-    (found : Gathers (neighboursToJoin (ruleOf joining) g backward b marks) (sizeIn g) count places) where
+module _ (joining : Joining) (g : List ℕ) (backward : Bool) (b : ℕ) (o : List ℕ) {count : ℕ} {places : List ℕ}
+    (found : Gathers (neighboursToJoin (ruleOf joining) g backward b o) (sizeIn g) count places) where
   -- what the intersection of rows asks
   pub gathered-rows : sizeIn g ≤ 128 → All (λ k. k < 128) (take count places) × NoRepeats (take count places)
   gathered-rows few = (
@@ -182,6 +182,6 @@ module _ (joining : Joining) (g : List ℕ) (backward : Bool) (b : ℕ) (marks :
   row-sets sets (k ∷ ks) a = rw (row-at sets (sizeIn g) k (a .0), row-sets sets ks (a .1))
 
   pub gathered-sets : (sets : List ℕ) → intersectionOf (map (rowOf sets) (take count places)) ≡ intersectionOf
-      (setsToJoin (ruleOf joining) g backward b marks sets)
+      (setsToJoin (ruleOf joining) g backward b o sets)
   unfolding setsToJoin
   gathered-sets sets = ap intersectionOf (row-sets sets (take count places) (found .inside) ∙ ap (map (setOf (rowsOf sets (sizeIn g)))) (found .same))

@@ -1,9 +1,13 @@
 pub mod Marks
 pub mod Gathering
-pub mod Reductions
-pub mod Joined
-pub mod Along
+pub mod Leaving
 pub mod Visiting
+pub mod Ordering
+pub mod Dirty
+pub mod Idling
+pub mod Reductions
+pub mod JoinLaws
+pub mod Stepping
 pub mod Walking
 pub mod Rounding
 pub mod Answers

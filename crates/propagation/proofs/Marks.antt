@@ -1,15 +1,17 @@
 -- The marks that the bytes hold: read, stored and cleared.
 use Prim.Native.Nat.{ℕ, zero, suc, _≤_, _<_}
 use native.Mathlib.Omega.{arith}
-use mathlib.Core.Path.{_≡_, refl, ap, _∙_}
-use mathlib.Core.Bool.{true, false}
+use mathlib.Core.Path.{_≡_, refl, sym, ap, _∙_}
+use mathlib.Core.Bool.{Bool, true, false, cond}
 use mathlib.Core.List.{List, [], _∷_, map}
 use lib.ListN.{length, getD, set, take, replicate, List·getD-map}
 use lib.Seq.{take-set-lt, getD-take}
+use lib.Dec.{ltb}
+use Rattle.model.specs.Tests.{ltb-not-less}
 use Rattle.model.specs.Visit.{TraversalState, Unmarked, Done, isMarked, isDone}
-use Rattle.propagation.specs.Joins.{stateOf, marksOf}
+use Rattle.propagation.specs.Order.{stateOf, marksOf, doneAbove}
 
-map-set : (f : ℕ → TraversalState) (l : List ℕ) (i v : ℕ) → map f (set l i v) ≡ set (map f l) i (f v)
+pub map-set : (f : ℕ → TraversalState) (l : List ℕ) (i v : ℕ) → map f (set l i v) ≡ set (map f l) i (f v)
 map-set f [] i v = refl
 map-set f (x ∷ l) zero v = refl
 map-set f (x ∷ l) (suc i) v = ap (λ (r : List TraversalState). f x ∷ r) (map-set f l i v)
@@ -28,46 +30,41 @@ map-replicate : (n : ℕ) → map stateOf (replicate n 0) ≡ replicate n Unmark
 map-replicate zero = refl
 map-replicate (suc n) = ap (λ (l : List TraversalState). Unmarked ∷ l) (map-replicate n)
 
-pub marks-cleared : (n : ℕ) → n ≤ 128 → marksOf n (replicate 128 0) ≡ replicate n Unmarked
+pub marks-cleared : (n : ℕ) → n ≤ 128 → marksOf n (replicate 257 0) ≡ replicate n Unmarked
 unfolding marksOf
-marks-cleared n h = ap (map stateOf) (take-replicate n 128 0 h) ∙ map-replicate n
+marks-cleared n h = ap (map stateOf) (take-replicate n 257 0 (omega arith)) ∙ map-replicate n
 
 module _ (n : ℕ) (marks : List ℕ) (b : ℕ) (inside : b < n) where
   pub mark-set : (v : ℕ) → marksOf n (set marks b v) ≡ set (marksOf n marks) b (stateOf v)
   unfolding marksOf
   mark-set v = ap (map stateOf) (take-set-lt n marks b v inside) ∙ map-set stateOf (take n marks) b v
 
-  mark-at : b < length marks → getD (marksOf n marks) b Done ≡ stateOf (getD marks b 0)
+  pub mark-here : b < length marks → getD (marksOf n marks) b Done ≡ stateOf (getD marks b 0)
   unfolding marksOf
-  mark-at room = List·getD-map stateOf (take n marks) b 2 ∙ ap stateOf (getD-take n marks b 2 inside ∙ getD-any marks b 2 0 room)
+  mark-here room = List·getD-map stateOf (take n marks) b 2 ∙ ap stateOf (getD-take n marks b 2 inside ∙ getD-any marks b 2 0 room)
 
   pub zero-unmarked : b < length marks → getD marks b 0 ≡ 0 → isMarked (getD (marksOf n marks) b Done) ≡ false
-  zero-unmarked room e = ap isMarked (mark-at room ∙ ap stateOf e)
+  zero-unmarked room e = ap isMarked (mark-here room ∙ ap stateOf e)
 
   pub more-marked : b < length marks → (getD marks b 0 ≡ 0 → ⊥) → isMarked (getD (marksOf n marks) b Done) ≡ true
-  more-marked room h = ap isMarked (mark-at room) ∙ above (getD marks b 0) h
+  more-marked room h = ap isMarked (mark-here room) ∙ above (getD marks b 0) h
     where
       above : (m : ℕ) → (m ≡ 0 → ⊥) → isMarked (stateOf m) ≡ true
       above zero d = absurd (d refl)
       above (suc zero) d = refl
       above (suc (suc m)) d = refl
 
-  done-at : isDone (getD (marksOf n marks) b Unmarked) ≡ isDone (stateOf (getD marks b 0))
-  unfolding marksOf
-  done-at = ap isDone (List·getD-map stateOf (take n marks) b 0 ∙ ap stateOf (getD-take n marks b 0 inside))
+  -- a block is Done before one with mark m is left where its own mark is greater
+  above-at : (m : ℕ) → isDone (getD (doneAbove n m marks) b Unmarked) ≡ isDone (cond (ltb m (getD marks b 0)) Done Unmarked)
+  unfolding doneAbove
+  above-at m =
+      let f : ℕ → TraversalState = λ x. cond (ltb m x) Done Unmarked in
+      let none : ltb m 0 ≡ false = ltb-not-less m 0 (omega arith) in
+      ap (λ (d : TraversalState). isDone (getD (map f (take n marks)) b d)) (sym (ap (λ (t : Bool). cond t Done Unmarked) none))
+      ∙ ap isDone (List·getD-map f (take n marks) b 0 ∙ ap f (getD-take n marks b 0 inside))
 
-  pub below-done : getD marks b 0 < 2 → isDone (getD (marksOf n marks) b Unmarked) ≡ false
-  below-done h = done-at ∙ low (getD marks b 0) h
-    where
-      low : (m : ℕ) → m < 2 → isDone (stateOf m) ≡ false
-      low zero l = refl
-      low (suc zero) l = refl
-      low (suc (suc m)) l = absurd (omega arith)
+  pub below-done : (m : ℕ) → ltb m (getD marks b 0) ≡ false → isDone (getD (doneAbove n m marks) b Unmarked) ≡ false
+  below-done m e = above-at m ∙ rw e refl
 
-  pub is-done : 2 ≤ getD marks b 0 → isDone (getD (marksOf n marks) b Unmarked) ≡ true
-  is-done h = done-at ∙ high (getD marks b 0) h
-    where
-      high : (m : ℕ) → 2 ≤ m → isDone (stateOf m) ≡ true
-      high zero l = absurd (omega arith)
-      high (suc zero) l = absurd (omega arith)
-      high (suc (suc m)) l = refl
+  pub is-done : (m : ℕ) → ltb m (getD marks b 0) ≡ true → isDone (getD (doneAbove n m marks) b Unmarked) ≡ true
+  is-done m e = above-at m ∙ rw e refl

@@ -1,21 +1,21 @@
--- What the rows are between two joins, and which sets are reduced already: a visit keeps those that
+-- What the rows are between two joins, and which sets are reduced already: a join keeps those that
 -- are, and after a forward walk all of them are.
 use Prim.Native.Nat.{ℕ, _<_}
 use mathlib.Core.Path.{_≡_, subst}
 use mathlib.Core.Bool.{Bool, false}
 use mathlib.Core.List.{List}
-use Rattle.model.specs.Visit.{TraversalState, Visited}
-use Rattle.model.specs.VisitLaws.{visit-makes}
+use Rattle.model.specs.Visit.{TraversalState}
 use Rattle.model.specs.RoundsLaws as laws
 use Rattle.model.specs.Propagation.{Work, JoiningRule, join}
 use Rattle.model.specs.PropagationLaws.{ProperWork, join-proper, ReducedAt, join-reduces, join-keeps-reduced}
 use Rattle.graph.specs.Bytes.{sizeIn, neighbours}
-use Rattle.propagation.specs.Joins.{workOf, joinIn, visitIn, RowsStand, Ready, AllReduced}
-use Rattle.propagation.specs.Propagates.{orderOf, walkIn}
+use Rattle.propagation.specs.Joins.{workOf, joinIn, RowsStand, Ready, AllReduced}
+use Rattle.propagation.specs.Order.{orderOf}
+use Rattle.propagation.specs.Propagates.{walkIn}
 
 -- Rows that stand again leave all ready: the graph is as it was.
 pub ready-again : {g sets ws os sets′ ws′ os′ : List ℕ} → Ready g sets ws os → RowsStand (sizeIn g) sets′ ws′ os′ → Ready g sets′ ws′ os′
-ready-again r s = record { fits = r .fits; once = r .once; stands = s }
+ready-again r s = record { fits = r .fits; once = r .once; both-ways = r .both-ways; stands = s }
 
 pub stands-proper : {n : ℕ} {sets ws os : List ℕ} → RowsStand n sets ws os → (c : Bool) → ProperWork (workOf n sets ws c)
 unfolding workOf
@@ -35,30 +35,25 @@ module _ (rule : JoiningRule) (g : List ℕ) (backward : Bool) where
   unfolding joinIn join
   keeps b ms w p = join-proper (rule ms (neighbours g backward b)) b w p
 
-  stays : (b : ℕ) (ms : List TraversalState) (w : Work) → ProperWork w → (a : ℕ) → ReducedAt w a → ReducedAt (joinIn rule g backward b ms w) a
+  pub stays-reduced : (b : ℕ) (ms : List TraversalState) (w : Work) → ProperWork w → (a : ℕ) → ReducedAt w a → ReducedAt (joinIn rule g backward b ms w) a
   unfolding joinIn join
-  stays b ms w p a h = join-keeps-reduced (rule ms (neighbours g backward b)) b w p a h
+  stays-reduced b ms w p a h = join-keeps-reduced (rule ms (neighbours g backward b)) b w p a h
 
   makes : (b : ℕ) (ms : List TraversalState) (w : Work) → ProperWork w → ReducedAt (joinIn rule g backward b ms w) b
   unfolding joinIn join
   makes b ms w p = join-reduces (rule ms (neighbours g backward b)) b w p
 
-  pub visit-keeps-reduced : (b : ℕ) (v : Visited Work) → ProperWork (v .work) → (a : ℕ) → ReducedAt (v .work) a → ReducedAt
-      (visitIn rule g backward b v .work) a
-  unfolding visitIn
-  visit-keeps-reduced b v p = visit-makes ProperWork ReducedAt (neighbours g backward) (joinIn rule g backward) keeps stays makes b v p .kept
-
   pub walk-keeps-reduced : (w : Work) → ProperWork w → (b : ℕ) → ReducedAt w b → ReducedAt (walkIn rule g backward w) b
   unfolding walkIn
-  walk-keeps-reduced = laws.walk-keeps ProperWork ReducedAt (neighbours g backward) (joinIn rule g backward) keeps stays makes (sizeIn g)
+  walk-keeps-reduced = laws.walk-keeps ProperWork ReducedAt (neighbours g backward) (joinIn rule g backward) keeps stays-reduced makes (sizeIn g)
       (orderOf backward (sizeIn g))
 
   pub walk-stays-proper : (w : Work) → ProperWork w → ProperWork (walkIn rule g backward w)
   unfolding walkIn
-  walk-stays-proper = laws.walk-proper ProperWork ReducedAt (neighbours g backward) (joinIn rule g backward) keeps stays makes (sizeIn g)
+  walk-stays-proper = laws.walk-proper ProperWork ReducedAt (neighbours g backward) (joinIn rule g backward) keeps stays-reduced makes (sizeIn g)
       (orderOf backward (sizeIn g))
 
 pub walk-reduces : (rule : JoiningRule) (g : List ℕ) (w : Work) → ProperWork w → (b : ℕ) → b < sizeIn g → ReducedAt (walkIn rule g false w) b
 unfolding walkIn
-walk-reduces rule g = laws.walk-makes ProperWork ReducedAt (neighbours g false) (joinIn rule g false) (keeps rule g false) (stays rule g false)
+walk-reduces rule g = laws.walk-makes ProperWork ReducedAt (neighbours g false) (joinIn rule g false) (keeps rule g false) (stays-reduced rule g false)
     (makes rule g false) (sizeIn g)

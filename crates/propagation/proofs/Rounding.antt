@@ -6,7 +6,7 @@ use native.Mathlib.Numerals.{add-one}
 use mathlib.Core.Path.{_≡_, refl, sym, ap, subst, _∙_}
 use mathlib.Core.Bool.{Bool, true, false}
 use mathlib.Core.List.{List}
-use lib.ListN.{length}
+use lib.ListN.{length, getD, replicate, length-replicate, getD-replicate}
 use lib.Dec.{ltb}
 use Rattle.model.specs.Tests.{decide, never}
 use Rattle.model.specs.Registry.{nodeLimit}
@@ -20,11 +20,11 @@ use Rattle.registry.specs.Words.{registryOf}
 use Rattle.graph.specs.Bytes.{sizeIn, graphIn}
 use Rattle.propagation.specs.declared.Progress.{Progress}
 use Rattle.propagation.specs.declared.Progress.the-variants.{Changed, Full}
-use Rattle.propagation.specs.Joins.{workOf, joinIn, RowsStand, AllReduced, ReducedBefore, HoldsWork, Joins}
-use Rattle.propagation.specs.Propagates.{walkIn, HoldsRounds}
-use Rattle.propagation.proofs.Along.{Adds, adds-order, joined-to, joined-full}
+use Rattle.propagation.specs.Order.{OrderNoted}
+use Rattle.propagation.specs.Joins.{workOf, joinIn, RowsStand, AllReduced, ReducedBefore, HoldsWork, StepsTo, Steps}
+use Rattle.propagation.specs.Propagates.{walkIn, Orders, TurnsTo, Turns, HoldsRounds}
 use Rattle.propagation.proofs.Reductions.{stands-proper, reduced-rows, walk-keeps-reduced, walk-stays-proper, walk-reduces}
-use Rattle.propagation.proofs.Walking.{walk-adds}
+use Rattle.propagation.proofs.Walking.{Adds, adds-order, walk-adds, steps-full}
 
 -- One round.
 
@@ -56,36 +56,71 @@ module _ (rule : JoiningRule) (g : List ℕ) where
     unfolding workOf
     from-unchanged c = two-walks (workOf (sizeIn g) sets ws c)
 
-    pub round-full : (r : Progress) (ts vs ps : List ℕ) → Joins (walkIn rule g false (workOf (sizeIn g) sets ws false)) (sizeIn g) r ts vs ps → r ≡ Full
-        → nodeLimit < length (roundIn rule g (workOf (sizeIn g) sets ws true) .registry)
-    round-full r ts vs ps j e =
-        subst (λ (w : Work). nodeLimit < length (w .registry)) (sym (from-unchanged true))
-        (lt-of-lt-of-le (joined-full _ (sizeIn g) r ts vs ps j e) (walk-adds rule g true (walkIn rule g false (workOf (sizeIn g) sets ws false))))
+    module _ (f bk dirty other : List ℕ) where
+      pub round-full : (r : Progress) (d′ o′ ts vs ps : List ℕ)
+          → Steps rule g false f other sets (walkIn rule g false (workOf (sizeIn g) sets ws false)) r d′ o′ ts vs ps → r ≡ Full
+          → nodeLimit < length (roundIn rule g (workOf (sizeIn g) sets ws true) .registry)
+      round-full r d′ o′ ts vs ps h e =
+          subst (λ (w : Work). nodeLimit < length (w .registry)) (sym (from-unchanged true))
+          (lt-of-lt-of-le (steps-full rule g false f other sets (walkIn rule g false (workOf (sizeIn g) sets ws false)) r d′ o′ ts vs ps h e)
+          (walk-adds rule g true (walkIn rule g false (workOf (sizeIn g) sets ws false))))
 
-    -- after its forward walk each set is reduced
-    pub round-halfway : {os : List ℕ} → RowsStand (sizeIn g) sets ws os → {c : Bool} {ts vs ps : List ℕ} → HoldsWork
-        (walkIn rule g false (workOf (sizeIn g) sets ws false)) (sizeIn g) c ts vs ps → AllReduced (sizeIn g) ts vs
-    round-halfway s {c} {ts} {vs} h = reduced-rows (sizeIn g) ts vs c (walkIn rule g false (workOf (sizeIn g) sets ws false)) (h .same)
-        (walk-reduces rule g (workOf (sizeIn g) sets ws false) (stands-proper s false))
+      -- after its forward walk each set is reduced
+      pub round-halfway : {os : List ℕ} → RowsStand (sizeIn g) sets ws os → {c : Bool} {ts vs ps : List ℕ} → HoldsWork
+          (walkIn rule g false (workOf (sizeIn g) sets ws false)) (sizeIn g) c ts vs ps → AllReduced (sizeIn g) ts vs
+      round-halfway s {c} {ts} {vs} h = reduced-rows (sizeIn g) ts vs c (walkIn rule g false (workOf (sizeIn g) sets ws false)) (h .same)
+          (walk-reduces rule g (workOf (sizeIn g) sets ws false) (stands-proper s false))
 
-    pub round-done : {c : Bool} {ts vs ps : List ℕ} → HoldsWork (walkIn rule g false (workOf (sizeIn g) sets ws false)) (sizeIn g) c ts vs ps →
-        (r : Progress) (us xs os : List ℕ)
-        → Joins (walkIn rule g true (workOf (sizeIn g) ts vs c)) (sizeIn g) r us xs os → Joins (roundIn rule g (workOf (sizeIn g) sets ws true))
-        (sizeIn g) r us xs os
-    round-done h r us xs os j = subst (λ (w : Work). Joins w (sizeIn g) r us xs os) (ap (walkIn rule g true) (sym (h .same)) ∙ sym (from-unchanged true)) j
+      module _ (orders : Orders rule g f bk dirty other sets) {c : Bool} {d′ o′ ts vs ps : List ℕ}
+          (h : StepsTo rule g false f other sets (walkIn rule g false (workOf (sizeIn g) sets ws false)) c d′ o′ ts vs ps) where
+        leads : walkIn rule g true (workOf (sizeIn g) ts vs c) ≡ roundIn rule g (workOf (sizeIn g) sets ws true)
+        leads = ap (walkIn rule g true) (sym (h .holds .same)) ∙ sym (from-unchanged true)
+
+        pub round-done : (r : Progress) (o″ d″ us xs os : List ℕ) → Steps rule g true bk d′ ts (walkIn rule g true (workOf (sizeIn g) ts vs c)) r o″ d″ us xs os
+            → Turns rule g f bk (roundIn rule g (workOf (sizeIn g) sets ws true)) r d″ o″ us xs os
+        round-done (Changed c″) o″ d″ us xs os k = record {
+          holds = subst (λ (w : Work). HoldsWork w (sizeIn g) c″ us xs os) leads (k .holds);
+          orders = record {
+            forth = orders .forth;
+            back = orders .back;
+            long-forth = k .flags .other-long;
+            long-back = k .flags .long;
+            clean-forth = k .others f (h .flags .clean);
+            clean-back = k .flags .clean;
+          };
+        }
+        round-done Full o″ d″ us xs os k = subst (λ (w : Work). nodeLimit < length (w .registry)) leads k
 
 -- The loop over rounds: `ran` of them are run, and those still allowed lead to `end`.
-pub record Rounding (rule : JoiningRule) (g : List ℕ) (end : Rounds Work) (sets ws os : List ℕ) (ran : ℕ) : Type 0 where
+pub record Rounding (rule : JoiningRule) (g f bk : List ℕ) (end : Rounds Work) (dirty other sets ws os : List ℕ) (ran : ℕ) : Type 0 where
+  pub orders : Orders rule g f bk dirty other sets
   pub stands : RowsStand (sizeIn g) sets ws os
   pub before : ReducedBefore (ltb 0 ran) (sizeIn g) sets ws
   pub rest : roundsFrom hasChanged (roundIn rule g) (100 - ran) ran (workOf (sizeIn g) sets ws true) ≡ end
 
-pub rounds-start : (rule : JoiningRule) (g sets ws os : List ℕ) → RowsStand (sizeIn g) sets ws os
-    → Rounding rule g (propagateNonNull rule (graphIn g) (registryOf ws) (rowsOf sets (sizeIn g))) sets ws os 0
+pub rounds-start : (rule : JoiningRule) (g f bk sets ws os : List ℕ) → RowsStand (sizeIn g) sets ws os → sizeIn g ≤ 128 → OrderNoted g false f
+    → OrderNoted g true bk
+    → Rounding rule g f bk (propagateNonNull rule (graphIn g) (registryOf ws) (rowsOf sets (sizeIn g))) (replicate 128 1) (replicate 128 1) sets ws os 0
 unfolding propagateNonNull propagateWith roundsFrom round workOf
-rounds-start rule g sets ws os s = record { stands = s; before = λ t. never t refl; rest = refl }
+rounds-start rule g f bk sets ws os s few forth back = record {
+  orders = record {
+    forth = forth;
+    back = back;
+    long-forth = length-replicate {A = ℕ} 128 1;
+    long-back = length-replicate {A = ℕ} 128 1;
+    clean-forth = λ b l e. absurd (all-dirty b l e);
+    clean-back = λ b l e. absurd (all-dirty b l e);
+  };
+  stands = s;
+  before = λ t. never t refl;
+  rest = refl;
+}
+  where
+    all-dirty : (b : ℕ) → b < sizeIn g → getD (replicate {A = ℕ} 128 1) b 0 ≡ 0 → ⊥
+    all-dirty b l e = let one = getD-replicate {A = ℕ} 128 b 1 0 (omega arith) in omega arith
 
-module _ {rule : JoiningRule} {g : List ℕ} {end : Rounds Work} {sets ws os : List ℕ} {ran : ℕ} (r : Rounding rule g end sets ws os ran) where
+module _ {rule : JoiningRule} {g f bk : List ℕ} {end : Rounds Work} {dirty other sets ws os : List ℕ} {ran : ℕ}
+    (r : Rounding rule g f bk end dirty other sets ws os ran) where
   abbrev now : Work
   now = workOf (sizeIn g) sets ws true
 
@@ -109,13 +144,16 @@ module _ {rule : JoiningRule} {g : List ℕ} {end : Rounds Work} {sets ws os : L
         (λ e. subst (λ (x : Rounds Work). Adds (roundIn rule g now) (x .work))
         (sym (laws.rounds-stop hasChanged (roundIn rule g) (100 - (ran + 1)) ran now e)) (le-refl _)))
 
-    module _ (a : Progress) (ts vs ps : List ℕ) (j : Joins (roundIn rule g now) (sizeIn g) a ts vs ps) where
+    module _ (a : Progress) (d′ o′ ts vs ps : List ℕ) (j : Turns rule g f bk (roundIn rule g now) a d′ o′ ts vs ps) where
       pub rounds-full : a ≡ Full → nodeLimit < length (end .work .registry)
-      rounds-full e = lt-of-lt-of-le (joined-full (roundIn rule g now) (sizeIn g) a ts vs ps j e) after-round
+      rounds-full e = lt-of-lt-of-le (subst (λ (x : Progress). Turns rule g f bk (roundIn rule g now) x d′ o′ ts vs ps) e j) after-round
 
       module _ (c : Bool) (went : a ≡ Changed c) where
+        turned : TurnsTo rule g f bk (roundIn rule g now) c d′ o′ ts vs ps
+        turned = subst (λ (x : Progress). Turns rule g f bk (roundIn rule g now) x d′ o′ ts vs ps) went j
+
         held : HoldsWork (roundIn rule g now) (sizeIn g) c ts vs ps
-        held = joined-to (roundIn rule g now) (sizeIn g) a ts vs ps j c went
+        held = turned .holds
 
         module _ (t : Bool) (is : c ≡ t) where
           left : roundIn rule g now ≡ workOf (sizeIn g) ts vs t
@@ -125,8 +163,9 @@ module _ {rule : JoiningRule} {g : List ℕ} {end : Rounds Work} {sets ws os : L
           unfolding workOf
           flag = ap hasChanged left
 
-        pub rounds-more : c ≡ true → Rounding rule g end ts vs ps (ran + 1)
+        pub rounds-more : c ≡ true → Rounding rule g f bk end d′ o′ ts vs ps (ran + 1)
         rounds-more e = record {
+          orders = turned .orders;
           stands = held .stands;
           before = λ t. reduced-rows (sizeIn g) ts vs c (roundIn rule g now) (held .same) (round-reduces rule g now (stands-proper (r .stands) true));
           rest =

@@ -1,3 +1,4 @@
 pub mod Rules
+pub mod Order
 pub mod Joins
 pub mod Propagates

@@ -44,6 +44,7 @@ module _ {bs : List Block} {n : ℕ} {ws os sets g : List ℕ} (count : length b
   ready = record {
     fits = y .fits;
     once = y .once;
+    both-ways = y .both-ways;
     stands = subst (λ m. RowsStand m sets ws os) (sym size-same) (record {
       lent = x .lent;
       held = x .held;

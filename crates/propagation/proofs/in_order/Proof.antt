@@ -3,7 +3,7 @@ use native.Mathlib.Omega.{arith}
 use mathlib.Core.Path.{sym, ap}
 use mathlib.Core.Bool.{Bool}
 use borrow.Author.Needs.{needs}
-use Rattle.propagation.specs.Propagates.{inOrder}
+use Rattle.propagation.specs.Order.{inOrder}
 use Rattle.propagation.proofs.in_order.Statement.{statement}
 use Rattle.propagation.proofs.in_order.Tie as tie
 

@@ -19,14 +19,14 @@ intersection-of-rows-requires : tie.Need-intersection-of-rows-requires
 intersection-of-rows-requires c κs =
     let s = c .before .before .before in
     let a = s .args in
-    gathered-rows (a .joining) (a .graph .now) (a .backward) (a .b) (a .marks .now) (c .before .neighbours-to-join .ensures) (s .pre .0 .size)
+    gathered-rows (a .joining) (a .graph .now) (a .backward) (a .b) (a .order .now) (c .before .neighbours-to-join .ensures) (s .pre .0 .size)
 
 returns : tie.Need-returns
 returns c =
     let n = c .before .before in
     let a = n .before .before .args in
     c .intersection-of-rows .ensures
-    ∙ gathered-sets (a .joining) (a .graph .now) (a .backward) (a .b) (a .marks .now) (n .neighbours-to-join .ensures) (a .sets .now)
+    ∙ gathered-sets (a .joining) (a .graph .now) (a .backward) (a .b) (a .order .now) (n .neighbours-to-join .ensures) (a .sets .now)
 
 pub intersection-of-joining-spec : {M : Type 1} → statement M
 intersection-of-joining-spec =

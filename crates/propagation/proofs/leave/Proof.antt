@@ -1,23 +1,28 @@
--- `leave` meets its contract: what the join leaves, with the block's mark stored.
-use native.Mathlib.Omega.{arith}
-use Rattle.propagation.specs.Rules.{ruleOf}
-use Rattle.propagation.proofs.Joined.{leaves}
+-- `leave` meets its contract: the three bytes are stored as they are defined.
+use Prim.Native.Nat.{ℕ, _+_, _-_}
+use mathlib.Core.Path.{ap}
+use lib.ListN.{getD, set}
+use borrow.Author.Needs.{needs}
 use Rattle.propagation.proofs.leave.Statement.{statement}
 use Rattle.propagation.proofs.leave.Tie as tie
 
-join-requires : tie.Need-join-requires
-join-requires c κs = let s = c .before .before .before .before in (s .pre .0, s .pre .1, s .pre .2)
-
-element-write-marks : tie.Need-element-write-marks
-element-write-marks c = let s = c .before .before .before .before .before in let few = s .pre .0 .fits .size in let inside = s .pre .2 in omega arith
-
 returns : tie.Need-returns
 returns c =
-    let s = c .before .before .before .before .before in
-    let a = s .args in
-    let j = c .join in
-    leaves (ruleOf (a .joining)) (a .graph .now) (a .backward) (a .b) (a .marks .now) (a .sets .now) (a .ws .now) (a .changed) (j .result) _ _ _ (s .pre .2)
-    (s .pre .3) (j .ensures)
+    let a = c .before .before .args in
+    let o = a .order .now in
+    ap (λ (k : ℕ). set (set (set o (128 + k) (a .b)) 256 (getD o 256 0 + 1)) (a .b) (255 - getD o 256 0)) (c .as-number .ensures)
 
 pub leave-spec : {M : Type 1} → statement M
-leave-spec = tie.close (tie.spec join-requires element-write-marks returns)
+leave-spec =
+    tie.close
+    (tie.spec
+    (λ c. search needs)
+    (λ c. search needs)
+    (λ c κs. search needs)
+    (λ c. search needs)
+    (λ c. search needs)
+    (λ c. search needs)
+    (λ c. search needs)
+    (λ c. search needs)
+    (λ c. search needs)
+    returns)

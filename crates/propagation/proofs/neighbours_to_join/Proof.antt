@@ -6,6 +6,7 @@ use Prim.Native.Nat.{_-_, _<_}
 use native.Mathlib.Omega.{arith}
 use mathlib.Core.Path.{sym, _∙_}
 use lib.ListN.{length-set}
+use Rattle.model.specs.Tests.{ltb-less, ltb-not-less}
 use borrow.Author.Needs.{needs}
 use Rattle.graph.specs.Bytes.{Next}
 use Rattle.graph.proofs.Neighbours.{found-at, found-nothing}
@@ -22,19 +23,22 @@ use Rattle.propagation.proofs.neighbours_to_join.Statement.{statement}
 use Rattle.propagation.proofs.neighbours_to_join.Tie as tie
 
 abbrev Inv-loop : tie.InvT-loop
-Inv-loop joining graph backward b marks places₀ count₀ start₀ places count start = Gathering joining graph backward b marks places count start
+Inv-loop joining graph backward b order places₀ mark count₀ start₀ places count start = Gathering joining graph backward b order places count start
 
 abbrev μ-loop : tie.MeasureT-loop
-μ-loop joining graph backward b marks places₀ count₀ start₀ places count start = 129 - start
+μ-loop joining graph backward b order places₀ mark count₀ start₀ places count start = 129 - start
+
+element-copy-out-mark : tie.Need-element-copy-out-mark Inv-loop μ-loop
+element-copy-out-mark c = let few = c .pre .0 .size in let inside = c .pre .2 in omega arith
 
 loop-holds : tie.Need-loop-holds Inv-loop μ-loop
-loop-holds c = let a = c .args in gathering-start (a .joining) (a .graph .now) (a .backward) (a .b) (a .marks .now) (a .places .now) (c .pre .3)
+loop-holds c = let s = c .before in let a = s .args in gathering-start (a .joining) (a .graph .now) (a .backward) (a .b) (a .order .now) (a .places .now) (s .pre .3)
 
 next-neighbour-requires : tie.Need-next-neighbour-requires Inv-loop μ-loop
-next-neighbour-requires c κs = let s = c .before in (s .pre .0, s .pre .2)
+next-neighbour-requires c κs = let s = c .before .before in (s .pre .0, s .pre .2)
 
 -- the neighbour that is found
-next : (t : tie.After-known-told Inv-loop μ-loop) → let k = t .before in let l = k .before .before .before in let a = l .before .args in
+next : (t : tie.After-known-told Inv-loop μ-loop) → let k = t .before in let l = k .before .before .before in let a = l .before .before .args in
     Next (a .graph .now) (a .backward) (a .b) (l .loop .start) (k .k .given .0 .0) (k .k .given .0 .1 .0)
 next t =
     let k = t .before in
@@ -43,12 +47,12 @@ next t =
 
 -- it is one of 128 blocks
 inside : (t : tie.After-known-told Inv-loop μ-loop) → t .before .k .given .0 .0 < 128
-inside t = let few = t .before .before .before .before .before .pre .0 .size in let here = next t .inside in omega arith
+inside t = let few = t .before .before .before .before .before .before .pre .0 .size in let here = next t .inside in omega arith
 
 returns : tie.Need-returns Inv-loop μ-loop
 returns c =
     let n = c .before .before in
-    let s = n .before .before in
+    let s = n .before .before .before in
     gathered-all (n .before .loop .inv) (s .pre .1) (s .pre .2)
     (found-nothing _ _ _ _ (n .next-neighbour .result) (n .next-neighbour .ensures) (c .enum-told .given .1))
 
@@ -59,7 +63,7 @@ element-write-places : tie.Need-element-write-places Inv-loop μ-loop
 element-write-places c = let room = gathering-room (c .before .before .before .before .loop .inv) (next c) in omega arith
 
 element-copy-out-if1 : tie.Need-element-copy-out-if1 Inv-loop μ-loop
-element-copy-out-if1 c = inside c
+element-copy-out-if1 c = let small = inside c in omega arith
 
 add-count : tie.Need-add-count Inv-loop μ-loop
 add-count c =
@@ -74,7 +78,8 @@ returns-2 c =
     let l = t .before .before .before .before in
     let low = e .if1 .left in
     let long = l .loop .inv .long in
-    gathered-none (l .loop .inv) (l .before .pre .1) (l .before .pre .2) (next t) (sym (c .before .asks-all .ensures) ∙ c .if2 .taken) (omega arith) _
+    gathered-none (l .loop .inv) (l .before .before .pre .1) (l .before .before .pre .2) (next t) (sym (c .before .asks-all .ensures) ∙ c .if2 .taken)
+    (ltb-not-less _ _ low) _
     (simp length-set long)
 
 loop-less : tie.Need-loop-less Inv-loop μ-loop
@@ -88,7 +93,7 @@ loop-again : tie.Need-loop-again Inv-loop μ-loop
 loop-again c =
     let t = c .before .before in
     let high = c .if1 .taken in
-    gathering-more (t .before .before .before .before .loop .inv) (next t) (omega arith)
+    gathering-more (t .before .before .before .before .loop .inv) (next t) (ltb-less _ _ high)
 
 loop-less-2 : tie.Need-loop-less-2 Inv-loop μ-loop
 loop-less-2 c =
@@ -102,7 +107,7 @@ loop-again-2 c =
     let e = c .before .before in
     let t = e .before .before in
     let low = e .if1 .left in
-    gathering-passed (t .before .before .before .before .loop .inv) (next t) (omega arith) (sym (c .before .asks-all .ensures) ∙ c .if2 .left)
+    gathering-passed (t .before .before .before .before .loop .inv) (next t) (ltb-not-less _ _ low) (sym (c .before .asks-all .ensures) ∙ c .if2 .left)
 
 pub neighbours-to-join-spec : {M : Type 1} → statement M
 neighbours-to-join-spec =
@@ -110,6 +115,7 @@ neighbours-to-join-spec =
     (tie.spec
     Inv-loop
     μ-loop
+    element-copy-out-mark
     loop-holds
     next-neighbour-requires
     (λ c. search needs)
