@@ -37,7 +37,7 @@ use Rattle.laws.specs.GraphLaws.{
   successors-once,
 }
 use Rattle.graph.specs.Bytes.{neighbours}
-use Rattle.edges.specs.Rows.{idsFrom, idsNoted, placeAmong, place-among, placesNoted, rowsAt, RowsFilled}
+use Rattle.edges.specs.Rows.{idsFrom, idsNoted, placeAmong, place-among, IdsOnce, placesNoted, rowsAt, RowsFilled}
 use Rattle.edges.specs.Order.{insertByNumber, sortByNumber, Ordered}
 use Rattle.edges.specs.Successors.{RanksFit, AllMarked}
 use Rattle.edges.specs.Fills.{IdsAt, NotedJob, HoldsGraph}
@@ -125,6 +125,13 @@ module _ (s ids places : List ℕ) (n : ℕ) (j : Job) (at : BlocksAt s n places
       ap (λ k. placeAmong (idsFrom ids 0 k) i) (sym (at .count))
       ∙ ap (λ (l : List BlockId). placeAmong l i) (ids-listed bs ids 0 (λ k l. ap (λ k. getD ids k 0) (zero-add k) ∙ noted k l))
       ∙ place-among bs i
+
+  -- no id stands twice
+  pub ids-once : IdsOnce ids n
+  ids-once k l =
+      let count = at .count in
+      let below : k < length bs = omega arith in
+      place-is (record { 0 = getD ids k 0 }) ∙ ap (λ i. placeOf bs (record { 0 = i })) (noted k below) ∙ place-own bs k (proper .distinct) below
 
   pub row-is : (b : ℕ) → b < n → rowsAt s ids places n b ≡ predecessorsOf bs b
   unfolding predecessorsOf placesNoted

@@ -2,7 +2,7 @@
 use Prim.Native.Nat.{ℕ, zero, suc, _+_, _*_, _-_, _≤_, _<_}
 use native.Mathlib.Omega.{arith}
 use native.Mathlib.Nat.{add-zero, zero-add}
-use mathlib.Core.Path.{_≡_, refl, sym, ap, _∙_}
+use mathlib.Core.Path.{_≡_, refl, sym, ap, subst, _∙_}
 use mathlib.Core.List.{List, [], _∷_}
 use lib.ListN.{length, getD, set}
 use lib.Seq.{sets}
@@ -11,10 +11,11 @@ use Rattle.model.specs.Tests.{by-cond, eqb-equal, eqb-apart}
 use Rattle.model.specs.ReadingBytes.{got, readNumber}
 use Rattle.model.specs.Job.{sameBlock}
 use Rattle.laws.specs.Fits.{holds-got}
+use Rattle.id_index.specs.Index.{placeBy, leads}
 use Rattle.job.specs.Head.{readBlockHead}
 use Rattle.job.specs.declared.BlockHead.{BlockHead}
 use Rattle.job.proofs.Bounds.{predecessors-most}
-use Rattle.edges.specs.Rows.{idsFrom, idsNoted, placeAmong, placesNoted, rowAt, withRow}
+use Rattle.edges.specs.Rows.{idsFrom, idsNoted, placeAmong, IdsOnce, placesNoted, rowAt, withRow}
 
 -- The search for a place, from k on.
 
@@ -37,6 +38,13 @@ module _ (ids : List ℕ) (n k : ℕ) (i : BlockId) where
 
   pub place-none : n ≤ k → k + placeAmong (idsFrom ids k (n - k)) i ≡ k
   place-none l = let none : n - k ≡ 0 = omega arith in ap (λ m. k + placeAmong (idsFrom ids k m) i) none ∙ add-zero k
+
+-- Where no id stands twice, the block to which an index leads is the first with the id.
+pub place-led : (ids : List ℕ) (n : ℕ) (index : List ℕ) (i : BlockId) {k : ℕ} → IdsOnce ids n → k ≡ placeBy ids n index (i .0) → k < n
+    → k ≡ placeAmong (idsNoted ids n) i
+place-led ids n index i {k} once e l =
+    let there : getD ids k 0 ≡ i .0 = subst (λ k. k < n → getD ids k 0 ≡ i .0) (sym e) (leads ids n index (i .0) .there) l in
+    sym (once k l) ∙ ap (λ x. placeAmong (idsNoted ids n) (record { 0 = x })) there
 
 -- A place is at most the number of the ids.
 

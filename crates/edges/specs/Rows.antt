@@ -32,6 +32,10 @@ pub place-among : (bs : List Block) (i : BlockId) → placeAmong (idsOf bs) i �
 place-among [] i = refl
 place-among (b ∷ bs) i = ap (λ k. cond (sameBlock (b .id) i) zero (suc k)) (place-among bs i)
 
+-- Each of the first n blocks is the first with its id: no id stands twice.
+abbrev pub IdsOnce : List ℕ → ℕ → Type 0
+IdsOnce ids n = (k : ℕ) → k < n → placeAmong (idsNoted ids n) (record { 0 = getD ids k 0 }) ≡ k
+
 -- of each id that is read from a place on, the place of its block
 unfoldable pub placesNoted : List ℕ → ℕ → ℕ → List ℕ → ℕ → List ℕ
 placesNoted s start count ids n = notes (λ _ i. placeAmong (idsNoted ids n) i) count readBlockId s start

@@ -9,6 +9,7 @@ pub mod Ends
 -- what the functions' proofs cite
 pub mod IdFields
 pub mod IdLists
+pub mod Stamps
 pub mod Stored
 pub mod Records
 pub mod Noted

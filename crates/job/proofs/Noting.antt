@@ -12,7 +12,7 @@ use Rattle.model.specs.ReadingBytes.{Read, got, refused, ByteReader}
 use Rattle.job.specs.Passing.{notes, orNone}
 
 module _ {A B : Type 0} (read : ByteReader A) (s : List ℕ) (f : ℕ → A → B) where
-  one-more : {n i at : ℕ} {a : A} {next : ℕ} → i < n → read s at ≡ got a next
+  pub one-more : {n i at : ℕ} {a : A} {next : ℕ} → i < n → read s at ≡ got a next
       → notes f (n - i) read s at ≡ f at a ∷ notes f (n - (i + 1)) read s next
   one-more {n} {i} h e =
       let z : n - i ≡ suc (n - (i + 1)) = omega arith in
@@ -23,7 +23,7 @@ module _ {A B : Type 0} (read : ByteReader A) (s : List ℕ) (f : ℕ → A → 
       let z : n - i ≡ suc (n - (i + 1)) = omega arith in
       rw (z, e)
 
-  none-left : {n i : ℕ} (at : ℕ) → n ≤ i → notes f (n - i) read s at ≡ []
+  pub none-left : {n i : ℕ} (at : ℕ) → n ≤ i → notes f (n - i) read s at ≡ []
   none-left {n} {i} at h =
       let z : n - i ≡ 0 = omega arith in
       rw z

@@ -176,10 +176,13 @@ pub fn checked_by(s: &[u8], ids: &[u32], places: &[usize], head: JobHead) -> Rea
     let n = head.blocks;
     let known = &ids[..n];
     let noted = &places[..n];
+    let scope = head.scope;
+    if crate::apart::neither_applies(s, known, noted, scope) {
+        return ReadJob::Value(head);
+    }
     if repeated(s, known, noted) {
         return ReadJob::Refused(Refusal::RepeatedId);
     }
-    let scope = head.scope;
     if unknown(s, known, noted, scope) {
         return ReadJob::Refused(Refusal::UnknownBlock);
     }

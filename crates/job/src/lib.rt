@@ -25,6 +25,7 @@ ghost use Rattle.job.specs.Answer.{gotEntry, gotPathHead, gotInstruction
 ghost use Rattle.job.specs.Answer.{gotBlockHead, gotBlockId, gotHeader};
 ghost use Rattle.job.specs.Kept.{notePlace, noteNumber, blockPlaces, blockNumbers, keptOf, afterHeader, BehindHeader, ReadsJob};
 
+mod apart;
 mod ids;
 
 // A mark is the number that its two bytes make, the first lowest.
