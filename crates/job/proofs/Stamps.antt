@@ -1,5 +1,5 @@
--- Where ids are led to blocks, each to another one, none stands twice: equal ids are led to one
--- block. Where the blocks are those with the ids, each id is known.
+-- Where ids are led to blocks, each to a block of its own, none stands twice, since equal ids are
+-- led to one block. Where the blocks have the ids that led to them, each id is known.
 use Prim.Native.Nat.{ℕ, zero, suc, _+_, _-_, _≤_, _<_}
 use native.Mathlib.Numerals.{add-one}
 use native.Mathlib.Omega.{arith}

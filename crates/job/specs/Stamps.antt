@@ -1,4 +1,4 @@
--- Ids that are led to blocks, each to another one.
+-- Ids that are led to blocks, each to a block of its own.
 use Prim.Native.Nat.{ℕ, _<_}
 use mathlib.Core.Path.{_≡_}
 use mathlib.Core.Bool.{Bool, true, false, cond}
@@ -27,7 +27,7 @@ apart place n stamp stamps (id ∷ ids) =
     (cond (eqb (getD stamps (place id) 0) stamp) false (apart place n stamp (set stamps (place id) stamp) ids))
     false
 
--- The index leads from each of these ids to another block, none of which had the stamp before, and
+-- The index leads from each of these ids to a block of its own that had not the stamp before, and
 -- there are as many stamps as before.
 pub record Apart (known index : List ℕ) (stamp : ℕ) (ids before after : List ℕ) : Type 0 where
   pub led : apart (ledTo known index) (length known) stamp before ids ≡ true

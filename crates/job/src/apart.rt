@@ -1,5 +1,6 @@
-// Refusals 7 and 8 ruled out by an index of the blocks' ids: it leads from each id, and from each
-// predecessor of one block, to another block. Where it does not, nothing is said.
+// Refusals 7 and 8 ruled out by an index of the blocks' ids: it leads from each block's id, and
+// from each predecessor within one block, to a block of its own. Where it does not, nothing is
+// said.
 use crate::ReadBlockHead;
 use entries::BlockId;
 use fields::ReadU32;
@@ -31,7 +32,7 @@ fn stamp_block(ids: &[u32], index: &[u8; 256], id: u32, stamps: &mut [u8; 128], 
     true
 }
 
-// Whether the index leads from each block's id to another block.
+// Whether the index leads from each block's id to a block of its own.
 fn ids_apart(ids: &[u32], index: &[u8; 256]) -> bool
     requires { ⌜ length (now ids) ≤ 128 ⌝ }
     ensures { λ r. ⌜ (r ≡ true → repeats (blockIds (now (ids .entry))) ≡ false) ⌝ }
@@ -48,8 +49,8 @@ fn ids_apart(ids: &[u32], index: &[u8; 256]) -> bool
     true
 }
 
-// Whether the index leads from each of `count` ids, read from a place on, to another block, none of
-// which has this stamp before.
+// Whether the index leads from each of `count` ids, read from a place on, to a block of its own
+// that has not this stamp before.
 fn fields_apart(
     s: &[u8],
     start: usize,

@@ -166,7 +166,8 @@ fn unknown(s: &[u8], ids: &[u32], places: &[usize], scope: BlockId) -> bool
     !contains_from(ids, 0, scope)
 }
 
-// The answer for a job whose records were read, by the ids and the places of its blocks.
+// The answer for a job whose records were read, by the ids and the places of its blocks. Ids are
+// compared with each other only where an index of them does not rule both refusals out.
 pub fn checked_by(s: &[u8], ids: &[u32], places: &[usize], head: JobHead) -> ReadJob
     requires { ⌜ (head .blocks ≤ length (now ids)) × (head .blocks ≤ length (now places))
         × BlocksRead (now s) (take (head .blocks) (now places)) ⌝ }

@@ -1,5 +1,5 @@
 -- The loop's invariant: each of the two tests passes for a block from here on if it passes for one
--- of all. It fails for each block whose predecessors are led to other blocks.
+-- of all. It fails for a block whose predecessors are led to blocks of their own.
 use borrow.Author.Needs.{needs}
 use Prim.Native.Nat.{_-_}
 use mathlib.Core.Path.{_≡_, refl, sym, _∙_}

@@ -1,5 +1,5 @@
--- The loop's invariant, as that of `ids_apart`: the ids from here on are led to other blocks if all
--- are.
+-- The loop's invariant, as that of `ids_apart`: the ids from here on are led to blocks of their own
+-- if all are.
 use borrow.Author.Needs.{needs}
 use Prim.Native.Nat.{_-_}
 use native.Mathlib.Nat.{sub-zero}

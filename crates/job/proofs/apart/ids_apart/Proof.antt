@@ -1,5 +1,5 @@
--- The loop's invariant: the ids from here on are led to other blocks if all are. So they are where
--- the loop ends, and none stands twice.
+-- The loop's invariant: the ids from here on are led to blocks of their own if all are. So all are
+-- where the loop ends, and none stands twice.
 use borrow.Author.Needs.{needs}
 use Prim.Native.Nat.{_-_}
 use mathlib.Core.Path.{_≡_, refl, sym, _∙_}
