@@ -1,8 +1,8 @@
--- A candidate that is walked, merged and appended is added to the forest; no way down becomes
--- longer than the longest walk.
+-- A candidate whose walk is entered is added to the forest; no way down becomes longer than the
+-- longest walk.
 use Prim.Native.Nat.{ℕ, zero, suc, _+_, _≤_, _<_}
 use native.Mathlib.Omega.{arith}
-use mathlib.Core.Path.{_≡_, refl, sym, ap, _∙_}
+use mathlib.Core.Path.{_≡_, sym, ap, subst, _∙_}
 use mathlib.Core.Bool.{cond}
 use mathlib.Core.List.{List, [], _∷_}
 use borrow.Author.Tests.{leb-true, leb-false}
@@ -11,14 +11,15 @@ use lib.Seq.{getD-set-same}
 use lib.Dec.{leb}
 use Rattle.model.specs.Tests.{by-cond, decide}
 use Rattle.model.specs.Forest.{Key, sameKey, Forest, empty, position, chain, add}
-use Rattle.model.specs.Tree.{DependencyPosition, dependencyKey, mergePosition, rootPosition}
-use Rattle.tree.specs.declared.Way.{Way}
-use Rattle.tree.specs.declared.Left.{Left}
+use Rattle.entries.specs.declared.PropertyAccessType.{PropertyAccessType}
+use Rattle.entries.specs.declared.PropertyAccessType.the-variants.{OptionalDependency}
+use Rattle.entries.specs.Access.{mergeAccess}
+use Rattle.model.specs.Tree.{DependencyPosition, dependencyKey, mergePosition}
 use Rattle.laws.specs.Flat.{grow}
-use Rattle.tree.specs.Words.{positionsFrom}
-use Rattle.tree.specs.Walk.{walkBy, bitsOf, pathAt, Walks}
 use Rattle.laws.specs.FlatLaws.{grow-enter}
-use Rattle.tree.specs.Tree.{countIn, nodesOf, forestOf, height, Held, entered, Leaves, Descends, Appends, Adds}
+use Rattle.tree.specs.Words.{positionAs}
+use Rattle.tree.specs.Tree.{countIn, nodesOf, forestOf, height, Sized, Held, entered, Enters, Adds}
+use Rattle.tree.proofs.Walking.{walkOf, walk-few, Walking, walking-over}
 
 -- The height.
 
@@ -63,38 +64,26 @@ module _ (ws : List ℕ) (long : length ws ≡ 1089) where
     low = rw (cleared s) (omega arith);
   }
 
--- what `append` asks, by what the walk and the pass over the words gave
-pub leaves : {s before mid : List ℕ} {way : Way} {left : Left} {ss : List DependencyPosition} → countIn before + 17 ≤ 1088 → Walks s way ss
-    → Descends s before mid way left → Leaves mid way left
-leaves room w d =
-    let few = w .few in
-    let count = d .count in
-    let last = d .last in
-    record { sized = d .sized; fits = omega arith; found = d .found; few = few; last = omega arith; first = d .first; parents = w .parents }
-
-pub positions-length : (s ws : List ℕ) (k n : ℕ) → length (positionsFrom s ws k n) ≡ n
-positions-length s ws k zero = refl
-positions-length s ws k (suc n) = ap suc (positions-length s ws (suc k) n)
-
-module _ {s before mid after : List ℕ} {way : Way} {left : Left} {ss : List DependencyPosition}
-    (held : Held s before) (w : Walks s way ss) (d : Descends s before mid way left) (a : Appends mid after way left) where
-  nodes-after : nodesOf s after ≡ entered (nodesOf s before) 0 0 ss
-  nodes-after = a .is s ∙ rw (d .count) (sym (d .is)) ∙ ap (entered (nodesOf s before) 0 0) (w .is)
-
+-- A candidate whose walk is entered is added to the forest.
+module _ (s before after : List ℕ) (ss : List DependencyPosition) (held : Held s before) (few : length ss ≤ 17)
+    (is : entered (nodesOf s before) 0 0 ss ≡ nodesOf s after) where
   forest-after : forestOf s after ≡ add dependencyKey mergePosition (forestOf s before) ss
   unfolding forestOf
-  forest-after = ap (λ xs. grow xs 0 0) nodes-after ∙ grow-enter dependencyKey mergePosition (nodesOf s before) 0 0 ss (omega arith)
+  forest-after = ap (λ xs. grow xs 0 0) (sym is) ∙ grow-enter dependencyKey mergePosition (nodesOf s before) 0 0 ss (omega arith)
 
-  walk-few : length ss ≤ 17
-  walk-few = let few = w .few in let size = sym (ap length (w .is)) ∙ positions-length s (way .words) 0 (way .depth) in omega arith
+  after-held : Sized after → Held s after
+  after-held sized = record { sized = sized; low = rw forest-after (add-height dependencyKey mergePosition (forestOf s before) ss 17 (held .low) few) }
 
-  after-held : Held s after
-  after-held = record { sized = a .sized; low = rw forest-after (add-height dependencyKey mergePosition (forestOf s before) ss 17 (held .low) walk-few) }
-
-  few-more : countIn after ≤ countIn before + 17
-  few-more = let few = w .few in let x = a .count in let y = d .count in omega arith
-
-pub added : {s before mid after : List ℕ} {way : Way} {left : Left} (at levels : ℕ) → Held s before
-    → Walks s way (walkBy (bitsOf 17 levels) (rootPosition (pathAt s at)) (pathAt s at .path)) → Descends s before mid way left
-    → Appends mid after way left → Adds s before after at levels
-added at levels held w d a = record { held = after-held held w d a; few = few-more held w d a; is = forest-after held w d a }
+pub added : {s before ws : List ℕ} {at levels parent place : ℕ} {a : PropertyAccessType} {next left flags : ℕ} → Held s before
+    → Walking s before ws (walkOf s at levels) parent place a next left flags → left ≤ 0 → (last : PropertyAccessType)
+    → last ≡ mergeAccess a OptionalDependency → (after : List ℕ) (number : ℕ) → Enters s ws after parent (positionAs s parent place last) number
+    → Adds s before after at levels
+added {s} {before} {ws} {at} {levels} {parent} {place} held w h last is-last after number e =
+    let few = w .few in
+    let more = e .few in
+    let is = walking-over w h after number (subst (λ (b : PropertyAccessType). Enters s ws after parent (positionAs s parent place b) number) is-last e) in
+    record {
+      held = after-held s before after (walkOf s at levels) held (walk-few s at levels) is (e .sized);
+      few = omega arith;
+      is = forest-after s before after (walkOf s at levels) held (walk-few s at levels) is;
+    }

@@ -1,13 +1,14 @@
 -- The first dependencies on each way down, position by position: what is still to be derived from
 -- here on is the rest of the whole.
-use Prim.Native.Nat.{ℕ, suc, _+_, _-_, _≤_, _<_}
+use Prim.Native.Nat.{ℕ, zero, suc, _+_, _-_, _≤_, _<_}
 use native.Mathlib.Omega.{arith}
 use native.Mathlib.Numerals.{add-one}
-use native.Mathlib.Nat.{add-zero}
+use native.Mathlib.Nat.{add-zero, zero-add}
 use mathlib.Core.Path.{_≡_, refl, sym, ap, subst, _∙_}
 use mathlib.Core.Bool.{Bool, true, false, cond}
 use mathlib.Core.List.{List, [], _∷_, _++_, map, append-assoc, append-nil}
-use lib.ListN.{length, getD, set, length-append}
+use lib.ListN.{length, getD, set, length-append, length-set}
+use lib.Seq.{getD-set-same, getD-set-other}
 use lib.Dec.{leb}
 use Rattle.entries.specs.Access.{isDependencyAccess}
 use Rattle.entries.specs.Path.{ReactiveScopeDependency}
@@ -17,11 +18,9 @@ use Rattle.model.specs.Tests.{eqb-equal, eqb-apart}
 use Rattle.model.specs.Tree.{DependencyPosition, isDependency, dependencyOf}
 use Rattle.writer.specs.Writes.{Writes, pathHeadBytes}
 use Rattle.writer.proofs.Bytes.{path-head-length, writes-none, writes-as, Coming, coming-start, coming-more, coming-over, coming-room, coming-as}
-use Rattle.tree.specs.declared.Way.{Way}
 use Rattle.tree.specs.declared.Written.{Written}
 use Rattle.laws.specs.Flat.{grow, flatFirsts}
-use Rattle.tree.specs.Words.{parentIn, placeIn, accessIn, positionOf, nodeOf, nodesFrom}
-use Rattle.tree.specs.Walk.{wayPositions}
+use Rattle.tree.specs.Words.{parentIn, placeIn, accessIn, positionOf, nodeOf, positionsFrom, nodesFrom, wayPositions}
 use Rattle.laws.specs.FlatLaws.{flat-firsts}
 use Rattle.tree.specs.Tree.{
   countIn,
@@ -34,12 +33,12 @@ use Rattle.tree.specs.Tree.{
   nodesAfter,
   returnedFrom,
   pathsFrom,
+  KeepsWay,
   Derives,
   Puttable,
   Derivable,
 }
 use Rattle.tree.proofs.Packed.{position-access}
-use Rattle.tree.proofs.Walking.{way-pushed}
 use Rattle.tree.proofs.Adding.{children-lower, others-lower}
 
 -- The bytes of a list of paths.
@@ -62,10 +61,46 @@ bytes-many : (ds : List ReactiveScopeDependency) → length ds ≤ length (bytes
 bytes-many [] = omega arith
 bytes-many (d ∷ ds) = omega (arith, bytes-many ds, path-long d, length-append (pathBytes 4 DE d) (bytesOf ds))
 
+-- A way down in words.
+
+positions-snoc : (s ws : List ℕ) (k n : ℕ) → positionsFrom s ws k (suc n) ≡ positionsFrom s ws k n ++ (positionOf s (getD ws (k + n) 0) ∷ [])
+positions-snoc s ws k zero = rw (add-zero k)
+positions-snoc s ws k (suc n) = ap (λ (l : List DependencyPosition). positionOf s (getD ws k 0) ∷ l)
+    (let e : k + suc n ≡ suc k + n = omega arith in rw e (positions-snoc s ws (suc k) n))
+
+-- words that agree have the same positions
+positions-same : (s ws vs : List ℕ) (k n : ℕ) → ((j : ℕ) → j < k + n → getD vs j 0 ≡ getD ws j 0) → positionsFrom s vs k n ≡ positionsFrom s ws k n
+positions-same s ws vs k zero h = refl
+positions-same s ws vs k (suc n) h = rw (h k (omega arith), positions-same s ws vs (suc k) n (λ j l. h j (omega arith)))
+
+pub kept-positions : (s : List ℕ) {way to : List ℕ} {depth : ℕ} → KeepsWay way to depth → wayPositions s to depth ≡ wayPositions s way depth
+kept-positions s {way} {to} {depth} k = positions-same s way to 0 depth (λ j l. k .same j (omega arith))
+
+-- One position more: the word at the end of the way.
+module _ (way to : List ℕ) (depth w : ℕ) (within : depth < length way) where
+  pub pushed-keeps : to ≡ set way depth w → KeepsWay way to depth
+  pushed-keeps e = record {
+    long = ap length e ∙ length-set way depth w;
+    same = λ j l. ap (λ (l : List ℕ). getD l j 0) e ∙ getD-set-other way depth j w 0 (λ z. omega arith);
+  }
+
+  pub way-pushed : (s : List ℕ) → to ≡ set way depth w → wayPositions s to (depth + 1) ≡ wayPositions s way depth ++ (positionOf s w ∷ [])
+  way-pushed s e =
+      ap (positionsFrom s to 0) (add-one depth)
+      ∙ positions-snoc s to 0 depth
+      ∙ rw (zero-add depth, kept-positions s (pushed-keeps e))
+      (ap (λ (v : ℕ). wayPositions s way depth ++ (positionOf s v ∷ [])) (ap (λ (l : List ℕ). getD l depth 0) e ∙ getD-set-same way depth w 0 within))
+
+pub keeps-more : {way mid to : List ℕ} {depth : ℕ} → KeepsWay way mid depth → KeepsWay mid to depth → KeepsWay way to depth
+keeps-more a b = record { long = b .long ∙ a .long; same = λ j l. b .same j l ∙ a .same j l }
+
+pub keeps-less : {way to : List ℕ} {depth : ℕ} → KeepsWay way to (depth + 1) → KeepsWay way to depth
+keeps-less a = record { long = a .long; same = λ j l. a .same j (omega arith) }
+
 -- One record.
 
-pub count-fits : {s : List ℕ} {way : Way} {out : List ℕ} {done : Written} → Puttable s way out done → done .count + 1 ≤ length out
-count-fits {s} {way} p = let a = p .room in let b = p .few in let c = path-long (dependencyOf (wayPositions s way)) in omega arith
+pub count-fits : {s way : List ℕ} {depth : ℕ} {out : List ℕ} {done : Written} → Puttable s way depth out done → done .count + 1 ≤ length out
+count-fits {s} {way} {depth} p = let a = p .room in let b = p .few in let c = path-long (dependencyOf (wayPositions s way depth)) in omega arith
 
 pub put-one : (d : ReactiveScopeDependency) {before after : List ℕ} (done : Written) (at : ℕ) → Writes before after (done .at) (pathBytes 4 DE d) at
     → Derives (d ∷ []) before after done (record { at = at; count = done .count + 1 })
@@ -83,24 +118,21 @@ pub through : (before : List DependencyPosition) (p : DependencyPosition) (ws : 
 through before p [] = refl
 through before p (w ∷ ws) = rw (through before p ws, append-assoc before (p ∷ []) w)
 
-module _ (s ws : List ℕ) (parent i : ℕ) (way : Way) (h : i < countIn ws) where
+module _ (s ws : List ℕ) (parent i : ℕ) (way : List ℕ) (depth : ℕ) (h : i < countIn ws) where
   abbrev word : ℕ
   word = getD ws i 0
 
   abbrev here : DependencyPosition
   here = positionOf s word
 
-  abbrev next : Way
-  next = record { words = set (way .words) (way .depth) word; depth = way .depth + 1 }
-
   after-one : nodesAfter s ws i ≡ nodeOf s word ∷ nodesAfter s ws (i + 1)
   after-one = let e : countIn ws - i ≡ suc (countIn ws - (i + 1)) = omega arith in rw (e, add-one i)
 
-  pub paths-other : ¬ (parentIn word ≡ parent) → pathsFrom s ws parent i way ≡ pathsFrom s ws parent (i + 1) way
+  pub paths-other : ¬ (parentIn word ≡ parent) → pathsFrom s ws parent i way depth ≡ pathsFrom s ws parent (i + 1) way depth
   unfolding pathsFrom
   paths-other n = rw (after-one, eqb-apart (parentIn word) parent n, ← add-one i)
 
-  low-other : ¬ (parentIn word ≡ parent) → grow (nodesAfter s ws i) i parent ≡ grow (nodesAfter s ws (i + 1)) (i + 1) parent
+  pub low-other : ¬ (parentIn word ≡ parent) → grow (nodesAfter s ws i) i parent ≡ grow (nodesAfter s ws (i + 1)) (i + 1) parent
   low-other n = rw (after-one, eqb-apart (parentIn word) parent n, ← add-one i)
 
   module _ (e : parentIn word ≡ parent) where
@@ -117,9 +149,10 @@ module _ (s ws : List ℕ) (parent i : ℕ) (way : Way) (h : i < countIn ws) whe
     low-others n l = others-lower (height (grow (nodesAfter s ws (i + 1)) (i + 1) (i + 1))) (height (grow (nodesAfter s ws (i + 1)) (i + 1) parent)) n
         (subst (λ m. m ≤ n) low-here l)
 
-    module _ (long : way .depth < length (way .words)) where
+    -- `to` is the way down with this position at its end
+    module _ (to : List ℕ) (pushed : wayPositions s to (depth + 1) ≡ wayPositions s way depth ++ (here ∷ [])) where
       pub paths-dependency : isDependencyAccess (accessIn word) ≡ true
-          → pathsFrom s ws parent i way ≡ (dependencyOf (wayPositions s next) ∷ []) ++ pathsFrom s ws parent (i + 1) way
+          → pathsFrom s ws parent i way depth ≡ (dependencyOf (wayPositions s to (depth + 1)) ∷ []) ++ pathsFrom s ws parent (i + 1) way depth
       unfolding pathsFrom
       paths-dependency d =
           rw (
@@ -127,12 +160,12 @@ module _ (s ws : List ℕ) (parent i : ℕ) (way : Way) (h : i < countIn ws) whe
             eqb-equal (parentIn word) parent e,
             ap isDependencyAccess (position-access s (parentIn word) (placeIn word) (accessIn word))
                 ∙ d,
-            way-pushed s way word long,
+            pushed,
             ← add-one i,
           )
 
-      pub paths-children : isDependencyAccess (accessIn word) ≡ false → pathsFrom s ws parent i way ≡ pathsFrom s ws (i + 1)
-          (i + 1) next ++ pathsFrom s ws parent (i + 1) way
+      pub paths-children : isDependencyAccess (accessIn word) ≡ false → pathsFrom s ws parent i way depth ≡ pathsFrom s ws (i + 1)
+          (i + 1) to (depth + 1) ++ pathsFrom s ws parent (i + 1) way depth
       unfolding pathsFrom
       paths-children d =
           rw (
@@ -140,30 +173,35 @@ module _ (s ws : List ℕ) (parent i : ℕ) (way : Way) (h : i < countIn ws) whe
             eqb-equal (parentIn word) parent e,
             ap isDependencyAccess (position-access s (parentIn word) (placeIn word) (accessIn word))
                 ∙ d,
-            way-pushed s way word long,
+            pushed,
             ← add-one i,
           )
-          (map-append (λ w. dependencyOf (wayPositions s way ++ w))
+          (map-append (λ w. dependencyOf (wayPositions s way depth ++ w))
           (map (λ w. here ∷ w) (flatFirsts isDependency (nodesAfter s ws (i + 1)) (i + 1) (i + 1)))
           (flatFirsts isDependency (nodesAfter s ws (i + 1)) (i + 1) parent)
-          ∙ ap (λ l. l ++ returnedFrom (wayPositions s way) (nodesAfter s ws (i + 1)) (i + 1) parent)
-          (through (wayPositions s way) here (flatFirsts isDependency (nodesAfter s ws (i + 1)) (i + 1) (i + 1))))
+          ∙ ap (λ l. l ++ returnedFrom (wayPositions s way depth) (nodesAfter s ws (i + 1)) (i + 1) parent)
+          (through (wayPositions s way depth) here (flatFirsts isDependency (nodesAfter s ws (i + 1)) (i + 1) (i + 1))))
 
--- The loop over the positions.
+-- The loop over the positions. `way` is the way down at the start, `now` what the words of the way
+-- are now.
 
-pub record Deriving (s ws : List ℕ) (parent from : ℕ) (way : Way) (before out : List ℕ) (start done : Written) (i : ℕ) : Type 0 where
+pub record Deriving (s ws : List ℕ) (parent from : ℕ) (way now : List ℕ) (depth : ℕ) (before out : List ℕ) (start done : Written) (i : ℕ) : Type 0 where
   pub sized : Sized ws
+  pub long : length way ≡ 17
+  pub keeps : KeepsWay way now depth
   pub reached : from ≤ i
-  pub low : way .depth + height (grow (nodesAfter s ws i) i parent) ≤ 17
-  pub room : start .at + length (bytesOf (pathsFrom s ws parent from way)) ≤ length before
-  pub coming : Coming before out (start .at) (done .at) (bytesOf (pathsFrom s ws parent from way)) (bytesOf (pathsFrom s ws parent i way))
-  pub counts : done .count + length (pathsFrom s ws parent i way) ≡ start .count + length (pathsFrom s ws parent from way)
+  pub low : depth + height (grow (nodesAfter s ws i) i parent) ≤ 17
+  pub room : start .at + length (bytesOf (pathsFrom s ws parent from way depth)) ≤ length before
+  pub coming : Coming before out (start .at) (done .at) (bytesOf (pathsFrom s ws parent from way depth)) (bytesOf (pathsFrom s ws parent i way depth))
+  pub counts : done .count + length (pathsFrom s ws parent i way depth) ≡ start .count + length (pathsFrom s ws parent from way depth)
   pub few : done .count ≤ done .at
 
-pub deriving-start : {s ws : List ℕ} {parent from : ℕ} {way : Way} {out : List ℕ} {start : Written} → Derivable s ws parent from way out start
-    → Deriving s ws parent from way out out start start from
+pub deriving-start : {s ws : List ℕ} {parent from : ℕ} {way : List ℕ} {depth : ℕ} {out : List ℕ} {start : Written}
+    → Derivable s ws parent from way depth out start → Deriving s ws parent from way way depth out out start start from
 deriving-start {out = out} {start = start} d = record {
   sized = d .sized;
+  long = d .long;
+  keeps = record { long = refl; same = λ j l. refl };
   reached = omega arith;
   low = d .low;
   room = d .room;
@@ -172,13 +210,13 @@ deriving-start {out = out} {start = start} d = record {
   few = d .few;
 }
 
-module _ {s ws : List ℕ} {parent from : ℕ} {way : Way} {before out : List ℕ} {start done : Written} {i : ℕ}
-    (d : Deriving s ws parent from way before out start done i) where
-  none-left : countIn ws ≤ i → pathsFrom s ws parent i way ≡ []
+module _ {s ws : List ℕ} {parent from : ℕ} {way now : List ℕ} {depth : ℕ} {before out : List ℕ} {start done : Written} {i : ℕ}
+    (d : Deriving s ws parent from way now depth before out start done i) where
+  none-left : countIn ws ≤ i → pathsFrom s ws parent i way depth ≡ []
   unfolding pathsFrom
   none-left h = let z : countIn ws - i ≡ 0 = omega arith in rw z
 
-  pub deriving-over : countIn ws ≤ i → Derives (pathsFrom s ws parent from way) before out start done
+  pub deriving-over : countIn ws ≤ i → Derives (pathsFrom s ws parent from way depth) before out start done
   deriving-over h =
       let none = none-left h in
       record {
@@ -187,11 +225,12 @@ module _ {s ws : List ℕ} {parent from : ℕ} {way : Way} {before out : List �
       }
 
   -- some of the paths are written, and the others come from the next position on
-  deriving-more : (ds : List ReactiveScopeDependency) → pathsFrom s ws parent i way ≡ ds ++ pathsFrom s ws parent (i + 1) way
-      → way .depth + height (grow (nodesAfter s ws (i + 1)) (i + 1) parent) ≤ 17 → (more : List ℕ) (next : Written) → Derives ds out more done next
-      → Deriving s ws parent from way before more start next (i + 1)
-  deriving-more ds e low more next x =
-      let rest = pathsFrom s ws parent (i + 1) way in
+  deriving-more : (ds : List ReactiveScopeDependency) → pathsFrom s ws parent i way depth ≡ ds ++ pathsFrom s ws parent (i + 1) way depth
+      → depth + height (grow (nodesAfter s ws (i + 1)) (i + 1) parent) ≤ 17 → (to : List ℕ) → KeepsWay way to depth → (more : List ℕ) (next : Written)
+      → Derives ds out more done next
+      → Deriving s ws parent from way to depth before more start next (i + 1)
+  deriving-more ds e low to keeps more next x =
+      let rest = pathsFrom s ws parent (i + 1) way depth in
       let all = ap length e ∙ length-append ds rest in
       let counted = d .counts in
       let one = x .counts in
@@ -201,6 +240,8 @@ module _ {s ws : List ℕ} {parent from : ℕ} {way : Way} {before out : List �
       let r = d .reached in
       record {
         sized = d .sized;
+        long = d .long;
+        keeps = keeps;
         reached = omega arith;
         low = low;
         room = d .room;
@@ -210,96 +251,88 @@ module _ {s ws : List ℕ} {parent from : ℕ} {way : Way} {before out : List �
       }
 
   -- what is written now finds its room
-  part-room : (ds : List ReactiveScopeDependency) → pathsFrom s ws parent i way ≡ ds ++ pathsFrom s ws parent (i + 1) way → done .at + length
-      (bytesOf ds) ≤ length out
+  part-room : (ds : List ReactiveScopeDependency) → pathsFrom s ws parent i way depth ≡ ds ++ pathsFrom s ws parent (i + 1) way depth
+      → done .at + length (bytesOf ds) ≤ length out
   part-room ds e =
-      let rest = pathsFrom s ws parent (i + 1) way in
+      let rest = pathsFrom s ws parent (i + 1) way depth in
       let all = coming-room (coming-as (ap bytesOf e ∙ bytes-append ds rest) (d .coming)) (d .room) in
       let l = length-append (bytesOf ds) (bytesOf rest) in
       omega arith
 
   module _ (h : i < countIn ws) where
-    pub deriving-other : ¬ (parentIn (getD ws i 0) ≡ parent) → Deriving s ws parent from way before out start done (i + 1)
+    pub deriving-other : ¬ (parentIn (getD ws i 0) ≡ parent) → Deriving s ws parent from way now depth before out start done (i + 1)
     deriving-other n =
-        deriving-more [] (paths-other s ws parent i way h n) (rw (← low-other s ws parent i way h n) (d .low)) out done
+        deriving-more [] (paths-other s ws parent i way depth h n) (rw (← low-other s ws parent i way depth h n) (d .low)) now (d .keeps) out done
         (record { writes = writes-none; counts = sym (add-zero (done .count)) })
 
-    module _ (e : parentIn (getD ws i 0) ≡ parent) (long : length (way .words) ≡ 17) where
-      abbrev deeper : Way
-      deeper = record { words = set (way .words) (way .depth) (getD ws i 0); depth = way .depth + 1 }
+    module _ (e : parentIn (getD ws i 0) ≡ parent) where
+      children : depth + 1 + height (grow (nodesAfter s ws (i + 1)) (i + 1) (i + 1)) ≤ 17
+      children = let l = d .low in let c = low-children s ws parent i way depth h e (height (grow (nodesAfter s ws i) i parent)) (omega arith) in omega arith
 
-      children : way .depth + 1 + height (grow (nodesAfter s ws (i + 1)) (i + 1) (i + 1)) ≤ 17
-      children = let l = d .low in let c = low-children s ws parent i way h e (height (grow (nodesAfter s ws i) i parent)) (omega arith) in omega arith
+      others : depth + height (grow (nodesAfter s ws (i + 1)) (i + 1) parent) ≤ 17
+      others = let l = d .low in let c = low-others s ws parent i way depth h e (height (grow (nodesAfter s ws i) i parent)) (omega arith) in omega arith
 
-      others : way .depth + height (grow (nodesAfter s ws (i + 1)) (i + 1) parent) ≤ 17
-      others = let l = d .low in let c = low-others s ws parent i way h e (height (grow (nodesAfter s ws i) i parent)) (omega arith) in omega arith
-
-      pub deriving-short : way .depth < 17
+      pub deriving-short : depth < 17
       deriving-short = let c = children in omega arith
 
-      within : way .depth < length (way .words)
-      within = let c = deriving-short in omega arith
+      within : depth < length now
+      within = let c = deriving-short in let l = d .keeps .long in let m = d .long in omega arith
 
-      deriving-puttable : isDependencyAccess (accessIn (getD ws i 0)) ≡ true → Puttable s deeper out done
-      deriving-puttable t =
-          let one = dependencyOf (wayPositions s deeper) in
-          let room = part-room (one ∷ []) (paths-dependency s ws parent i way h e within t) in
-          let same = ap length (append-nil (pathBytes 4 DE one)) in
-          let short = deriving-short in
-          record { some = omega arith; short = omega arith; room = omega arith; few = d .few }
+      -- the position is put at the end of the way, and the test on the access is as the code has it
+      module _ (to : List ℕ) (stored : to ≡ set now depth (getD ws i 0)) (dependency : Bool)
+          (tested : dependency ≡ isDependencyAccess (accessIn (getD ws i 0))) where
+        pushed : wayPositions s to (depth + 1) ≡ wayPositions s way depth ++ (positionOf s (getD ws i 0) ∷ [])
+        pushed =
+            way-pushed now to depth (getD ws i 0) within s stored
+            ∙ ap (λ (ps : List DependencyPosition). ps ++ (positionOf s (getD ws i 0) ∷ [])) (kept-positions s (d .keeps))
 
-      deriving-put : isDependencyAccess (accessIn (getD ws i 0)) ≡ true → (more : List ℕ) (next : Written) → Derives
-          (dependencyOf (wayPositions s deeper) ∷ []) out more done next
-          → Deriving s ws parent from way before more start next (i + 1)
-      deriving-put t = deriving-more (dependencyOf (wayPositions s deeper) ∷ []) (paths-dependency s ws parent i way h e within t) others
+        to-keeps : KeepsWay way to depth
+        to-keeps = keeps-more (d .keeps) (pushed-keeps now to depth (getD ws i 0) within stored)
 
-      deriving-derivable : isDependencyAccess (accessIn (getD ws i 0)) ≡ false → Derivable s ws (i + 1) (i + 1) deeper out done
-      deriving-derivable t = record {
-        sized = d .sized;
-        low = children;
-        room = part-room (pathsFrom s ws (i + 1) (i + 1) deeper) (paths-children s ws parent i way h e within t);
-        few = d .few;
-      }
+        abbrev one : ReactiveScopeDependency
+        one = dependencyOf (wayPositions s to (depth + 1))
 
-      deriving-derived : isDependencyAccess (accessIn (getD ws i 0)) ≡ false → (more : List ℕ) (next : Written) → Derives
-          (pathsFrom s ws (i + 1) (i + 1) deeper) out more done next
-          → Deriving s ws parent from way before more start next (i + 1)
-      deriving-derived t = deriving-more (pathsFrom s ws (i + 1) (i + 1) deeper) (paths-children s ws parent i way h e within t) others
+        pub asked-put : dependency ≡ true → Puttable s to (depth + 1) out done
+        asked-put t =
+            let room = part-room (one ∷ []) (paths-dependency s ws parent i way depth h e to pushed (sym tested ∙ t)) in
+            let same = ap length (append-nil (pathBytes 4 DE one)) in
+            let short = deriving-short in
+            record { some = omega arith; short = omega arith; room = omega arith; few = d .few }
 
-      -- the same, as the code knows it: by the way that was pushed and the test on the access
-      module _ (to : Way) (pushed : to ≡ deeper) (dependency : Bool) (tested : dependency ≡ isDependencyAccess (accessIn (getD ws i 0))) where
-        pub asked-put : dependency ≡ true → Puttable s to out done
-        asked-put t = rw pushed (deriving-puttable (sym tested ∙ t))
+        pub put : dependency ≡ true → (more : List ℕ) (next : Written) → Derives (one ∷ []) out more done next
+            → Deriving s ws parent from way to depth before more start next (i + 1)
+        put t = deriving-more (one ∷ []) (paths-dependency s ws parent i way depth h e to pushed (sym tested ∙ t)) others to to-keeps
 
-        pub put : dependency ≡ true → (more : List ℕ) (next : Written) → Derives (dependencyOf (wayPositions s to) ∷ []) out more done next
-            → Deriving s ws parent from way before more start next (i + 1)
-        put t more next x = deriving-put (sym tested ∙ t) more next (rw pushed at x)
+        pub asked-derived : dependency ≡ false → Derivable s ws (i + 1) (i + 1) to (depth + 1) out done
+        asked-derived t = record {
+          sized = d .sized;
+          long = to-keeps .long ∙ d .long;
+          low = children;
+          room = part-room (pathsFrom s ws (i + 1) (i + 1) to (depth + 1)) (paths-children s ws parent i way depth h e to pushed (sym tested ∙ t));
+          few = d .few;
+        }
 
-        pub asked-derived : dependency ≡ false → Derivable s ws (i + 1) (i + 1) to out done
-        asked-derived t = rw pushed (deriving-derivable (sym tested ∙ t))
-
-        pub derived : dependency ≡ false → (more : List ℕ) (next : Written) → Derives (pathsFrom s ws (i + 1) (i + 1) to) out more done next
-            → Deriving s ws parent from way before more start next (i + 1)
-        derived t more next x = deriving-derived (sym tested ∙ t) more next (rw pushed at x)
+        pub derived : dependency ≡ false → (more to′ : List ℕ) (next : Written) → Derives (pathsFrom s ws (i + 1) (i + 1) to (depth + 1)) out more done next
+            → KeepsWay to to′ (depth + 1) → Deriving s ws parent from way to′ depth before more start next (i + 1)
+        derived t more to′ next x k =
+            deriving-more (pathsFrom s ws (i + 1) (i + 1) to (depth + 1)) (paths-children s ws parent i way depth h e to pushed (sym tested ∙ t)) others to′
+            (keeps-more to-keeps (keeps-less k)) more next x
 
 -- The whole.
 
-module _ (s ws words : List ℕ) where
-  abbrev root : Way
-  root = record { words = words; depth = 0 }
-
-  pub paths-all : pathsFrom s ws 0 0 root ≡ returnedOf s ws
+module _ (s ws way : List ℕ) where
+  pub paths-all : pathsFrom s ws 0 0 way 0 ≡ returnedOf s ws
   unfolding pathsFrom returnedOf forestOf nodesOf
   paths-all = let e : countIn ws - 0 ≡ countIn ws = omega arith in rw e (ap (map dependencyOf) (flat-firsts isDependency (nodesFrom s ws 0 (countIn ws)) 0 0))
 
-  pub derivable : (out : List ℕ) (at : ℕ) → Held s ws → at + length (bytesOf (returnedOf s ws)) ≤ length out → Derivable s ws 0 0 root out
-      (record { at = at; count = 0 })
+  pub derivable : (out : List ℕ) (at : ℕ) → length way ≡ 17 → Held s ws → at + length (bytesOf (returnedOf s ws)) ≤ length out
+      → Derivable s ws 0 0 way 0 out (record { at = at; count = 0 })
   unfolding forestOf nodesOf
-  derivable out at held room =
+  derivable out at long held room =
       let e : countIn ws - 0 ≡ countIn ws = omega arith in
       let low = held .low in
-      record { sized = held .sized; low = rw e (omega arith); room = rw paths-all room; few = omega arith }
+      record { sized = held .sized; long = long; low = rw e (omega arith); room = rw paths-all room; few = omega arith }
 
-  pub derives-all : {before after : List ℕ} {start done : Written} → Derives (pathsFrom s ws 0 0 root) before after start done → Derives
+  pub derives-all : {before after : List ℕ} {start done : Written} → Derives (pathsFrom s ws 0 0 way 0) before after start done → Derives
       (returnedOf s ws) before after start done
   derives-all {before} {after} {start} {done} x = subst (λ (ds : List ReactiveScopeDependency). Derives ds before after start done) paths-all x

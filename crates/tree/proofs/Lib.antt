@@ -1,6 +1,6 @@
 pub mod Packed
-pub mod Walking
 pub mod Entering
+pub mod Walking
 pub mod Adding
 pub mod Putting
 pub mod Deriving

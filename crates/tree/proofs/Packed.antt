@@ -5,17 +5,17 @@ use mathlib.Core.Path.{_≡_, refl, _∙_}
 use mathlib.Core.Bool.{Bool, true, false}
 use mathlib.Core.List.{List}
 use lib.Dec.{eqb}
-use Rattle.entries.specs.declared.DependencyPathEntry.{DependencyPathEntry}
 use Rattle.entries.specs.declared.PropertyAccessType.{PropertyAccessType}
 use Rattle.entries.specs.declared.PropertyAccessType.the-variants.{OptionalAccess, UnconditionalAccess, OptionalDependency, UnconditionalDependency}
 use Rattle.entries.specs.Access.{isOptionalAccess, isDependencyAccess, accessOf, mergeAccess}
-use Rattle.entries.specs.Path.{sameProperty}
 use Rattle.model.specs.Answer.{flag}
 use Rattle.model.specs.Tests.{decide, eqb-same, eqb-apart, flag-is}
-use Rattle.model.specs.Forest.{sameKey}
-use Rattle.model.specs.Tree.{DependencyPosition, withMerged, mergePosition}
+use Rattle.model.specs.Forest.{identifierKey, propertyKey, sameKey}
+use Rattle.model.specs.Tree.{withMerged}
+use Rattle.entries.specs.declared.DependencyPathEntry.{DependencyPathEntry}
 use Rattle.job.specs.declared.PathHead.{PathHead}
-use Rattle.tree.specs.Words.{headAt, entryAt, parentIn, placeIn, accessIn, pack, positionAs, positionOf, nodeOf, mergedWord}
+use Rattle.tree.specs.declared.Key.{Key}
+use Rattle.tree.specs.Words.{headAt, entryAt, parentIn, placeIn, accessIn, pack, keyOf, keyAt, positionAs, positionOf, nodeOf, mergedWord}
 use Rattle.tree.specs.Tree.{matches}
 
 -- The fields of a word: 16 bits, 16 bits, and two flags.
@@ -78,38 +78,40 @@ unfolding positionAs
 position-merged s p q a b = decide (eqb p 0) (λ e. rw e) (λ e. rw e)
 
 -- the merged word stands for the merged position below the same parent
-pub merged-node : (s : List ℕ) (w v : ℕ) → nodeOf s (mergedWord w v) ≡ record { parent = parentIn w; here = mergePosition (positionOf s w) (positionOf s v) }
-merged-node s w v =
-    let a = mergeAccess (accessIn w) (accessIn v) in
+pub merged-node : (s : List ℕ) (w : ℕ) (a : PropertyAccessType)
+    → nodeOf s (mergedWord w a) ≡ record { parent = parentIn w; here = withMerged (positionOf s w) a }
+merged-node s w a =
     let p< : parentIn w < 65536 = omega arith in
     let q< : placeIn w < 65536 = omega arith in
-    packed-node (parentIn w) (placeIn w) a p< q< s
-    ∙ rw (position-merged s (parentIn w) (placeIn w) (accessIn w) (accessIn v), position-access s (parentIn v) (placeIn v) (accessIn v))
+    packed-node (parentIn w) (placeIn w) (mergeAccess (accessIn w) a) p< q< s
+    ∙ rw (position-merged s (parentIn w) (placeIn w) (accessIn w) a)
 
--- The test on keys, by what the two parents say.
-module _ (s : List ℕ) (a b : ℕ) where
-  pub same-roots : (x y : PathHead) → parentIn a ≡ 0 → parentIn b ≡ 0 → x ≡ headAt s (placeIn a) → y ≡ headAt s (placeIn b)
-      → eqb (x .identifier .0) (y .identifier .0) ≡ sameKey (positionOf s a .key) (positionOf s b .key)
-  unfolding positionAs
-  same-roots x y ea eb ex ey = rw (ea, eb, ex, ey)
+-- a position's key stands at its place
+pub position-key : (s : List ℕ) (p q : ℕ) (a : PropertyAccessType) → positionAs s p q a .key ≡ keyAt s p q
+unfolding positionAs
+position-key s p q a = decide (eqb p 0) (λ e. rw e) (λ e. rw e)
 
-  pub root-and-child : parentIn a ≡ 0 → ¬ (parentIn b ≡ 0) → false ≡ sameKey (positionOf s a .key) (positionOf s b .key)
-  unfolding positionAs
-  root-and-child ea eb = rw (ea, eqb-apart (parentIn b) 0 eb)
+-- The key, by what the parent says.
+module _ (s : List ℕ) (parent place : ℕ) where
+  pub root-key : (head : PathHead) → parent ≡ 0 → head ≡ headAt s place → identifierKey (head .identifier) ≡ keyAt s parent place
+  root-key head p e = rw (p, e)
 
-  pub child-and-root : ¬ (parentIn a ≡ 0) → parentIn b ≡ 0 → false ≡ sameKey (positionOf s a .key) (positionOf s b .key)
-  unfolding positionAs
-  child-and-root ea eb = rw (eb, eqb-apart (parentIn a) 0 ea)
+  pub child-key : (entry : DependencyPathEntry) → ¬ (parent ≡ 0) → entry ≡ entryAt s place → propertyKey (entry .property) ≡ keyAt s parent place
+  child-key entry p e = rw (eqb-apart parent 0 p, e)
 
-  pub same-children : (x y : DependencyPathEntry) → ¬ (parentIn a ≡ 0) → ¬ (parentIn b ≡ 0) → x ≡ entryAt s (placeIn a) → y ≡ entryAt s (placeIn b)
-      → sameProperty (x .property) (y .property) ≡ sameKey (positionOf s a .key) (positionOf s b .key)
-  unfolding positionAs
-  same-children x y ea eb ex ey = rw (eqb-apart (parentIn a) 0 ea, eqb-apart (parentIn b) 0 eb, ex, ey)
+-- A word matches a step, or does not, as the code finds it: by its parent, then by the keys below
+-- that parent.
+module _ (s : List ℕ) (w step : ℕ) where
+  pub other-parent : ¬ (parentIn w ≡ parentIn step) → matches (nodeOf s w) (parentIn step) (positionOf s step) ≡ false
+  other-parent h = rw (eqb-apart (parentIn w) (parentIn step) h)
 
--- Position i of the words matches, or does not, as the code finds it.
-module _ (s : List ℕ) (w : ℕ) (p : ℕ) (q : DependencyPosition) where
-  pub other-parent : ¬ (parentIn w ≡ p) → false ≡ matches (nodeOf s w) p q
-  other-parent h = rw (eqb-apart (parentIn w) p h)
+  pub by-key : (b : Bool) → parentIn w ≡ parentIn step → sameKey (keyAt s (parentIn step) (placeIn w)) (keyAt s (parentIn step) (placeIn step)) ≡ b
+      → matches (nodeOf s w) (parentIn step) (positionOf s step) ≡ b
+  by-key b h e =
+      rw (position-key s (parentIn w) (placeIn w) (accessIn w), position-key s (parentIn step) (placeIn step) (accessIn step), h, eqb-same (parentIn step)) e
 
-  pub by-key : (b : Bool) → parentIn w ≡ p → b ≡ sameKey (positionOf s w .key) (q .key) → b ≡ matches (nodeOf s w) p q
-  by-key b h e = e ∙ rw (h, eqb-same p)
+  -- the two keys, as the code has them
+  pub keys-told : (parent at here : ℕ) (key other : Key) → parent ≡ parentIn step → at ≡ placeIn step → keyOf key ≡ keyAt s parent at → here ≡ placeIn w
+      → keyOf other ≡ keyAt s parent here
+      → sameKey (keyOf other) (keyOf key) ≡ sameKey (keyAt s (parentIn step) (placeIn w)) (keyAt s (parentIn step) (placeIn step))
+  keys-told parent at here key other p a k h o = rw (k, o, p, a, h)

@@ -1,30 +1,28 @@
--- The walk of a candidate, position by position: what is still to be walked behind the positions
--- noted is the whole.
+-- The walk of a candidate, position by position: what is still to be walked, entered below the
+-- position reached, is the whole walk entered.
 use Prim.Native.Nat.{ℕ, zero, suc, _+_, _*_, _-_, _/_, _%_, _≤_, _<_}
 use native.Mathlib.Omega.{arith}
-use native.Mathlib.Numerals.{add-one}
-use native.Mathlib.Nat.{add-zero, zero-add}
-use mathlib.Core.Path.{_≡_, refl, sym, ap, _∙_}
+use mathlib.Core.Path.{_≡_, refl, ap, _∙_}
 use mathlib.Core.Bool.{true, false, _||_, cond}
-use mathlib.Core.List.{List, [], _∷_, _++_, append-assoc}
-use lib.ListN.{length, getD, set, length-set}
-use lib.Seq.{getD-set-same, getD-set-other}
+use mathlib.Core.List.{List, [], _∷_}
+use lib.ListN.{length}
 use lib.Dec.{eqb}
 use Rattle.entries.specs.declared.DependencyPathEntry.{DependencyPathEntry}
 use Rattle.entries.specs.declared.PropertyAccessType.{PropertyAccessType}
 use Rattle.entries.specs.declared.PropertyAccessType.the-variants.{UnconditionalAccess, OptionalDependency}
 use Rattle.entries.specs.Access.{mergeAccess}
 use Rattle.model.specs.ReadingBytes.{Read, got, refused}
-use Rattle.model.specs.Tests.{decide, eqb-true, eqb-false, eqb-apart}
+use Rattle.model.specs.Tests.{by-cond, eqb-apart}
 use Rattle.model.specs.Tree.{DependencyPosition, ended, stepTo, stepAccess, rootPosition}
 use Rattle.job.specs.Head.{readPathHead}
 use Rattle.job.specs.declared.PathHead.{PathHead}
 use Rattle.laws.specs.Fits.{HoldsIfRead}
 use Rattle.job.proofs.Bounds.{entries-most}
-use Rattle.tree.specs.declared.Way.{Way}
-use Rattle.tree.specs.Words.{headOr, headAt, entryAt, parentIn, pack, positionAs, positionOf, positionsFrom}
-use Rattle.tree.specs.Walk.{walkBy, bitsOf, entriesFrom, pathAt, wayPositions, steppedTo, Walks}
-use Rattle.tree.proofs.Packed.{packed-parent, packed-position, position-merged}
+use Rattle.tree.specs.Words.{headOr, headAt, entryAt, positionAs}
+use Rattle.tree.specs.Walk.{walkBy, bitsOf, entriesFrom, pathAt}
+use Rattle.tree.specs.Tree.{countIn, nodesOf, Sized, entered, enteredFrom, Enters}
+use Rattle.tree.proofs.Packed.{position-merged}
+use Rattle.tree.proofs.Entering.{entered-start, entered-over}
 
 -- the walk with the flags still in a number
 abbrev pub walkBits : ℕ → DependencyPosition → List DependencyPathEntry → List DependencyPosition
@@ -49,104 +47,111 @@ pub head-few : (s : List ℕ) (at : ℕ) → headAt s at .entries ≤ 16
 unfolding headAt
 head-few s at = few-or (readPathHead s at) (entries-most s at)
 
--- Positions in words.
+-- a walk has at most one position more than there are entries
+walk-length : (x : ℕ) (p : DependencyPosition) (es : List DependencyPathEntry) → length (walkBits x p es) ≤ suc (length es)
+walk-length x p [] = omega arith
+walk-length x p (e ∷ es) =
+    by-cond (λ (l : List DependencyPosition). length l ≤ suc (length (e ∷ es))) (eqb (x % 2) 1 || e .optional)
+    (λ t. let l = walk-length (x / 2) (stepTo e (stepAccess (eqb (x % 2) 1))) es in omega arith) (λ t. omega arith)
 
-pub positions-snoc : (s ws : List ℕ) (k n : ℕ) → positionsFrom s ws k (suc n) ≡ positionsFrom s ws k n ++ (positionOf s (getD ws (k + n) 0) ∷ [])
-positions-snoc s ws k zero = rw (add-zero k)
-positions-snoc s ws k (suc n) = ap (λ (l : List DependencyPosition). positionOf s (getD ws k 0) ∷ l)
-    (let e : k + suc n ≡ suc k + n = omega arith in rw e (positions-snoc s ws (suc k) n))
+-- the whole walk of the candidate at a place
+abbrev pub walkOf : List ℕ → ℕ → ℕ → List DependencyPosition
+walkOf s at levels = walkBy (bitsOf 17 levels) (rootPosition (pathAt s at)) (pathAt s at .path)
 
-pub positions-set : (s ws : List ℕ) (m v k n : ℕ) → k + n ≤ m → positionsFrom s (set ws m v) k n ≡ positionsFrom s ws k n
-positions-set s ws m v k zero h = refl
-positions-set s ws m v k (suc n) h = rw (getD-set-other ws m k v 0 (λ e. omega arith), positions-set s ws m v (suc k) n (omega arith))
+module _ (s : List ℕ) (at levels : ℕ) where
+  abbrev entries : List DependencyPathEntry
+  entries = entriesFrom s (at + 10) (headAt s at .entries)
 
--- a word more at the end of a way is a position more
-pub way-pushed : (s : List ℕ) (way : Way) (w : ℕ) → way .depth < length (way .words)
-    → positionsFrom s (set (way .words) (way .depth) w) 0 (way .depth + 1) ≡ wayPositions s way ++ (positionOf s w ∷ [])
-way-pushed s way w h =
-    ap (positionsFrom s (set (way .words) (way .depth) w) 0) (add-one (way .depth))
-    ∙ positions-snoc s (set (way .words) (way .depth) w) 0 (way .depth)
-    ∙ rw (zero-add (way .depth), getD-set-same (way .words) (way .depth) w 0 h, positions-set s (way .words) (way .depth) w 0 (way .depth) (omega arith))
+  walk-is : walkOf s at levels ≡ walkBits levels (rootPosition (pathAt s at)) entries
+  unfolding pathAt
+  walk-is = let few = head-few s at in let size = entries-length s (at + 10) (headAt s at .entries) in
+      walk-bits 17 levels (rootPosition (pathAt s at)) entries (omega arith)
 
-module _ (s : List ℕ) (way : Way) (place : ℕ) (a : PropertyAccessType) (long : length (way .words) ≡ 17) (few : way .depth < 17) (near : place < 65536) where
-  stepped : wayPositions s (steppedTo way place a) ≡ wayPositions s way ++ (positionAs s (way .depth) place a ∷ [])
-  stepped =
-      way-pushed s way (pack (way .depth) place a) (omega arith)
-      ∙ ap (λ (q : DependencyPosition). wayPositions s way ++ (q ∷ [])) (packed-position (way .depth) place a (omega arith) near s)
+  pub walk-few : length (walkOf s at levels) ≤ 17
+  walk-few =
+      let few = head-few s at in
+      let size = entries-length s (at + 10) (headAt s at .entries) in
+      let most = walk-length levels (rootPosition (pathAt s at)) entries in
+      rw walk-is (omega arith)
 
-  stepped-parents : ((j : ℕ) → j < way .depth → parentIn (getD (way .words) j 0) ≡ j) → (j : ℕ) → j < way .depth + 1 → parentIn
-      (getD (steppedTo way place a .words) j 0) ≡ j
-  stepped-parents h j l =
-      let w = pack (way .depth) place a in
-      decide (eqb j (way .depth))
-      (λ e. let same = eqb-true j (way .depth) e in rw (same, getD-set-same (way .words) (way .depth) w 0 (omega arith))
-      (packed-parent (way .depth) place a (omega arith) near))
-      (λ e. let other = eqb-false j (way .depth) e in rw (getD-set-other (way .words) (way .depth) j w 0 other) (h j (omega (arith, other))))
-
--- The walk has come to the position at a place, with `left` entries from `next` on.
-pub record Walking (s : List ℕ) (whole : List DependencyPosition) (way : Way) (place : ℕ) (a : PropertyAccessType) (next left flags : ℕ) : Type 0 where
-  pub long : length (way .words) ≡ 17
-  pub few : way .depth + left ≤ 16
+-- The walk has come to the position at a place, below the number of the one before, with `left`
+-- entries from `next` on.
+pub record Walking (s before ws : List ℕ) (whole : List DependencyPosition) (parent place : ℕ) (a : PropertyAccessType)
+    (next left flags : ℕ) : Type 0 where
+  pub sized : Sized ws
+  pub few : countIn ws + (left + 1) ≤ countIn before + 17
+  pub room : countIn before + 17 ≤ 1088
+  pub lies : parent ≤ countIn ws
   pub near : place < 65536
   pub ahead : next + 14 * left < 65536
-  pub parents : (j : ℕ) → j < way .depth → parentIn (getD (way .words) j 0) ≡ j
-  pub is : wayPositions s way ++ walkBits flags (positionAs s (way .depth) place a) (entriesFrom s next left) ≡ whole
+  pub is : entered (nodesOf s before) 0 0 whole ≡ enteredFrom s ws parent parent
+      (walkBits flags (positionAs s parent place a) (entriesFrom s next left))
 
-pub walking-start : (s : List ℕ) (at levels : ℕ) (words : List ℕ) (head : PathHead) → length words ≡ 17 → at ≤ 32768 → head ≡ headAt s at
-    → Walking s (walkBy (bitsOf 17 levels) (rootPosition (pathAt s at)) (pathAt s at .path))
-    (record { words = words; depth = 0 }) at UnconditionalAccess (at + 10) (head .entries) levels
+pub walking-start : (s ws : List ℕ) (at levels : ℕ) (head : PathHead) → Sized ws → countIn ws + 17 ≤ 1088 → at ≤ 32768 → head ≡ headAt s at
+    → Walking s ws ws (walkOf s at levels) 0 at UnconditionalAccess (at + 10) (head .entries) levels
 unfolding pathAt positionAs
-walking-start s at levels words head long h e =
+walking-start s ws at levels head sized room h e =
     let few = head-few s at in
-    let size = entries-length s (at + 10) (headAt s at .entries) in
     rw e (record {
-      long = long;
+      sized = sized;
       few = omega arith;
+      room = room;
+      lies = omega arith;
       near = omega arith;
       ahead = omega arith;
-      parents = λ j l. absurd (omega arith);
-      is = sym (walk-bits 17 levels (rootPosition (pathAt s at)) (entriesFrom s (at + 10) (headAt s at .entries)) (omega arith));
+      is = entered-start s ws (walkOf s at levels) ∙ ap (enteredFrom s ws 0 0) (walk-is s at levels);
     })
 
-module _ {s : List ℕ} {whole : List DependencyPosition} {way : Way} {place : ℕ} {a : PropertyAccessType} {next left flags : ℕ}
-    (w : Walking s whole way place a next left flags) where
-  -- the walk ends at this position
-  walking-ends : walkBits flags (positionAs s (way .depth) place a) (entriesFrom s next left) ≡ ended (positionAs s (way .depth) place a) ∷ [] → Walks s
-      (steppedTo way place (mergeAccess a OptionalDependency)) whole
-  walking-ends e =
-      let l = w .long in
-      let f = w .few in
-      let b = mergeAccess a OptionalDependency in
-      record {
-        few = omega arith;
-        is = stepped s way place b (w .long) (omega arith) (w .near) ∙ rw (position-merged s (way .depth) place a OptionalDependency, ← e) (w .is);
-        parents = stepped-parents s way place b (w .long) (omega arith) (w .near) (w .parents);
-      }
+module _ {s before ws : List ℕ} {whole : List DependencyPosition} {parent place : ℕ} {a : PropertyAccessType} {next left flags : ℕ}
+    (w : Walking s before ws whole parent place a next left flags) where
+  pub walking-room : countIn ws < 1088
+  walking-room = let f = w .few in let r = w .room in omega arith
 
-  pub walking-over : left ≤ 0 → Walks s (steppedTo way place (mergeAccess a OptionalDependency)) whole
-  walking-over h = walking-ends (let z : left ≡ 0 = omega arith in rw z)
+  -- the last position is entered, and with it the whole walk
+  pub walking-over : left ≤ 0 → (vs : List ℕ) (number : ℕ) → Enters s ws vs parent (positionAs s parent place (mergeAccess a OptionalDependency)) number
+      → entered (nodesOf s before) 0 0 whole ≡ nodesOf s vs
+  walking-over h vs number e =
+      let z : left ≡ 0 = omega arith in
+      w .is
+      ∙ rw (z, ← position-merged s parent place a OptionalDependency) (e .is [])
+      ∙ entered-over s vs number (e .within)
 
   module _ (h : 0 < left) (e : DependencyPathEntry) (read : e ≡ entryAt s next) where
     one-more : entriesFrom s next left ≡ e ∷ entriesFrom s (next + 14) (left - 1)
     one-more = let z : left ≡ suc (left - 1) = omega arith in ap (entriesFrom s next) z ∙ rw read
 
-    pub walking-cut : eqb (flags % 2) 1 || e .optional ≡ false → Walks s (steppedTo way place (mergeAccess a OptionalDependency)) whole
-    walking-cut t = walking-ends (rw (one-more, t))
-
-    pub walking-more : eqb (flags % 2) 1 || e .optional ≡ true → Walking s whole (steppedTo way place a) next (stepAccess (eqb (flags % 2) 1))
-        (next + 14) (left - 1) (flags / 2)
-    unfolding positionAs
-    walking-more t =
-        let l = w .long in
+    -- the walk is cut: it is the walk of no entries
+    pub walking-cut : eqb (flags % 2) 1 || e .optional ≡ false → Walking s before ws whole parent place a next 0 flags
+    walking-cut t =
         let f = w .few in
         let n = w .ahead in
-        let child : eqb (way .depth + 1) 0 ≡ false = eqb-apart (way .depth + 1) 0 (λ z. omega arith) in
         record {
-          long = length-set (way .words) (way .depth) _ ∙ l;
+          sized = w .sized;
           few = omega arith;
+          room = w .room;
+          lies = w .lies;
+          near = w .near;
+          ahead = omega arith;
+          is = w .is ∙ rw (one-more, t);
+        }
+
+    pub walking-more : eqb (flags % 2) 1 || e .optional ≡ true → (vs : List ℕ) (number : ℕ) → Enters s ws vs parent (positionAs s parent place a) number
+        → Walking s before vs whole number next (stepAccess (eqb (flags % 2) 1)) (next + 14) (left - 1) (flags / 2)
+    unfolding positionAs
+    walking-more t vs number x =
+        let f = w .few in
+        let n = w .ahead in
+        let more = x .few in
+        let some = x .some in
+        let child : eqb number 0 ≡ false = eqb-apart number 0 (λ z. omega arith) in
+        record {
+          sized = x .sized;
+          few = omega arith;
+          room = w .room;
+          lies = x .within;
           near = omega arith;
           ahead = omega arith;
-          parents = stepped-parents s way place a (w .long) (omega arith) (w .near) (w .parents);
-          is = rw (stepped s way place a (w .long) (omega arith) (w .near), child, ← read)
-              (append-assoc (wayPositions s way) (positionAs s (way .depth) place a ∷ []) _ ∙ rw (one-more, t) at (w .is));
+          is = w .is
+              ∙ rw (one-more, t)
+              (x .is (walkBits (flags / 2) (stepTo e (stepAccess (eqb (flags % 2) 1))) (entriesFrom s (next + 14) (left - 1))) ∙ rw (child, ← read));
         }

@@ -1,9 +1,9 @@
 -- The forest that the words of a tree hold, and what the operations on it leave.
 use Prim.Native.Nat.{ℕ, zero, suc, _+_, _-_, _≤_, _<_}
 use mathlib.Core.Path.{_≡_}
-use mathlib.Core.Bool.{Bool, cond, _&&_}
-use mathlib.Core.List.{List, _++_, map}
-use lib.ListN.{length, getD}
+use mathlib.Core.Bool.{Bool, true, cond, _&&_}
+use mathlib.Core.List.{List, _∷_, _++_, map}
+use lib.ListN.{length, getD, set}
 use lib.Dec.{eqb, leb}
 use Rattle.entries.specs.Path.{ReactiveScopeDependency}
 use Rattle.model.specs.Lists.{concatMap}
@@ -19,14 +19,12 @@ use Rattle.model.specs.Tree.{
   entryOf,
   dependencyOf,
 }
-use Rattle.tree.specs.declared.Left.{Left}
 use Rattle.tree.specs.declared.Position.{Position}
-use Rattle.tree.specs.declared.Way.{Way}
 use Rattle.tree.specs.declared.Written.{Written}
 use Rattle.writer.specs.Writes.{Writes}
-use Rattle.laws.specs.Flat.{Node, grow, fresh, enter, flatFirsts}
-use Rattle.tree.specs.Words.{parentIn, positionsFrom, nodesFrom}
-use Rattle.tree.specs.Walk.{walkBy, bitsOf, pathAt, wayPositions}
+use Rattle.laws.specs.Flat.{Node, grow, enter, flatFirsts}
+use Rattle.tree.specs.Words.{parentIn, positionOf, nodeOf, nodesFrom, wayPositions}
+use Rattle.tree.specs.Walk.{walkBy, bitsOf, pathAt}
 
 -- how many positions there are
 abbrev pub countIn : List ℕ → ℕ
@@ -55,45 +53,45 @@ pub record Held (s ws : List ℕ) : Type 0 where
   pub sized : Sized ws
   pub low : height (forestOf s ws) ≤ 17
 
--- a way down entered below number p into nodes that start after i nodes
-abbrev pub entered : List (Node DependencyPosition) → ℕ → ℕ → List DependencyPosition → List (Node DependencyPosition)
-entered = enter dependencyKey mergePosition
-
 -- the node has this parent and the key of this position
 abbrev pub matches : Node DependencyPosition → ℕ → DependencyPosition → Bool
 matches x p q = eqb (x .parent) p && sameKey (x .here .key) (q .key)
 
--- the rest of a way down, from a position on
-abbrev pub restOf : List ℕ → Way → ℕ → List DependencyPosition
-restOf s way found = positionsFrom s (way .words) found (way .depth - found)
+-- a way down entered below number p into nodes that start after i nodes
+abbrev pub entered : List (Node DependencyPosition) → ℕ → ℕ → List DependencyPosition → List (Node DependencyPosition)
+entered = enter dependencyKey mergePosition
 
--- Where a way leaves the positions that are there: what is found lies before what is not, and a
--- root is found first.
-pub record Leaves (ws : List ℕ) (way : Way) (left : Left) : Type 0 where
-  pub sized : Sized ws
-  pub fits : countIn ws + way .depth ≤ 1088
-  pub found : left .found ≤ way .depth
-  pub few : way .depth ≤ 17
-  pub last : left .last ≤ countIn ws
-  pub first : eqb (left .last) 0 ≡ eqb (left .found) 0
-  pub parents : (j : ℕ) → j < way .depth → parentIn (getD (way .words) j 0) ≡ j
+-- the positions from a number on
+abbrev pub nodesAfter : List ℕ → List ℕ → ℕ → List (Node DependencyPosition)
+nodesAfter s ws i = nodesFrom s ws i (countIn ws - i)
 
--- What a pass over the words has left: the positions found are merged, and the rest of the way is
--- to be made below the last of them.
-pub record Descends (s before after : List ℕ) (way : Way) (left : Left) : Type 0 where
+-- the nodes after a way down is entered below number p, where those before number i are passed
+abbrev pub enteredFrom : List ℕ → List ℕ → ℕ → ℕ → List DependencyPosition → List (Node DependencyPosition)
+enteredFrom s ws i p ss = nodesFrom s ws 0 i ++ entered (nodesAfter s ws i) i p ss
+
+-- Where a way down that goes on with the step's position is entered below its parent: at the
+-- position of that number, which has the same parent and key, or behind all positions.
+pub record Seeks (s ws : List ℕ) (step number : ℕ) : Type 0 where
+  pub within : number ≤ countIn ws
+  pub found : 0 < number → matches (nodeOf s (getD ws (number - 1) 0)) (parentIn step) (positionOf s step) ≡ true
+  pub there : 0 < number → (ss : List DependencyPosition) → enteredFrom s ws (parentIn step) (parentIn step) (positionOf s step ∷ ss)
+      ≡ enteredFrom s ws (number - 1) (parentIn step) (positionOf s step ∷ ss)
+  pub none : number ≤ 0 → (ss : List DependencyPosition) → enteredFrom s ws (parentIn step) (parentIn step) (positionOf s step ∷ ss)
+      ≡ enteredFrom s ws (countIn ws) (parentIn step) (positionOf s step ∷ ss)
+
+-- The step's word stands behind the positions that were there.
+pub record Appends (before after : List ℕ) (step number : ℕ) : Type 0 where
+  pub last : number ≡ countIn before + 1
+  pub is : after ≡ set (set before (countIn before) step) 1088 (countIn before + 1)
+
+-- A way down goes on below number p with the position q: that stands at this number now, merged or
+-- made, and the rest of the way is to be entered below it.
+pub record Enters (s before after : List ℕ) (p : ℕ) (q : DependencyPosition) (number : ℕ) : Type 0 where
   pub sized : Sized after
-  pub count : countIn after ≡ countIn before
-  pub found : left .found ≤ way .depth
-  pub last : left .last ≤ countIn before
-  pub first : eqb (left .last) 0 ≡ eqb (left .found) 0
-  pub is : entered (nodesOf s before) 0 0 (wayPositions s way) ≡ nodesOf s after ++ fresh (countIn before) (left .last)
-      (restOf s way (left .found))
-
--- The rest of the way stands behind the positions that were there.
-pub record Appends (before after : List ℕ) (way : Way) (left : Left) : Type 0 where
-  pub sized : Sized after
-  pub count : countIn after ≤ countIn before + way .depth
-  pub is : (s : List ℕ) → nodesOf s after ≡ nodesOf s before ++ fresh (countIn before) (left .last) (restOf s way (left .found))
+  pub few : countIn after ≤ countIn before + 1
+  pub some : 0 < number
+  pub within : number ≤ countIn after
+  pub is : (ss : List DependencyPosition) → enteredFrom s before p p (q ∷ ss) ≡ enteredFrom s after number number ss
 
 -- The candidate at a place is added, with the flags that are bits of a number.
 pub record Adds (s before after : List ℕ) (at levels : ℕ) : Type 0 where
@@ -111,18 +109,19 @@ partsOf p = record { identifier = keyIdentifier (p .key); reactive = p .reactive
 unfoldable pub returnedOf : List ℕ → List ℕ → List ReactiveScopeDependency
 returnedOf s ws = map dependencyOf (firsts isDependency (forestOf s ws))
 
--- the positions from a number on
-abbrev pub nodesAfter : List ℕ → List ℕ → ℕ → List (Node DependencyPosition)
-nodesAfter s ws i = nodesFrom s ws i (countIn ws - i)
-
 -- the paths of the ways down from number p to the first dependencies, each behind the positions
 -- already passed
 abbrev pub returnedFrom : List DependencyPosition → List (Node DependencyPosition) → ℕ → ℕ → List ReactiveScopeDependency
 returnedFrom before xs i p = map (λ w. dependencyOf (before ++ w)) (flatFirsts isDependency xs i p)
 
 -- the paths that go through a way down to a parent and on to positions from a number on
-unfoldable pub pathsFrom : List ℕ → List ℕ → ℕ → ℕ → Way → List ReactiveScopeDependency
-pathsFrom s ws parent i way = returnedFrom (wayPositions s way) (nodesAfter s ws i) i parent
+unfoldable pub pathsFrom : List ℕ → List ℕ → ℕ → ℕ → List ℕ → ℕ → List ReactiveScopeDependency
+pathsFrom s ws parent i way depth = returnedFrom (wayPositions s way depth) (nodesAfter s ws i) i parent
+
+-- The positions of a way down of this depth stay.
+pub record KeepsWay (before after : List ℕ) (depth : ℕ) : Type 0 where
+  pub long : length after ≡ length before
+  pub same : (j : ℕ) → j < depth → getD after j 0 ≡ getD before j 0
 
 -- The records of these paths are written one after the other, and counted.
 pub record Derives (paths : List ReactiveScopeDependency) (before after : List ℕ) (start done : Written) : Type 0 where
@@ -130,16 +129,17 @@ pub record Derives (paths : List ReactiveScopeDependency) (before after : List �
   pub counts : done .count ≡ start .count + length paths
 
 -- What the record of one way down asks: its room. A count is at most the bytes before it.
-pub record Puttable (s : List ℕ) (way : Way) (out : List ℕ) (done : Written) : Type 0 where
-  pub some : 0 < way .depth
-  pub short : way .depth ≤ 17
-  pub room : done .at + length (pathBytes spanWidth DE (dependencyOf (wayPositions s way))) ≤ length out
+pub record Puttable (s way : List ℕ) (depth : ℕ) (out : List ℕ) (done : Written) : Type 0 where
+  pub some : 0 < depth
+  pub short : depth ≤ 17
+  pub room : done .at + length (pathBytes spanWidth DE (dependencyOf (wayPositions s way depth))) ≤ length out
   pub few : done .count ≤ done .at
 
 -- What deriving asks: no way down is too long for the words of a way, and the records have their
 -- room.
-pub record Derivable (s ws : List ℕ) (parent i : ℕ) (way : Way) (out : List ℕ) (start : Written) : Type 0 where
+pub record Derivable (s ws : List ℕ) (parent i : ℕ) (way : List ℕ) (depth : ℕ) (out : List ℕ) (start : Written) : Type 0 where
   pub sized : Sized ws
-  pub low : way .depth + height (grow (nodesAfter s ws i) i parent) ≤ 17
-  pub room : start .at + length (concatMap (pathBytes spanWidth DE) (pathsFrom s ws parent i way)) ≤ length out
+  pub long : length way ≡ 17
+  pub low : depth + height (grow (nodesAfter s ws i) i parent) ≤ 17
+  pub room : start .at + length (concatMap (pathBytes spanWidth DE) (pathsFrom s ws parent i way depth)) ≤ length out
   pub few : start .count ≤ start .at

@@ -1,18 +1,14 @@
 -- The walk of a candidate by flags that say at which levels the hoistable tree is NonNull.
-use Prim.Native.Nat.{ℕ, zero, suc, _+_, _/_, _%_, _≤_, _<_}
-use mathlib.Core.Path.{_≡_}
-use mathlib.Core.Bool.{Bool, false, _||_, cond}
+use Prim.Native.Nat.{ℕ, zero, suc, _+_, _/_, _%_}
+use mathlib.Core.Bool.{Bool, _||_, cond}
 use mathlib.Core.List.{List, [], _∷_}
-use lib.ListN.{getD, set}
 use lib.Dec.{eqb}
 use Rattle.entries.specs.declared.DependencyPathEntry.{DependencyPathEntry}
-use Rattle.entries.specs.declared.PropertyAccessType.{PropertyAccessType}
 use Rattle.entries.specs.Path.{ReactiveScopeDependency}
 use Rattle.model.specs.Lists.{firstFlag, restFlags}
 use Rattle.model.specs.Tree.{DependencyPosition, ended, stepTo, stepAccess}
 use Rattle.model.specs.Answer.{spanWidth}
-use Rattle.tree.specs.declared.Way.{Way}
-use Rattle.tree.specs.Words.{headAt, entryAt, parentIn, pack, positionsFrom}
+use Rattle.tree.specs.Words.{headAt, entryAt}
 
 -- `walkEntries` with a flag for each level in the place of the hoistable tree
 abbrev pub walkBy : List Bool → DependencyPosition → List DependencyPathEntry → List DependencyPosition
@@ -47,17 +43,3 @@ pathAt s at = let head = headAt s at in record {
   path = entriesFrom s (at + headSize) (head .entries);
   span = head .span;
 }
-
--- the positions of a way down
-abbrev pub wayPositions : List ℕ → Way → List DependencyPosition
-wayPositions s way = positionsFrom s (way .words) 0 (way .depth)
-
--- one position more, where its key and span stand at a place
-abbrev pub steppedTo : Way → ℕ → PropertyAccessType → Way
-steppedTo way place a = record { words = set (way .words) (way .depth) (pack (way .depth) place a); depth = way .depth + 1 }
-
--- A way down of these positions, each with the number of the one before as its parent's.
-pub record Walks (s : List ℕ) (way : Way) (ss : List DependencyPosition) : Type 0 where
-  pub few : way .depth ≤ 17
-  pub is : wayPositions s way ≡ ss
-  pub parents : (j : ℕ) → j < way .depth → parentIn (getD (way .words) j 0) ≡ j

@@ -1,7 +1,7 @@
 -- The positions that the words of a tree hold. A word has the parent's number (16 bits, 0 for a
 -- root), the place in the job's bytes where the key and the span stand (16 bits), and the access
 -- kind (2 bits).
-use Prim.Native.Nat.{ℕ, zero, suc, _+_, _*_, _/_, _%_}
+use Prim.Native.Nat.{ℕ, zero, suc, _+_, _*_, _-_, _/_, _%_}
 use mathlib.Core.Bool.{false, cond}
 use mathlib.Core.List.{List, [], _∷_}
 use lib.ListN.{getD}
@@ -13,11 +13,14 @@ use Rattle.entries.specs.Access.{isOptionalAccess, isDependencyAccess, accessOf
 use Rattle.model.specs.ReadingBytes.{Read, got, refused}
 use Rattle.model.specs.Job.{readEntry}
 use Rattle.model.specs.Answer.{flag, spanWidth}
-use Rattle.model.specs.Forest.{identifierKey}
+use Rattle.model.specs.Forest as forest
+use Rattle.model.specs.Forest.{identifierKey, propertyKey}
 use Rattle.model.specs.Tree.{DependencyPosition, stepTo}
 use Rattle.job.specs.Head.{readPathHead}
 use Rattle.job.specs.declared.PathHead.{PathHead}
 use Rattle.laws.specs.Flat.{Node}
+use Rattle.tree.specs.declared.Key.{Key}
+use Rattle.tree.specs.declared.Key.the-variants.{Identifier, Property}
 
 -- The head that was read; the fields are 0 where none can be read.
 abbrev pub headOr : Read PathHead → PathHead
@@ -53,6 +56,15 @@ accessIn w = accessOf (eqb (w / 4294967296 % 2) 1) (eqb (w / 8589934592 % 2) 1)
 unfoldable pub pack : ℕ → ℕ → PropertyAccessType → ℕ
 pack parent place a = parent + place * 65536 + flag (isOptionalAccess a) * 4294967296 + flag (isDependencyAccess a) * 8589934592
 
+-- the key that the code's key stands for
+abbrev pub keyOf : Key → forest.Key
+keyOf (Identifier i) = identifierKey i
+keyOf (Property p) = propertyKey p
+
+-- the key of the position below this parent, whose key and span stand at this place
+abbrev pub keyAt : List ℕ → ℕ → ℕ → forest.Key
+keyAt s parent at = cond (eqb parent 0) (identifierKey (headAt s at .identifier)) (propertyKey (entryAt s at .property))
+
 -- a root's position: identifier, span and reactive from the head at the place
 abbrev pub rootAt : List ℕ → ℕ → PropertyAccessType → DependencyPosition
 rootAt s at a = record {
@@ -85,6 +97,14 @@ abbrev pub nodesFrom : List ℕ → List ℕ → ℕ → ℕ → List (Node Depe
 nodesFrom s ws k zero = []
 nodesFrom s ws k (suc n) = nodeOf s (getD ws k 0) ∷ nodesFrom s ws (suc k) n
 
--- the word of a position that is merged with the one that another word stands for
-abbrev pub mergedWord : ℕ → ℕ → ℕ
-mergedWord w v = pack (parentIn w) (placeIn w) (mergeAccess (accessIn w) (accessIn v))
+-- the positions of a way down of this depth
+abbrev pub wayPositions : List ℕ → List ℕ → ℕ → List DependencyPosition
+wayPositions s way depth = positionsFrom s way 0 depth
+
+-- the rest of a way down, from a position on
+abbrev pub restOf : List ℕ → List ℕ → ℕ → ℕ → List DependencyPosition
+restOf s way depth i = positionsFrom s way i (depth - i)
+
+-- the word of a position into which an access is merged
+abbrev pub mergedWord : ℕ → PropertyAccessType → ℕ
+mergedWord w a = pack (parentIn w) (placeIn w) (mergeAccess (accessIn w) a)

@@ -3,7 +3,7 @@
 // stands above the roots. Keys and spans stay in the job's bytes: a position keeps their place.
 ghost use mathlib.Core.Path.{_≡_};
 ghost use Prim.Native.Nat.{ℕ, _+_, _≤_, _<_};
-ghost use mathlib.Core.Bool.{cond, _||_};
+ghost use mathlib.Core.Bool.{_||_};
 ghost use mathlib.Core.List.{List, [], _∷_, map};
 ghost use lib.ListN.{length, getD, set};
 ghost use Rattle.model.specs.Forest.{empty, sameKey};
@@ -11,19 +11,18 @@ ghost use Rattle.model.specs.Lists.{concatMap};
 ghost use Rattle.model.specs.Answer.{DE, entryBytes, pathBytes, spanWidth};
 ghost use Rattle.model.specs.Tree.{stepAccess, rootPosition, entryOf, dependencyOf};
 ghost use Rattle.writer.specs.Writes.{Writes};
-ghost use Rattle.tree.specs.Words.{headAt, entryAt, parentIn, placeIn, accessIn, pack, positionOf, mergedWord, nodeOf};
-ghost use Rattle.tree.specs.Walk.{walkBy, bitsOf, pathAt, wayPositions, steppedTo, Walks};
+ghost use Rattle.tree.specs.Words.{headAt, entryAt, parentIn, placeIn, accessIn, pack, keyOf, keyAt, positionAs, positionOf};
+ghost use Rattle.tree.specs.Words.{wayPositions, restOf, mergedWord};
 ghost use Rattle.tree.specs.Tree.{
-  matches,
   countIn,
   forestOf,
-  restOf,
   partsOf,
   Sized,
   Held,
-  Leaves,
-  Descends,
+  KeepsWay,
+  Seeks,
   Appends,
+  Enters,
   Adds,
   returnedOf,
   pathsFrom,
@@ -41,19 +40,6 @@ use job::ReadPathHead;
 
 // How many bytes stand between a path's mark and its entries.
 const HEAD_SIZE: usize = 10;
-
-// Positions on a way down, from a root on.
-struct Way {
-    words: [u64; 17],
-    depth: usize,
-}
-
-// Where a way leaves the positions that are there: the number of the last one found, and how many
-// were found.
-struct Left {
-    last: usize,
-    found: usize,
-}
 
 // What stands before a path's entries, at the place after its mark.
 fn head_at(s: &[u8], at: usize) -> PathHead
@@ -112,63 +98,41 @@ fn pack(parent: usize, place: usize, access: PropertyAccessType) -> u64
     parent as u64 + place as u64 * 65536 + optional * 4294967296 + dependency * 8589934592
 }
 
-// Whether two words' positions have the same key: both roots for one identifier, or both children
-// by one property.
-fn same_key(s: &[u8], a: u64, b: u64) -> bool
-    ensures { λ r. ⌜ r ≡ sameKey (positionOf (now (s .entry)) a .key) (positionOf (now (s .entry)) b .key) ⌝ }
-{
-    if parent_in(a) == 0 {
-        if parent_in(b) == 0 {
-            let x = head_at(s, place_in(a));
-            let y = head_at(s, place_in(b));
-            let i = x.identifier;
-            let j = y.identifier;
-            return i.0 == j.0;
-        }
-        return false;
-    }
-    if parent_in(b) == 0 {
-        return false;
-    }
-    let x = entry_at(s, place_in(a));
-    let y = entry_at(s, place_in(b));
-    let p = x.property;
-    let q = y.property;
-    p.same(q)
+// A root's key is its identifier, a child's its property.
+enum Key {
+    Identifier(IdentifierId),
+    Property(PropertyLiteral),
 }
 
-// Merges the step into position i where that has this parent and the step's key, and says whether
-// it has.
-fn merge_at(tree: &mut [u64; 1089], s: &[u8], i: usize, parent: usize, step: u64) -> bool
-    requires { ⌜ i < 1088 ⌝ }
-    ensures { λ r. ⌜ (r ≡ matches (nodeOf (now (s .entry)) (getD (now (tree .entry)) i 0)) parent (positionOf (now (s .entry)) step))
-        × (now (tree .exit) ≡ cond r (set (now (tree .entry)) i (mergedWord (getD (now (tree .entry)) i 0) step)) (now (tree .entry))) ⌝ }
-{
-    let w = tree[i];
-    let over = parent_in(w);
-    if over != parent {
-        return false;
-    }
-    if same_key(s, w, step) {
-        let access = access_in(w);
-        tree[i] = pack(over, place_in(w), access.merge(access_in(step)));
-        true
-    } else {
-        false
-    }
-}
-
-impl Way {
-    // One position more, the last.
-    fn push(self, word: u64) -> Way
-        requires { ⌜ self .depth < 17 ⌝ }
-        ensures { λ r. ⌜ r ≡ record { words = set (self .words) (self .depth) word; depth = self .depth + 1 } ⌝ }
+impl Key {
+    fn same(self, other: Key) -> bool
+        ensures { λ r. ⌜ r ≡ sameKey (keyOf self) (keyOf other) ⌝ }
     {
-        let at = self.depth;
-        let mut way = self;
-        way.words[at] = word;
-        way.depth = at + 1;
-        way
+        match self {
+            Key::Identifier(a) => match other {
+                Key::Identifier(b) => a.0 == b.0,
+                Key::Property(_) => false,
+            },
+            Key::Property(a) => match other {
+                Key::Identifier(_) => false,
+                Key::Property(b) => a.same(b),
+            },
+        }
+    }
+}
+
+// The key of the position below a parent whose key and span stand at a place.
+fn key_at(s: &[u8], parent: usize, place: usize) -> Key
+    ensures { λ r. ⌜ keyOf r ≡ keyAt (now (s .entry)) parent place ⌝ }
+{
+    if parent == 0 {
+        let head = head_at(s, place);
+        let identifier = head.identifier;
+        Key::Identifier(identifier)
+    } else {
+        let entry = entry_at(s, place);
+        let property = entry.property;
+        Key::Property(property)
     }
 }
 
@@ -191,56 +155,6 @@ fn step_access(nonnull: bool) -> PropertyAccessType
     }
 }
 
-// One position more on a way down, where its key and span stand at a place.
-fn step_to(way: Way, place: usize, access: PropertyAccessType) -> Way
-    requires { ⌜ (way .depth < 17) × (place < 65536) ⌝ }
-    ensures { λ r. ⌜ r ≡ steppedTo way place access ⌝ }
-{
-    way.push(pack(way.depth, place, access))
-}
-
-// The positions that the candidate at a place walks, where bit j of `levels` says that the
-// hoistable tree is NonNull at level j.
-fn walk_candidate(s: &[u8], at: usize, levels: u32) -> Way
-    requires { ⌜ at ≤ 32768 ⌝ }
-    ensures { λ r. ⌜ Walks (now (s .entry)) r
-        (walkBy (bitsOf 17 levels) (rootPosition (pathAt (now (s .entry)) at)) (pathAt (now (s .entry)) at .path)) ⌝ }
-{
-    let head = head_at(s, at);
-    let mut way = Way {
-        words: [0; 17],
-        depth: 0,
-    };
-    let mut place = at;
-    let mut access = PropertyAccessType::UnconditionalAccess;
-    let mut next = at + HEAD_SIZE;
-    let mut left = head.entries;
-    let mut flags = levels;
-    while 0 < left {
-        let entry = entry_at(s, next);
-        let nonnull = flags % 2 == 1;
-        if goes_on(nonnull, entry.optional) {
-            way = step_to(way, place, access);
-            place = next;
-            access = step_access(nonnull);
-            next = next + job::ENTRY_SIZE;
-            left = left - 1;
-            flags = flags / 2;
-        } else {
-            return step_to(
-                way,
-                place,
-                access.merge(PropertyAccessType::OptionalDependency),
-            );
-        }
-    }
-    step_to(
-        way,
-        place,
-        access.merge(PropertyAccessType::OptionalDependency),
-    )
-}
-
 // The tree.
 
 // A tree of no positions.
@@ -252,58 +166,107 @@ pub fn clear(tree: &mut [u64; 1089])
     tree[1088] = 0;
 }
 
-// Merges a way down with the positions that are there, in one pass: a position stands after its
-// parent.
-fn descend(tree: &mut [u64; 1089], s: &[u8], way: Way) -> Left
-    requires { ⌜ Sized (now tree) × (way .depth ≤ 17) ⌝ }
-    ensures { λ r. ⌜ Descends (now (s .entry)) (now (tree .entry)) (now (tree .exit)) way r ⌝ }
+// The number of the position that has the step's parent and key, and 0 where there is none. A
+// position stands after its parent.
+fn seek(tree: &[u64; 1089], s: &[u8], step: u64) -> usize
+    requires { ⌜ Sized (now tree) × (parentIn step ≤ countIn (now tree)) ⌝ }
+    ensures { λ r. ⌜ Seeks (now (s .entry)) (now (tree .entry)) step r ⌝ }
 {
     let end = tree[1088] as usize;
-    let depth = way.depth;
-    let mut last: usize = 0;
-    let mut found: usize = 0;
-    let mut i: usize = 0;
+    let parent = parent_in(step);
+    let key = key_at(s, parent, place_in(step));
+    let mut i = parent;
     while i < end {
-        if found == depth {
-            return Left { last, found };
-        }
-        let step = way.words[found];
-        if merge_at(tree, s, i, last, step) {
-            last = i + 1;
-            found += 1;
+        let w = tree[i];
+        if parent == parent_in(w) {
+            let other = key_at(s, parent, place_in(w));
+            if other.same(key) {
+                return i + 1;
+            }
         }
         i += 1;
     }
-    Left { last, found }
+    0
 }
 
-// Makes the rest of a way down, below the last position found.
-fn append(tree: &mut [u64; 1089], way: Way, left: Left)
-    requires { ⌜ Leaves (now tree) way left ⌝ }
-    ensures { λ _. ⌜ Appends (now (tree .entry)) (now (tree .exit)) way left ⌝ }
+// Merges an access into position i.
+fn merge_at(tree: &mut [u64; 1089], i: usize, with: PropertyAccessType)
+    requires { ⌜ i < 1088 ⌝ }
+    ensures { λ _. ⌜ now (tree .exit) ≡ set (now (tree .entry)) i (mergedWord (getD (now (tree .entry)) i 0) with) ⌝ }
 {
-    let depth = way.depth;
-    let mut end = tree[1088] as usize;
-    let mut last = left.last;
-    let mut at = left.found;
-    while at < depth {
-        let step = way.words[at];
-        tree[end] = pack(last, place_in(step), access_in(step));
-        end += 1;
-        last = end;
-        at += 1;
+    let w = tree[i];
+    let access = access_in(w);
+    tree[i] = pack(parent_in(w), place_in(w), access.merge(with));
+}
+
+// Makes the step's position, the last, and says its number.
+fn append(tree: &mut [u64; 1089], step: u64) -> usize
+    requires { ⌜ countIn (now tree) < 1088 ⌝ }
+    ensures { λ r. ⌜ Appends (now (tree .entry)) (now (tree .exit)) step r ⌝ }
+{
+    let end = tree[1088] as usize;
+    let number = end + 1;
+    tree[end] = step;
+    tree[1088] = number as u64;
+    number
+}
+
+// Finds the position below a parent whose key stands at a place, and merges the access, or makes
+// it. Says its number.
+fn make_or_merge(
+    tree: &mut [u64; 1089],
+    s: &[u8],
+    parent: usize,
+    place: usize,
+    access: PropertyAccessType,
+) -> usize
+    requires { ⌜ Sized (now tree) × (parent ≤ countIn (now tree)) × (countIn (now tree) < 1088) × (place < 65536) ⌝ }
+    ensures { λ r. ⌜ Enters (now (s .entry)) (now (tree .entry)) (now (tree .exit)) parent
+        (positionAs (now (s .entry)) parent place access) r ⌝ }
+{
+    let step = pack(parent, place, access);
+    let found = seek(tree, s, step);
+    if 0 < found {
+        merge_at(tree, found - 1, access);
+        return found;
     }
-    tree[1088] = end as u64;
+    append(tree, step)
 }
 
 // Adds the candidate whose fields stand at a place, after the mark (`add_dependency` of the Rust).
+// Bit j of `levels` says that the hoistable tree is NonNull at level j.
 pub fn add_candidate(tree: &mut [u64; 1089], s: &[u8], at: usize, levels: u32)
     requires { ⌜ Held (now s) (now tree) × (countIn (now tree) + 17 ≤ 1088) × (at ≤ 32768) ⌝ }
     ensures { λ _. ⌜ Adds (now (s .entry)) (now (tree .entry)) (now (tree .exit)) at levels ⌝ }
 {
-    let way = walk_candidate(s, at, levels);
-    let left = descend(tree, s, way);
-    append(tree, way, left);
+    let head = head_at(s, at);
+    let mut parent: usize = 0;
+    let mut place = at;
+    let mut access = PropertyAccessType::UnconditionalAccess;
+    let mut next = at + HEAD_SIZE;
+    let mut left = head.entries;
+    let mut flags = levels;
+    while 0 < left {
+        let entry = entry_at(s, next);
+        let nonnull = flags % 2 == 1;
+        if goes_on(nonnull, entry.optional) {
+            parent = make_or_merge(tree, s, parent, place, access);
+            place = next;
+            access = step_access(nonnull);
+            next = next + job::ENTRY_SIZE;
+            left = left - 1;
+            flags = flags / 2;
+        } else {
+            left = 0;
+        }
+    }
+    make_or_merge(
+        tree,
+        s,
+        parent,
+        place,
+        access.merge(PropertyAccessType::OptionalDependency),
+    );
 }
 
 // The paths that are derived.
@@ -358,17 +321,16 @@ fn position_of(s: &[u8], w: u64) -> Position
 }
 
 // The entries of a way down: its positions behind the root.
-fn put_entries(out: &mut [u8], start: usize, s: &[u8], way: Way) -> usize
-    requires { ⌜ (way .depth ≤ 17) ×
-        (start + length (concatMap (entryBytes spanWidth) (map entryOf (restOf (now s) way 1))) ≤ length (now out)) ⌝ }
+fn put_entries(out: &mut [u8], start: usize, s: &[u8], way: &[u64; 17], depth: usize) -> usize
+    requires { ⌜ (depth ≤ 17) ×
+        (start + length (concatMap (entryBytes spanWidth) (map entryOf (restOf (now s) (now way) depth 1))) ≤ length (now out)) ⌝ }
     ensures { λ r. ⌜ Writes (now (out .entry)) (now (out .exit)) start
-        (concatMap (entryBytes spanWidth) (map entryOf (restOf (now (s .entry)) way 1))) r ⌝ }
+        (concatMap (entryBytes spanWidth) (map entryOf (restOf (now (s .entry)) (now (way .entry)) depth 1))) r ⌝ }
 {
-    let depth = way.depth;
     let mut at = start;
     let mut i: usize = 1;
     while i < depth {
-        let position = position_of(s, way.words[i]);
+        let position = position_of(s, way[i]);
         at = writer::put_entry(out, at, position.entry);
         i += 1;
     }
@@ -376,15 +338,14 @@ fn put_entries(out: &mut [u8], start: usize, s: &[u8], way: Way) -> usize
 }
 
 // The record of the path that a way down stands for.
-fn put_path(out: &mut [u8], at: usize, s: &[u8], way: Way) -> usize
-    requires { ⌜ (0 < way .depth) × (way .depth ≤ 17) ×
-        (at + length (pathBytes spanWidth DE (dependencyOf (wayPositions (now s) way))) ≤ length (now out)) ⌝ }
+fn put_path(out: &mut [u8], at: usize, s: &[u8], way: &[u64; 17], depth: usize) -> usize
+    requires { ⌜ (0 < depth) × (depth ≤ 17) ×
+        (at + length (pathBytes spanWidth DE (dependencyOf (wayPositions (now s) (now way) depth))) ≤ length (now out)) ⌝ }
     ensures { λ r. ⌜ Writes (now (out .entry)) (now (out .exit)) at
-        (pathBytes spanWidth DE (dependencyOf (wayPositions (now (s .entry)) way))) r ⌝ }
+        (pathBytes spanWidth DE (dependencyOf (wayPositions (now (s .entry)) (now (way .entry)) depth))) r ⌝ }
 {
-    let depth = way.depth;
-    let root = position_of(s, way.words[0]);
-    let last = position_of(s, way.words[depth - 1]);
+    let root = position_of(s, way[0]);
+    let last = position_of(s, way[depth - 1]);
     let identifier = root.identifier;
     let entry = last.entry;
     let entries_at = writer::put_path_head(
@@ -396,15 +357,16 @@ fn put_path(out: &mut [u8], at: usize, s: &[u8], way: Way) -> usize
         entry.span,
         depth - 1,
     );
-    put_entries(out, entries_at, s, way)
+    put_entries(out, entries_at, s, way, depth)
 }
 
 // One record more.
-fn put_next(out: &mut [u8], done: Written, s: &[u8], way: Way) -> Written
-    requires { ⌜ Puttable (now s) way (now out) done ⌝ }
-    ensures { λ r. ⌜ Derives (dependencyOf (wayPositions (now (s .entry)) way) ∷ []) (now (out .entry)) (now (out .exit)) done r ⌝ }
+fn put_next(out: &mut [u8], done: Written, s: &[u8], way: &[u64; 17], depth: usize) -> Written
+    requires { ⌜ Puttable (now s) (now way) depth (now out) done ⌝ }
+    ensures { λ r. ⌜ Derives (dependencyOf (wayPositions (now (s .entry)) (now (way .entry)) depth) ∷ [])
+        (now (out .entry)) (now (out .exit)) done r ⌝ }
 {
-    let at = put_path(out, done.at, s, way);
+    let at = put_path(out, done.at, s, way, depth);
     Written {
         at,
         count: done.count + 1,
@@ -412,19 +374,20 @@ fn put_next(out: &mut [u8], done: Written, s: &[u8], way: Way) -> Written
 }
 
 // The records of the first dependencies on each way down below a parent, from position `from` on.
-// The way down to the parent is `way`.
+// The way down to the parent is `way`, to this depth.
 fn collect_minimal_deps_in_subtree(
     tree: &[u64; 1089],
     s: &[u8],
     parent: usize,
     from: usize,
-    way: Way,
+    way: &mut [u64; 17],
+    depth: usize,
     out: &mut [u8],
     start: Written,
 ) -> Written
-    requires { ⌜ Derivable (now s) (now tree) parent from way (now out) start ⌝ }
-    ensures { λ r. ⌜ Derives (pathsFrom (now (s .entry)) (now (tree .entry)) parent from way) (now (out .entry))
-        (now (out .exit)) start r ⌝ }
+    requires { ⌜ Derivable (now s) (now tree) parent from (now way) depth (now out) start ⌝ }
+    ensures { λ r. ⌜ Derives (pathsFrom (now (s .entry)) (now (tree .entry)) parent from (now (way .entry)) depth) (now (out .entry))
+        (now (out .exit)) start r × KeepsWay (now (way .entry)) (now (way .exit)) depth ⌝ }
 {
     let end = tree[1088] as usize;
     let mut done = start;
@@ -432,12 +395,21 @@ fn collect_minimal_deps_in_subtree(
     while i < end {
         let w = tree[i];
         if parent_in(w) == parent {
-            let next = way.push(w);
+            way[depth] = w;
             let access = access_in(w);
             if access.is_dependency() {
-                done = put_next(out, done, s, next);
+                done = put_next(out, done, s, way, depth + 1);
             } else {
-                done = collect_minimal_deps_in_subtree(tree, s, i + 1, i + 1, next, out, done);
+                done = collect_minimal_deps_in_subtree(
+                    tree,
+                    s,
+                    i + 1,
+                    i + 1,
+                    way,
+                    depth + 1,
+                    out,
+                    done,
+                );
             }
         }
         i += 1;
@@ -457,9 +429,6 @@ pub fn derive_minimal_dependencies(
     ensures { λ r. ⌜ Derives (returnedOf (now (s .entry)) (now (tree .entry))) (now (out .entry)) (now (out .exit))
         (record { at = at; count = 0 }) r ⌝ }
 {
-    let way = Way {
-        words: [0; 17],
-        depth: 0,
-    };
-    collect_minimal_deps_in_subtree(tree, s, 0, 0, way, out, Written { at, count: 0 })
+    let mut way = [0u64; 17];
+    collect_minimal_deps_in_subtree(tree, s, 0, 0, &mut way, 0, out, Written { at, count: 0 })
 }

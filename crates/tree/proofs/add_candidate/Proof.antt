@@ -1,24 +1,82 @@
--- The walk is entered by the pass that merges and the one that makes the rest.
+-- The loop's invariant, `Walking`: the walk still to come, entered below the position reached, is
+-- the whole walk entered. The measure is the number of entries left. The walk's last position is
+-- entered behind the loop.
+use mathlib.Core.Path.{sym, _∙_}
+use native.Mathlib.Omega.{arith}
+use denote.Ref.{now}
 use borrow.Author.Needs.{needs}
-use Rattle.tree.proofs.Adding.{leaves, added}
+use Rattle.tree.proofs.Walking.{walkOf, Walking, walking-start, walking-room, walking-cut, walking-more}
+use Rattle.tree.proofs.Adding.{added}
 use Rattle.tree.proofs.add_candidate.Statement.{statement}
 use Rattle.tree.proofs.add_candidate.Tie as tie
 
-descend-requires : tie.Need-descend-requires
-descend-requires c κs = let w = c .before in (w .before .before .pre .0 .sized, w .walk-candidate .ensures .few)
+abbrev Inv-loop : tie.InvT-loop
+Inv-loop tree₀ s at levels parent₀ place₀ access₀ next₀ left₀ flags₀ tree parent place access next left flags =
+    Walking s tree₀ tree (walkOf s at levels) parent place access next left flags
 
-append-requires : tie.Need-append-requires
-append-requires c κs =
-    let d = c .before in
-    let w = d .before .before in
-    leaves (w .before .before .pre .1) (w .walk-candidate .ensures) (d .descend .ensures)
+abbrev μ-loop : tie.MeasureT-loop
+μ-loop tree₀ s at levels parent₀ place₀ access₀ next₀ left₀ flags₀ tree parent place access next left flags = left
 
-returns : tie.Need-returns
+loop-holds : tie.Need-loop-holds Inv-loop μ-loop
+loop-holds c =
+    let start = c .before .before in
+    let a = start .args in
+    walking-start (now (a .s)) (now (a .tree)) (a .at) (a .levels) (c .head-at .result) (start .pre .0 .sized) (start .pre .1) (start .pre .2)
+    (c .head-at .ensures)
+
+make-or-merge-requires : tie.Need-make-or-merge-requires Inv-loop μ-loop
+make-or-merge-requires c κs = let w = c .before .before .before .before .before .loop .inv in (w .sized, w .lies, walking-room w, w .near)
+
+add-next-2 : tie.Need-add-next-2 Inv-loop μ-loop
+add-next-2 c = let w = c .before .before .before .before .before .before .before .loop .inv in record { fits = omega (arith, w .ahead) }
+
+loop-again : tie.Need-loop-again Inv-loop μ-loop
+loop-again c =
+    let made = c .before in
+    let test = made .before .before in
+    let entry = test .before .before in
+    let i = entry .before in
+    rw (c .step-access .ensures)
+    (walking-more (i .before .loop .inv) (i .loop-test .taken) (entry .entry-at .result) (entry .entry-at .ensures)
+    (sym (test .before .goes-on .ensures) ∙ test .if1 .taken) _ (made .make-or-merge .result) (made .make-or-merge .ensures))
+
+loop-again-2 : tie.Need-loop-again-2 Inv-loop μ-loop
+loop-again-2 c =
+    let entry = c .before .before in
+    let i = entry .before in
+    walking-cut (i .before .loop .inv) (i .loop-test .taken) (entry .entry-at .result) (entry .entry-at .ensures)
+    (sym (c .before .goes-on .ensures) ∙ c .if1 .left)
+
+make-or-merge-requires-2 : tie.Need-make-or-merge-requires-2 Inv-loop μ-loop
+make-or-merge-requires-2 c κs = let w = c .before .before .before .loop .inv in (w .sized, w .lies, walking-room w, w .near)
+
+returns : tie.Need-returns Inv-loop μ-loop
 returns c =
-    let d = c .before .before in
-    let w = d .before .before in
-    let a = w .before .before in
-    added (a .args .at) (a .args .levels) (a .pre .0) (w .walk-candidate .ensures) (d .descend .ensures) (c .append .ensures)
+    let m = c .before in
+    let i = m .before .before in
+    let start = i .before .before .before .before in
+    added (start .pre .0) (i .before .loop .inv) (i .loop-test .left) (m .merge .result) (m .merge .ensures) _ (c .make-or-merge2 .result)
+    (c .make-or-merge2 .ensures)
 
 pub add-candidate-spec : {M : Type 1} → statement M
-add-candidate-spec = tie.close (tie.spec (λ c κs. search needs) descend-requires append-requires returns)
+add-candidate-spec =
+    tie.close
+    (tie.spec
+    Inv-loop
+    μ-loop
+    (λ c κs. search needs)
+    (λ c. search needs)
+    loop-holds
+    (λ c κs. search needs)
+    (λ c κs. search needs)
+    make-or-merge-requires
+    (λ c κs. search needs)
+    add-next-2
+    (λ c. search needs)
+    (λ c. search needs)
+    loop-again
+    (λ c. search needs)
+    loop-again-2
+    (λ c κs. search needs)
+    make-or-merge-requires-2
+    returns)

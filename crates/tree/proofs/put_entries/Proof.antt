@@ -11,10 +11,11 @@ use Rattle.tree.proofs.put_entries.Tie as tie
 
 abbrev Inv-loop : tie.InvT-loop
 Inv-loop out₀ start s way depth at₀ i₀ out at i =
-    Coming out₀ out start at (entriesBytes s way 1) (entriesBytes s way i) × (start + length (entriesBytes s way 1) ≤ length out₀) × (way .depth ≤ 17)
+    Coming out₀ out start at (entriesBytes s way depth 1) (entriesBytes s way depth i)
+    × (start + length (entriesBytes s way depth 1) ≤ length out₀) × (depth ≤ 17)
 
 abbrev μ-loop : tie.MeasureT-loop
-μ-loop out₀ start s way depth at₀ i₀ out at i = way .depth - i
+μ-loop out₀ start s way depth at₀ i₀ out at i = depth - i
 
 loop-holds : tie.Need-loop-holds Inv-loop μ-loop
 loop-holds c = let a = c .before .before in (coming-start (now (a .args .out)) (a .args .start) _, a .pre .1, a .pre .0)
@@ -25,8 +26,8 @@ put-entry-requires c κs =
     let i = q .before .before in
     let l = i .before .loop in
     let a = i .before .before .before .before .args in
-    let next = entries-next (now (a .s)) (a .t4) (l .i) (i .loop-test .taken) (q .position-of .result) (q .position-of .ensures) in
-    entry-room (q .position-of .result .entry) (entriesBytes (now (a .s)) (a .t4) (l .i + 1)) (l .out) (l .at)
+    let next = entries-next (now (a .s)) (now (a .way)) (a .depth) (l .i) (i .loop-test .taken) (q .position-of .result) (q .position-of .ensures) in
+    entry-room (q .position-of .result .entry) (entriesBytes (now (a .s)) (now (a .way)) (a .depth) (l .i + 1)) (l .out) (l .at)
     (coming-room (coming-as next (l .inv .0)) (l .inv .1))
 
 loop-again : tie.Need-loop-again Inv-loop μ-loop
@@ -36,14 +37,14 @@ loop-again c =
     let i = q .before .before in
     let l = i .before .loop in
     let a = i .before .before .before .before .args in
-    let next = entries-next (now (a .s)) (a .t4) (l .i) (i .loop-test .taken) (q .position-of .result) (q .position-of .ensures) in
+    let next = entries-next (now (a .s)) (now (a .way)) (a .depth) (l .i) (i .loop-test .taken) (q .position-of .result) (q .position-of .ensures) in
     (coming-more (coming-as next (l .inv .0)) (put .put-entry .ensures), l .inv .1, l .inv .2)
 
 returns : tie.Need-returns Inv-loop μ-loop
 returns c =
     let l = c .before .loop in
     let a = c .before .before .before .before .args in
-    coming-over (coming-as (entries-over (now (a .s)) (a .t4) (l .i) (c .loop-test .left)) (l .inv .0))
+    coming-over (coming-as (entries-over (now (a .s)) (now (a .way)) (a .depth) (l .i) (c .loop-test .left)) (l .inv .0))
 
 pub put-entries-spec : {M : Type 1} → statement M
 put-entries-spec =

@@ -11,7 +11,7 @@ put-path-head-requires c κs =
     let r = l .before .before in
     let start = r .before .before .before .before in
     let a = start .args in
-    head-room (now (a .s)) (a .t4) (r .position-of .result) (l .position-of2 .result) (start .pre .0) (r .position-of .ensures)
+    head-room (now (a .s)) (now (a .way)) (a .depth) (r .position-of .result) (l .position-of2 .result) (start .pre .0) (r .position-of .ensures)
     (l .position-of2 .ensures) (now (a .out)) (a .at) (start .pre .2)
 
 put-entries-requires : tie.Need-put-entries-requires
@@ -21,7 +21,7 @@ put-entries-requires c κs =
     let r = l .before .before in
     let start = r .before .before .before .before in
     let a = start .args in
-    let room = entries-room (now (a .s)) (a .t4) (r .position-of .result) (l .position-of2 .result) (start .pre .0) (r .position-of .ensures)
+    let room = entries-room (now (a .s)) (now (a .way)) (a .depth) (r .position-of .result) (l .position-of2 .result) (start .pre .0) (r .position-of .ensures)
     (l .position-of2 .ensures) (now (a .out)) (a .at) (start .pre .2) in
     (start .pre .1, room _ _ (h .put-path-head .ensures))
 
@@ -33,7 +33,7 @@ returns c =
     let r = l .before .before in
     let start = r .before .before .before .before in
     let a = start .args in
-    way-written (now (a .s)) (a .t4) (r .position-of .result) (l .position-of2 .result) (start .pre .0) (r .position-of .ensures)
+    way-written (now (a .s)) (now (a .way)) (a .depth) (r .position-of .result) (l .position-of2 .result) (start .pre .0) (r .position-of .ensures)
     (l .position-of2 .ensures) (h .put-path-head .ensures) (e .put-entries .ensures)
 
 pub put-path-spec : {M : Type 1} → statement M

@@ -1,0 +1,62 @@
+-- What the search found is merged; where it found nothing the position is made, the last.
+use Prim.Native.Nat.{_≤_, _<_}
+use native.Mathlib.Omega.{arith}
+use mathlib.Core.Path.{sym, ap, subst, _∙_}
+use denote.Ref.{now}
+use borrow.Author.Needs.{needs}
+use Rattle.tree.specs.Words.{parentIn}
+use Rattle.tree.specs.Tree.{countIn}
+use Rattle.tree.proofs.Packed.{packed-parent}
+use Rattle.tree.proofs.Entering.{enters-merged, enters-made}
+use Rattle.tree.proofs.make_or_merge.Statement.{statement}
+use Rattle.tree.proofs.make_or_merge.Tie as tie
+
+seek-requires : tie.Need-seek-requires
+seek-requires c κs =
+    let p = c .before in
+    let start = p .before .before in
+    let a = start .args in
+    let room = start .pre .2 in
+    let lies = start .pre .1 in (
+      start .pre .0,
+      subst (λ n. n ≤ countIn (now (a .tree)))
+          (sym (ap parentIn (p .pack .ensures) ∙ packed-parent (a .parent) (a .place) (a .access) (omega arith) (start .pre .3))) lies,
+    )
+
+returns : tie.Need-returns
+returns c =
+    let test = c .before .before in
+    let found = test .before in
+    let p = found .before .before in
+    let start = p .before .before in
+    let a = start .args in
+    let room = start .pre .2 in
+    let lies = start .pre .1 in
+    let p< : a .parent < 65536 = omega arith in
+    enters-merged (a .parent) (a .place) (a .access) (p .pack .result) (found .seek .result) (start .pre .0) p< (start .pre .3) (p .pack .ensures)
+    (found .seek .ensures) _ (test .if1 .taken) (c .merge-at .ensures)
+
+returns-2 : tie.Need-returns-2
+returns-2 c =
+    let test = c .before .before in
+    let found = test .before in
+    let p = found .before .before in
+    let start = p .before .before in
+    let a = start .args in
+    let room = start .pre .2 in
+    let lies = start .pre .1 in
+    let p< : a .parent < 65536 = omega arith in
+    enters-made (a .parent) (a .place) (a .access) (p .pack .result) (found .seek .result) (start .pre .0) p< (start .pre .3) (p .pack .ensures)
+    (found .seek .ensures) _ (c .append .result) room (test .if1 .left) (c .append .ensures)
+
+pub make-or-merge-spec : {M : Type 1} → statement M
+make-or-merge-spec =
+    tie.close
+    (tie.spec
+    (λ c κs. search needs)
+    seek-requires
+    (λ c. search needs)
+    (λ c κs. search needs)
+    returns
+    (λ c κs. search needs)
+    returns-2)
