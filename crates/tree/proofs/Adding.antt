@@ -18,7 +18,7 @@ use Rattle.model.specs.Tree.{DependencyPosition, dependencyKey, mergePosition}
 use Rattle.laws.specs.Flat.{grow}
 use Rattle.laws.specs.FlatLaws.{grow-enter}
 use Rattle.tree.specs.Words.{positionAs}
-use Rattle.tree.specs.Tree.{countIn, nodesOf, forestOf, height, Sized, Held, entered, Enters, Adds}
+use Rattle.tree.specs.Tree.{countIn, nodesOf, forestOf, height, Linked, Sized, Held, entered, Enters, Adds}
 use Rattle.tree.proofs.Walking.{walkOf, walk-few, Walking, walking-over}
 
 -- The height.
@@ -50,6 +50,9 @@ module _ {P : Type 0} (key : P → Key) (merge : P → P → P) where
       (λ e. taller (height c) (height (add key merge r (s ∷ ss))) (suc n) below (add-height r (s ∷ ss) (suc n) after k))
 
 -- The tree of no positions.
+none-linked : {ws : List ℕ} → countIn ws ≡ 0 → Linked ws
+none-linked e = record { parents = λ j l. absurd (omega arith); children = λ j l. absurd (omega arith); siblings = λ j l. absurd (omega arith) }
+
 module _ (ws : List ℕ) (long : length ws ≡ 1089) where
   pub cleared-count : countIn (set ws 1088 0) ≡ 0
   cleared-count = getD-set-same ws 1088 0 0 (omega arith)
@@ -60,7 +63,7 @@ module _ (ws : List ℕ) (long : length ws ≡ 1089) where
 
   pub cleared-held : (s : List ℕ) → Held s (set ws 1088 0)
   cleared-held s = record {
-    sized = record { long = length-set ws 1088 0 ∙ long; room = rw cleared-count (omega arith) };
+    sized = record { long = length-set ws 1088 0 ∙ long; room = rw cleared-count (omega arith); linked = none-linked cleared-count };
     low = rw (cleared s) (omega arith);
   }
 

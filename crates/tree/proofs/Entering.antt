@@ -4,17 +4,15 @@ use Prim.Native.Nat.{ℕ, zero, suc, _+_, _-_, _≤_, _<_}
 use native.Mathlib.Omega.{arith}
 use native.Mathlib.Numerals.{add-one}
 use native.Mathlib.Nat.{add-zero, zero-add, suc-add}
-use mathlib.Core.Path.{_≡_, refl, sym, ap, subst, _∙_}
+use mathlib.Core.Path.{_≡_, refl, sym, ap, _∙_}
 use mathlib.Core.Bool.{true, false, cond}
 use mathlib.Core.List.{List, [], _∷_, _++_, append-assoc}
-use lib.ListN.{length, getD, set, length-set}
+use lib.ListN.{length, getD, set}
 use lib.Seq.{getD-set-same, getD-set-other}
-use Rattle.entries.specs.declared.PropertyAccessType.{PropertyAccessType}
 use Rattle.model.specs.Tree.{DependencyPosition, mergePosition}
 use Rattle.laws.specs.Flat.{Node}
-use Rattle.tree.specs.Words.{parentIn, placeIn, accessIn, pack, positionAs, positionOf, nodeOf, nodesFrom, mergedWord}
-use Rattle.tree.specs.Tree.{countIn, nodesOf, Sized, entered, matches, nodesAfter, enteredFrom, Seeks, Appends, Enters}
-use Rattle.tree.proofs.Packed.{packed-parent, packed-position, position-access, merged-node}
+use Rattle.tree.specs.Words.{parentIn, positionOf, nodeOf, nodesFrom}
+use Rattle.tree.specs.Tree.{countIn, nodesOf, entered, matches, nodesAfter, enteredFrom}
 
 -- Nodes in words.
 
@@ -95,118 +93,18 @@ module _ (s ws : List ℕ) (i p : ℕ) (q : DependencyPosition) (h : i < countIn
         (sym (nodes-stored s ws i v (omega arith))))
 
 -- A position is made behind all.
-module _ (s ws : List ℕ) (long : length ws ≡ 1089) (room : countIn ws < 1088) (v p : ℕ) (q : DependencyPosition)
-    (is : nodeOf s v ≡ record { parent = p; here = q }) where
-  abbrev end : ℕ
-  end = countIn ws
+nodes-same : (s ws vs : List ℕ) (i n : ℕ) → ((j : ℕ) → j < i + n → nodeOf s (getD vs j 0) ≡ nodeOf s (getD ws j 0))
+    → nodesFrom s vs i n ≡ nodesFrom s ws i n
+nodes-same s ws vs i zero h = refl
+nodes-same s ws vs i (suc n) h = rw (h i (omega arith), nodes-same s ws vs (suc i) n (λ j l. h j (omega arith)))
 
-  abbrev appended : List ℕ
-  appended = set (set ws end v) 1088 (end + 1)
-
-  pub appended-count : countIn appended ≡ end + 1
-  appended-count = getD-set-same (set ws end v) 1088 (end + 1) 0 (rw (length-set ws end v) (omega arith))
-
-  pub appended-sized : Sized appended
-  appended-sized = record {
-    long = length-set (set ws end v) 1088 (end + 1) ∙ length-set ws end v ∙ long;
-    room = rw appended-count (omega arith);
-  }
-
-  pub entered-made : (ss : List DependencyPosition) → enteredFrom s ws end p (q ∷ ss) ≡ enteredFrom s appended (end + 1) (end + 1) ss
-  entered-made ss =
-      let none : end - end ≡ 0 = omega arith in
-      let none′ : end + 1 - (end + 1) ≡ 0 = omega arith in
-      let below = nodes-below s (set ws end v) 1088 (end + 1) 0 (end + 1) (omega arith) in
-      rw (none, ← is, appended-count, none′, below, nodes-stored s ws end v (omega arith), ← add-one end)
-      (sym (append-assoc (nodesFrom s ws 0 end) (nodeOf s v ∷ []) _))
-
--- The search for the step's position.
-
-pub record Seeking (s ws : List ℕ) (step i : ℕ) : Type 0 where
-  pub sized : Sized ws
-  pub passed : i ≤ countIn ws
-  pub is : (ss : List DependencyPosition) → enteredFrom s ws (parentIn step) (parentIn step) (positionOf s step ∷ ss)
-      ≡ enteredFrom s ws i (parentIn step) (positionOf s step ∷ ss)
-
-pub seeking-start : (s ws : List ℕ) (step : ℕ) → Sized ws → parentIn step ≤ countIn ws → Seeking s ws step (parentIn step)
-seeking-start s ws step sized h = record { sized = sized; passed = h; is = λ ss. refl }
-
-module _ {s ws : List ℕ} {step i : ℕ} (x : Seeking s ws step i) where
-  pub seeking-past : i < countIn ws → matches (nodeOf s (getD ws i 0)) (parentIn step) (positionOf s step) ≡ false → Seeking s ws step (i + 1)
-  seeking-past h t = record {
-    sized = x .sized;
-    passed = omega arith;
-    is = λ ss. x .is ss ∙ entered-past s ws i (parentIn step) (positionOf s step) h t ss;
-  }
-
-  pub seeking-found : i < countIn ws → matches (nodeOf s (getD ws i 0)) (parentIn step) (positionOf s step) ≡ true → Seeks s ws step (i + 1)
-  seeking-found h t =
-      let back : i + 1 - 1 ≡ i = omega arith in
-      record { within = omega arith; found = λ some. rw back t; there = λ some. rw back (x .is); none = λ z. absurd (omega arith) }
-
-  pub seeking-over : countIn ws ≤ i → Seeks s ws step 0
-  seeking-over h =
-      let p = x .passed in
-      let all : i ≡ countIn ws = omega arith in
-      record {
-        within = omega arith;
-        found = λ z. absurd (omega arith);
-        there = λ z. absurd (omega arith);
-        none = λ z ss. subst (λ n. enteredFrom s ws (parentIn step) (parentIn step) (positionOf s step ∷ ss)
-            ≡ enteredFrom s ws n (parentIn step) (positionOf s step ∷ ss)) all (x .is ss);
-      }
-
--- The step's position is merged where it was found, or made.
-module _ {s ws : List ℕ} (parent place : ℕ) (access : PropertyAccessType) (step number : ℕ) (sized : Sized ws) (p< : parent < 65536) (q< : place < 65536)
-    (packed : step ≡ pack parent place access) (x : Seeks s ws step number) where
-  abbrev q : DependencyPosition
-  q = positionOf s step
-
-  is-step : {vs : List ℕ} {k : ℕ} → Enters s ws vs (parentIn step) q k → Enters s ws vs parent (positionAs s parent place access) k
-  is-step {vs} {k} e =
-      let parent-is : parentIn step ≡ parent = ap parentIn packed ∙ packed-parent parent place access p< q< in
-      let position-is : q ≡ positionAs s parent place access = ap (positionOf s) packed ∙ packed-position parent place access p< q< s in
-      subst (λ p. Enters s ws vs p (positionAs s parent place access) k) parent-is
-      (subst (λ (r : DependencyPosition). Enters s ws vs (parentIn step) r k) position-is e)
-
-  pub enters-merged : (vs : List ℕ) → 0 < number → vs ≡ set ws (number - 1) (mergedWord (getD ws (number - 1) 0) access)
-      → Enters s ws vs parent (positionAs s parent place access) number
-  enters-merged vs some stored =
-      let i = number - 1 in
-      let w = mergedWord (getD ws i 0) access in
-      let within = x .within in
-      let room = sized .room in
-      let here : i < countIn ws = omega arith in
-      let next : i + 1 ≡ number = omega arith in
-      let told : q .access ≡ access =
-      ap (λ (r : DependencyPosition). r .access) (ap (positionOf s) packed ∙ packed-position parent place access p< q< s)
-      ∙ position-access s parent place access in
-      let is : nodeOf s w ≡ record { parent = parentIn (getD ws i 0); here = mergePosition (positionOf s (getD ws i 0)) q } =
-      rw told (merged-node s (getD ws i 0) access) in
-      let count : countIn vs ≡ countIn ws = ap countIn stored ∙ getD-set-other ws i 1088 w 0 (λ e. omega arith) in
-      is-step (record {
-        sized = record { long = ap length stored ∙ length-set ws i w ∙ sized .long; room = rw count room };
-        few = omega arith;
-        some = some;
-        within = omega arith;
-        is = λ ss. x .there some ss
-            ∙ subst (λ k. enteredFrom s ws i (parentIn step) (q ∷ ss) ≡ enteredFrom s vs k k ss) next
-            (subst (λ us. enteredFrom s ws i (parentIn step) (q ∷ ss) ≡ enteredFrom s us (i + 1) (i + 1) ss) (sym stored)
-            (entered-merged s ws i (parentIn step) q here (sized .long) room w is (x .found some) ss));
-      })
-
-  pub enters-made : (vs : List ℕ) (k : ℕ) → countIn ws < 1088 → number ≤ 0 → Appends ws vs step k → Enters s ws vs parent (positionAs s parent place access) k
-  enters-made vs k room none a =
-      let long = sized .long in
-      let count : countIn vs ≡ countIn ws + 1 = ap countIn (a .is) ∙ appended-count s ws long room step (parentIn step) q refl in
-      let last = a .last in
-      is-step (record {
-        sized = subst Sized (sym (a .is)) (appended-sized s ws long room step (parentIn step) q refl);
-        few = omega arith;
-        some = omega arith;
-        within = omega arith;
-        is = λ ss. x .none none ss
-            ∙ subst (λ n. enteredFrom s ws (countIn ws) (parentIn step) (q ∷ ss) ≡ enteredFrom s vs n n ss) (sym (a .last))
-            (subst (λ us. enteredFrom s ws (countIn ws) (parentIn step) (q ∷ ss) ≡ enteredFrom s us (countIn ws + 1) (countIn ws + 1) ss) (sym (a .is))
-            (entered-made s ws long room step (parentIn step) q refl ss));
-      })
+pub entered-made : (s ws vs : List ℕ) (p : ℕ) (q : DependencyPosition) → countIn vs ≡ countIn ws + 1
+    → ((j : ℕ) → j < countIn ws → nodeOf s (getD vs j 0) ≡ nodeOf s (getD ws j 0))
+    → nodeOf s (getD vs (countIn ws) 0) ≡ record { parent = p; here = q } → (ss : List DependencyPosition)
+    → enteredFrom s ws (countIn ws) p (q ∷ ss) ≡ enteredFrom s vs (countIn ws + 1) (countIn ws + 1) ss
+entered-made s ws vs p q count old new ss =
+    let n = countIn ws in
+    let none : n - n ≡ 0 = omega arith in
+    let none′ : n + 1 - (n + 1) ≡ 0 = omega arith in
+    let same = nodes-same s ws vs 0 n (λ j l. old j (omega arith)) in
+    rw (none, count, none′, nodes-snoc s vs n, same, ← add-one n, new) (sym (append-assoc (nodesFrom s ws 0 n) (record { parent = p; here = q } ∷ []) _))

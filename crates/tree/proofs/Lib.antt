@@ -1,5 +1,8 @@
 pub mod Packed
+pub mod Linking
 pub mod Entering
+pub mod Appending
+pub mod Seeking
 pub mod Walking
 pub mod Adding
 pub mod Putting

@@ -1,7 +1,7 @@
 -- A word and the position that it stands for: packing, merging, and the test on keys.
 use Prim.Native.Nat.{ℕ, _+_, _*_, _/_, _%_, _<_}
 use native.Mathlib.Omega.{arith}
-use mathlib.Core.Path.{_≡_, refl, _∙_}
+use mathlib.Core.Path.{_≡_, refl, ap, _∙_}
 use mathlib.Core.Bool.{Bool, true, false}
 use mathlib.Core.List.{List}
 use lib.Dec.{eqb}
@@ -15,7 +15,23 @@ use Rattle.model.specs.Tree.{withMerged}
 use Rattle.entries.specs.declared.DependencyPathEntry.{DependencyPathEntry}
 use Rattle.job.specs.declared.PathHead.{PathHead}
 use Rattle.tree.specs.declared.Key.{Key}
-use Rattle.tree.specs.Words.{headAt, entryAt, parentIn, placeIn, accessIn, pack, keyOf, keyAt, positionAs, positionOf, nodeOf, mergedWord}
+use Rattle.tree.specs.Words.{
+  headAt,
+  entryAt,
+  parentIn,
+  placeIn,
+  accessIn,
+  childIn,
+  siblingIn,
+  pack,
+  keyOf,
+  keyAt,
+  positionAs,
+  positionOf,
+  nodeOf,
+  mergedWord,
+  linkedWord,
+}
 use Rattle.tree.specs.Tree.{matches}
 
 -- The fields of a word: 16 bits, 16 bits, and two flags.
@@ -47,6 +63,10 @@ module _ (p q : ℕ) (a : PropertyAccessType) (p< : p < 65536) (q< : q < 65536) 
   unfolding pack
   packed-parent = at-parent p q _ _ p< q< (flag-small (isOptionalAccess a)) (flag-small (isDependencyAccess a))
 
+  pub pack-low : pack p q a < 17179869184
+  unfolding pack
+  pack-low = let o = flag-small (isOptionalAccess a) in let d = flag-small (isDependencyAccess a) in omega arith
+
   packed-place : placeIn (pack p q a) ≡ q
   unfolding pack
   packed-place = at-place p q _ _ p< q< (flag-small (isOptionalAccess a)) (flag-small (isDependencyAccess a))
@@ -77,14 +97,60 @@ pub position-merged : (s : List ℕ) (p q : ℕ) (a b : PropertyAccessType) → 
 unfolding positionAs
 position-merged s p q a b = decide (eqb p 0) (λ e. rw e) (λ e. rw e)
 
--- the merged word stands for the merged position below the same parent
-pub merged-node : (s : List ℕ) (w : ℕ) (a : PropertyAccessType)
-    → nodeOf s (mergedWord w a) ≡ record { parent = parentIn w; here = withMerged (positionOf s w) a }
-merged-node s w a =
-    let p< : parentIn w < 65536 = omega arith in
-    let q< : placeIn w < 65536 = omega arith in
-    packed-node (parentIn w) (placeIn w) (mergeAccess (accessIn w) a) p< q< s
-    ∙ rw (position-merged s (parentIn w) (placeIn w) (accessIn w) a)
+-- The links stand above the other fields.
+module _ (w x : ℕ) where
+  over-parent : parentIn (w + x * 17179869184) ≡ parentIn w
+  over-parent = omega arith
+
+  over-place : placeIn (w + x * 17179869184) ≡ placeIn w
+  over-place = omega arith
+
+  over-optional : (w + x * 17179869184) / 4294967296 % 2 ≡ w / 4294967296 % 2
+  over-optional = omega arith
+
+  over-dependency : (w + x * 17179869184) / 8589934592 % 2 ≡ w / 8589934592 % 2
+  over-dependency = omega arith
+
+  over-node : (s : List ℕ) → nodeOf s (w + x * 17179869184) ≡ nodeOf s w
+  over-node s = rw (over-parent, over-place, over-optional, over-dependency)
+
+-- a link changes nothing else
+pub linked-node : (s : List ℕ) (child : Bool) (w n : ℕ) → nodeOf s (linkedWord child w n) ≡ nodeOf s w
+linked-node s true w n = over-node w n s
+linked-node s false w n = let e : w + n * 35184372088832 ≡ w + n * 2048 * 17179869184 = omega arith in ap (nodeOf s) e ∙ over-node w (n * 2048) s
+
+module _ (w n : ℕ) where
+  pub child-set : childIn w ≡ 0 → n < 2048 → childIn (w + n * 17179869184) ≡ n
+  child-set z h = omega arith
+
+  pub sibling-beside : childIn w ≡ 0 → n < 2048 → siblingIn (w + n * 17179869184) ≡ siblingIn w
+  sibling-beside z h = omega arith
+
+  pub sibling-set : siblingIn w ≡ 0 → siblingIn (w + n * 35184372088832) ≡ n
+  sibling-set z = omega arith
+
+  pub child-beside : childIn (w + n * 35184372088832) ≡ childIn w
+  child-beside = omega arith
+
+-- The merged word: the merged position below the same parent, with the same links.
+module _ (w : ℕ) (a : PropertyAccessType) where
+  abbrev low : ℕ
+  low = pack (parentIn w) (placeIn w) (mergeAccess (accessIn w) a)
+
+  low-small : low < 17179869184
+  low-small = pack-low (parentIn w) (placeIn w) (mergeAccess (accessIn w) a) (omega arith) (omega arith)
+
+  pub merged-node : (s : List ℕ) → nodeOf s (mergedWord w a) ≡ record { parent = parentIn w; here = withMerged (positionOf s w) a }
+  merged-node s =
+      over-node low (w / 17179869184) s
+      ∙ packed-node (parentIn w) (placeIn w) (mergeAccess (accessIn w) a) (omega arith) (omega arith) s
+      ∙ rw (position-merged s (parentIn w) (placeIn w) (accessIn w) a)
+
+  pub merged-child : childIn (mergedWord w a) ≡ childIn w
+  merged-child = let h = low-small in omega arith
+
+  pub merged-sibling : siblingIn (mergedWord w a) ≡ siblingIn w
+  merged-sibling = let h = low-small in omega arith
 
 -- a position's key stands at its place
 pub position-key : (s : List ℕ) (p q : ℕ) (a : PropertyAccessType) → positionAs s p q a .key ≡ keyAt s p q

@@ -20,10 +20,11 @@ use Rattle.model.specs.Tree.{
   dependencyOf,
 }
 use Rattle.tree.specs.declared.Position.{Position}
+use Rattle.tree.specs.declared.Sought.{Sought}
 use Rattle.tree.specs.declared.Written.{Written}
 use Rattle.writer.specs.Writes.{Writes}
 use Rattle.laws.specs.Flat.{Node, grow, enter, flatFirsts}
-use Rattle.tree.specs.Words.{parentIn, positionOf, nodeOf, nodesFrom, wayPositions}
+use Rattle.tree.specs.Words.{parentIn, childIn, siblingIn, positionOf, nodeOf, nodesFrom, wayPositions, linkedWord}
 use Rattle.tree.specs.Walk.{walkBy, bitsOf, pathAt}
 
 -- how many positions there are
@@ -43,10 +44,30 @@ abbrev pub height : {P : Type 0} → Forest P → ℕ
 height empty = zero
 height (position p c r) = cond (leb (suc (height c)) (height r)) (height r) (suc (height c))
 
--- room for the most positions, and no more than these
+-- no position from place i on and before place l has the parent p
+abbrev pub Apart : List ℕ → ℕ → ℕ → ℕ → Type 0
+Apart ws p i l = (j : ℕ) → i ≤ j → j < l → ¬ (parentIn (getD ws j 0) ≡ p)
+
+-- The number of the first position from place i on that has the parent p; 0 where there is none.
+pub record Next (ws : List ℕ) (i p number : ℕ) : Type 0 where
+  pub within : number ≤ countIn ws
+  pub behind : 0 < number → i < number
+  pub own : 0 < number → parentIn (getD ws (number - 1) 0) ≡ p
+  pub first : 0 < number → Apart ws p i (number - 1)
+  pub none : number ≤ 0 → Apart ws p i (countIn ws)
+
+-- A position stands behind its parent, and its links lead to its first child and to the next child
+-- of its parent.
+pub record Linked (ws : List ℕ) : Type 0 where
+  pub parents : (j : ℕ) → j < countIn ws → parentIn (getD ws j 0) ≤ j
+  pub children : (j : ℕ) → j < countIn ws → Next ws (j + 1) (j + 1) (childIn (getD ws j 0))
+  pub siblings : (j : ℕ) → j < countIn ws → Next ws (j + 1) (parentIn (getD ws j 0)) (siblingIn (getD ws j 0))
+
+-- room for the most positions, no more than these, and their links
 pub record Sized (ws : List ℕ) : Type 0 where
   pub long : length ws ≡ 1089
   pub room : countIn ws ≤ 1088
+  pub linked : Linked ws
 
 -- The words hold a tree in which no way down is longer than a candidate's.
 pub record Held (s ws : List ℕ) : Type 0 where
@@ -69,20 +90,43 @@ nodesAfter s ws i = nodesFrom s ws i (countIn ws - i)
 abbrev pub enteredFrom : List ℕ → List ℕ → ℕ → ℕ → List DependencyPosition → List (Node DependencyPosition)
 enteredFrom s ws i p ss = nodesFrom s ws 0 i ++ entered (nodesAfter s ws i) i p ss
 
--- Where a way down that goes on with the step's position is entered below its parent: at the
--- position of that number, which has the same parent and key, or behind all positions.
-pub record Seeks (s ws : List ℕ) (step number : ℕ) : Type 0 where
-  pub within : number ≤ countIn ws
-  pub found : 0 < number → matches (nodeOf s (getD ws (number - 1) 0)) (parentIn step) (positionOf s step) ≡ true
-  pub there : 0 < number → (ss : List DependencyPosition) → enteredFrom s ws (parentIn step) (parentIn step) (positionOf s step ∷ ss)
-      ≡ enteredFrom s ws (number - 1) (parentIn step) (positionOf s step ∷ ss)
-  pub none : number ≤ 0 → (ss : List DependencyPosition) → enteredFrom s ws (parentIn step) (parentIn step) (positionOf s step ∷ ss)
-      ≡ enteredFrom s ws (countIn ws) (parentIn step) (positionOf s step ∷ ss)
+-- Number l is the last child of p, or p itself where p has no child.
+pub record LastChild (ws : List ℕ) (p l : ℕ) : Type 0 where
+  pub behind : p ≤ l
+  pub within : l ≤ countIn ws
+  pub own : p < l → parentIn (getD ws (l - 1) 0) ≡ p
+  pub end : Apart ws p l (countIn ws)
 
--- The step's word stands behind the positions that were there.
-pub record Appends (before after : List ℕ) (step number : ℕ) : Type 0 where
+-- Where a way down that goes on with the step's position is entered below its parent: at the
+-- position of the number found, which has the same parent and key, or behind all positions.
+pub record Seeks (s ws : List ℕ) (step : ℕ) (sought : Sought) : Type 0 where
+  pub within : sought .number ≤ countIn ws
+  pub found : 0 < sought .number → matches (nodeOf s (getD ws (sought .number - 1) 0)) (parentIn step) (positionOf s step) ≡ true
+  pub there : 0 < sought .number → (ss : List DependencyPosition)
+      → enteredFrom s ws (parentIn step) (parentIn step) (positionOf s step ∷ ss)
+      ≡ enteredFrom s ws (sought .number - 1) (parentIn step) (positionOf s step ∷ ss)
+  pub none : sought .number ≤ 0 → (ss : List DependencyPosition)
+      → enteredFrom s ws (parentIn step) (parentIn step) (positionOf s step ∷ ss)
+      ≡ enteredFrom s ws (countIn ws) (parentIn step) (positionOf s step ∷ ss)
+  pub last : sought .number ≤ 0 → LastChild ws (parentIn step) (sought .last)
+
+-- the words where number l has a link more: to the first child where it is the parent p, else to
+-- the next sibling
+unfoldable pub linkedWords : List ℕ → ℕ → ℕ → ℕ → List ℕ
+linkedWords ws p l number = cond (eqb l 0) ws (set ws (l - 1) (linkedWord (eqb l p) (getD ws (l - 1) 0) number))
+
+-- What making the step's position asks: room, the last child of its parent, and a word without
+-- links.
+pub record Appendable (ws : List ℕ) (l step : ℕ) : Type 0 where
+  pub sized : Sized ws
+  pub room : countIn ws < 1088
+  pub last : LastChild ws (parentIn step) l
+  pub low : step < 17179869184
+
+-- The step's word stands behind the positions that were there, and is linked.
+pub record Appends (before after : List ℕ) (l step number : ℕ) : Type 0 where
   pub last : number ≡ countIn before + 1
-  pub is : after ≡ set (set before (countIn before) step) 1088 (countIn before + 1)
+  pub is : after ≡ set (set (linkedWords before (parentIn step) l (countIn before + 1)) (countIn before) step) 1088 (countIn before + 1)
 
 -- A way down goes on below number p with the position q: that stands at this number now, merged or
 -- made, and the rest of the way is to be entered below it.
@@ -135,11 +179,12 @@ pub record Puttable (s way : List ℕ) (depth : ℕ) (out : List ℕ) (done : Wr
   pub room : done .at + length (pathBytes spanWidth DE (dependencyOf (wayPositions s way depth))) ≤ length out
   pub few : done .count ≤ done .at
 
--- What deriving asks: no way down is too long for the words of a way, and the records have their
--- room.
-pub record Derivable (s ws : List ℕ) (parent i : ℕ) (way : List ℕ) (depth : ℕ) (out : List ℕ) (start : Written) : Type 0 where
+-- What deriving below a parent asks: no way down is too long for the words of a way, and the
+-- records have their room.
+pub record Derivable (s ws : List ℕ) (parent : ℕ) (way : List ℕ) (depth : ℕ) (out : List ℕ) (start : Written) : Type 0 where
   pub sized : Sized ws
+  pub within : parent ≤ countIn ws
   pub long : length way ≡ 17
-  pub low : depth + height (grow (nodesAfter s ws i) i parent) ≤ 17
-  pub room : start .at + length (concatMap (pathBytes spanWidth DE) (pathsFrom s ws parent i way depth)) ≤ length out
+  pub low : depth + height (grow (nodesAfter s ws parent) parent parent) ≤ 17
+  pub room : start .at + length (concatMap (pathBytes spanWidth DE) (pathsFrom s ws parent parent way depth)) ≤ length out
   pub few : start .count ≤ start .at

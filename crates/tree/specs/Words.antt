@@ -1,8 +1,9 @@
 -- The positions that the words of a tree hold. A word has the parent's number (16 bits, 0 for a
--- root), the place in the job's bytes where the key and the span stand (16 bits), and the access
--- kind (2 bits).
+-- root), the place in the job's bytes where the key and the span stand (16 bits), the access kind
+-- (2 bits), and above them two links, which are numbers of positions, 0 for none: to the first
+-- child (11 bits) and to the next sibling.
 use Prim.Native.Nat.{ℕ, zero, suc, _+_, _*_, _-_, _/_, _%_}
-use mathlib.Core.Bool.{false, cond}
+use mathlib.Core.Bool.{Bool, false, cond}
 use mathlib.Core.List.{List, [], _∷_}
 use lib.ListN.{getD}
 use lib.Dec.{eqb}
@@ -52,7 +53,23 @@ placeIn w = w / 65536 % 65536
 abbrev pub accessIn : ℕ → PropertyAccessType
 accessIn w = accessOf (eqb (w / 4294967296 % 2) 1) (eqb (w / 8589934592 % 2) 1)
 
--- the word of a parent's number, a place and an access kind
+-- the link to the first child
+abbrev pub childIn : ℕ → ℕ
+childIn w = w / 17179869184 % 2048
+
+-- the link to the next sibling
+abbrev pub siblingIn : ℕ → ℕ
+siblingIn w = w / 35184372088832
+
+-- one of the two
+abbrev pub linkIn : Bool → ℕ → ℕ
+linkIn child w = cond child (childIn w) (siblingIn w)
+
+-- the word with a link that it had not, to the first child or to the next sibling
+abbrev pub linkedWord : Bool → ℕ → ℕ → ℕ
+linkedWord child w number = cond child (w + number * 17179869184) (w + number * 35184372088832)
+
+-- the word without links of a parent's number, a place and an access kind
 unfoldable pub pack : ℕ → ℕ → PropertyAccessType → ℕ
 pack parent place a = parent + place * 65536 + flag (isOptionalAccess a) * 4294967296 + flag (isDependencyAccess a) * 8589934592
 
@@ -107,4 +124,4 @@ restOf s way depth i = positionsFrom s way i (depth - i)
 
 -- the word of a position into which an access is merged
 abbrev pub mergedWord : ℕ → PropertyAccessType → ℕ
-mergedWord w a = pack (parentIn w) (placeIn w) (mergeAccess (accessIn w) a)
+mergedWord w a = pack (parentIn w) (placeIn w) (mergeAccess (accessIn w) a) + w / 17179869184 * 17179869184

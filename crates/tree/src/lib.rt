@@ -1,18 +1,20 @@
 // The dependency tree: positions in words that the caller lends, in the order of making, each with
 // its parent's number; and the returned paths, derived from it. Position k's number is k + 1, and 0
-// stands above the roots. Keys and spans stay in the job's bytes: a position keeps their place.
+// stands above the roots. Keys and spans stay in the job's bytes: a position keeps their place. It
+// also has links to its first child and to its next sibling, by which children are found.
 ghost use mathlib.Core.Path.{_≡_};
-ghost use Prim.Native.Nat.{ℕ, _+_, _≤_, _<_};
+ghost use Prim.Native.Nat.{ℕ, _+_, _-_, _≤_, _<_};
 ghost use mathlib.Core.Bool.{_||_};
 ghost use mathlib.Core.List.{List, [], _∷_, map};
 ghost use lib.ListN.{length, getD, set};
+ghost use lib.Dec.{eqb};
 ghost use Rattle.model.specs.Forest.{empty, sameKey};
 ghost use Rattle.model.specs.Lists.{concatMap};
 ghost use Rattle.model.specs.Answer.{DE, entryBytes, pathBytes, spanWidth};
 ghost use Rattle.model.specs.Tree.{stepAccess, rootPosition, entryOf, dependencyOf};
 ghost use Rattle.writer.specs.Writes.{Writes};
 ghost use Rattle.tree.specs.Words.{headAt, entryAt, parentIn, placeIn, accessIn, pack, keyOf, keyAt, positionAs, positionOf};
-ghost use Rattle.tree.specs.Words.{wayPositions, restOf, mergedWord};
+ghost use Rattle.tree.specs.Words.{childIn, siblingIn, wayPositions, restOf, mergedWord, linkedWord, linkIn};
 ghost use Rattle.tree.specs.Tree.{
   countIn,
   forestOf,
@@ -20,7 +22,10 @@ ghost use Rattle.tree.specs.Tree.{
   Sized,
   Held,
   KeepsWay,
+  Next,
+  linkedWords,
   Seeks,
+  Appendable,
   Appends,
   Enters,
   Adds,
@@ -89,13 +94,51 @@ fn access_in(w: u64) -> PropertyAccessType
     PropertyAccessType::of(w / 4294967296 % 2 == 1, w / 8589934592 % 2 == 1)
 }
 
+// The links stand above the other fields. They are numbers of positions, 0 for none.
+const CHILD: u64 = 17179869184;
+
+const SIBLING: u64 = 35184372088832;
+
+fn child_in(w: u64) -> usize
+    ensures { λ r. ⌜ r ≡ childIn w ⌝ }
+{
+    (w / CHILD % 2048) as usize
+}
+
+fn sibling_in(w: u64) -> usize
+    ensures { λ r. ⌜ r ≡ siblingIn w ⌝ }
+{
+    (w / SIBLING) as usize
+}
+
+// A word without links.
 fn pack(parent: usize, place: usize, access: PropertyAccessType) -> u64
     requires { ⌜ (parent < 65536) × (place < 65536) ⌝ }
-    ensures { λ r. ⌜ r ≡ pack parent place access ⌝ }
+    ensures { λ r. ⌜ (r ≡ pack parent place access) × (r < 17179869184) ⌝ }
 {
     let optional = writer::flag(access.is_optional());
     let dependency = writer::flag(access.is_dependency());
     parent as u64 + place as u64 * 65536 + optional * 4294967296 + dependency * 8589934592
+}
+
+// The word with an access merged into its own, below the same links.
+fn merged_word(w: u64, with: PropertyAccessType) -> u64
+    ensures { λ r. ⌜ r ≡ mergedWord w with ⌝ }
+{
+    let access = access_in(w);
+    pack(parent_in(w), place_in(w), access.merge(with)) + w / CHILD * CHILD
+}
+
+// The word with a link that it has not yet, to the first child or to the next sibling.
+fn with_link(w: u64, child: bool, number: usize) -> u64
+    requires { ⌜ (linkIn child w ≡ 0) × (number < 2048) ⌝ }
+    ensures { λ r. ⌜ r ≡ linkedWord child w number ⌝ }
+{
+    if child {
+        w + number as u64 * CHILD
+    } else {
+        w + number as u64 * SIBLING
+    }
 }
 
 // A root's key is its identifier, a child's its property.
@@ -166,27 +209,46 @@ pub fn clear(tree: &mut [u64; 1089])
     tree[1088] = 0;
 }
 
-// The number of the position that has the step's parent and key, and 0 where there is none. A
-// position stands after its parent.
-fn seek(tree: &[u64; 1089], s: &[u8], step: u64) -> usize
+// The number of a parent's first child, 0 for none. The first position is the first root.
+fn first_child(tree: &[u64; 1089], parent: usize) -> usize
+    requires { ⌜ Sized (now tree) × (parent ≤ countIn (now tree)) ⌝ }
+    ensures { λ r. ⌜ Next (now (tree .entry)) parent parent r ⌝ }
+{
+    if parent == 0 {
+        if tree[1088] == 0 {
+            return 0;
+        }
+        return 1;
+    }
+    child_in(tree[parent - 1])
+}
+
+// Where a search among the children of a parent ends: at the number found, 0 for none, behind the
+// last child passed, or behind the parent where it passed none.
+struct Sought {
+    number: usize,
+    last: usize,
+}
+
+// The search for the position that has the step's parent and key.
+fn seek(tree: &[u64; 1089], s: &[u8], step: u64) -> Sought
     requires { ⌜ Sized (now tree) × (parentIn step ≤ countIn (now tree)) ⌝ }
     ensures { λ r. ⌜ Seeks (now (s .entry)) (now (tree .entry)) step r ⌝ }
 {
-    let end = tree[1088] as usize;
     let parent = parent_in(step);
     let key = key_at(s, parent, place_in(step));
-    let mut i = parent;
-    while i < end {
-        let w = tree[i];
-        if parent == parent_in(w) {
-            let other = key_at(s, parent, place_in(w));
-            if other.same(key) {
-                return i + 1;
-            }
+    let mut last = parent;
+    let mut number = first_child(tree, last);
+    while 0 < number {
+        let w = tree[number - 1];
+        let other = key_at(s, parent, place_in(w));
+        if other.same(key) {
+            return Sought { number, last };
         }
-        i += 1;
+        last = number;
+        number = sibling_in(w);
     }
-    0
+    Sought { number, last }
 }
 
 // Merges an access into position i.
@@ -194,18 +256,30 @@ fn merge_at(tree: &mut [u64; 1089], i: usize, with: PropertyAccessType)
     requires { ⌜ i < 1088 ⌝ }
     ensures { λ _. ⌜ now (tree .exit) ≡ set (now (tree .entry)) i (mergedWord (getD (now (tree .entry)) i 0) with) ⌝ }
 {
-    let w = tree[i];
-    let access = access_in(w);
-    tree[i] = pack(parent_in(w), place_in(w), access.merge(with));
+    tree[i] = merged_word(tree[i], with);
 }
 
-// Makes the step's position, the last, and says its number.
-fn append(tree: &mut [u64; 1089], step: u64) -> usize
-    requires { ⌜ countIn (now tree) < 1088 ⌝ }
-    ensures { λ r. ⌜ Appends (now (tree .entry)) (now (tree .exit)) step r ⌝ }
+// Links a position behind the last child of a parent, or as its first child where `last` is the
+// parent itself.
+fn link(tree: &mut [u64; 1089], parent: usize, last: usize, number: usize)
+    requires { ⌜ (last ≤ 1088) × (number < 2048) ×
+        (0 < last → linkIn (eqb last parent) (getD (now tree) (last - 1) 0) ≡ 0) ⌝ }
+    ensures { λ _. ⌜ now (tree .exit) ≡ linkedWords (now (tree .entry)) parent last number ⌝ }
+{
+    if 0 < last {
+        let at = last - 1;
+        tree[at] = with_link(tree[at], last == parent, number);
+    }
+}
+
+// Makes the step's position, the last, behind the last child of its parent, and says its number.
+fn append(tree: &mut [u64; 1089], last: usize, step: u64) -> usize
+    requires { ⌜ Appendable (now tree) last step ⌝ }
+    ensures { λ r. ⌜ Appends (now (tree .entry)) (now (tree .exit)) last step r ⌝ }
 {
     let end = tree[1088] as usize;
     let number = end + 1;
+    link(tree, parent_in(step), last, number);
     tree[end] = step;
     tree[1088] = number as u64;
     number
@@ -225,12 +299,13 @@ fn make_or_merge(
         (positionAs (now (s .entry)) parent place access) r ⌝ }
 {
     let step = pack(parent, place, access);
-    let found = seek(tree, s, step);
-    if 0 < found {
-        merge_at(tree, found - 1, access);
-        return found;
+    let sought = seek(tree, s, step);
+    let number = sought.number;
+    if 0 < number {
+        merge_at(tree, number - 1, access);
+        return number;
     }
-    append(tree, step)
+    append(tree, sought.last, step)
 }
 
 // Adds the candidate whose fields stand at a place, after the mark (`add_dependency` of the Rust).
@@ -373,46 +448,33 @@ fn put_next(out: &mut [u8], done: Written, s: &[u8], way: &[u64; 17], depth: usi
     }
 }
 
-// The records of the first dependencies on each way down below a parent, from position `from` on.
-// The way down to the parent is `way`, to this depth.
+// The records of the first dependencies on each way down below a parent, to which the way down is
+// `way`, of this depth.
 fn collect_minimal_deps_in_subtree(
     tree: &[u64; 1089],
     s: &[u8],
     parent: usize,
-    from: usize,
     way: &mut [u64; 17],
     depth: usize,
     out: &mut [u8],
     start: Written,
 ) -> Written
-    requires { ⌜ Derivable (now s) (now tree) parent from (now way) depth (now out) start ⌝ }
-    ensures { λ r. ⌜ Derives (pathsFrom (now (s .entry)) (now (tree .entry)) parent from (now (way .entry)) depth) (now (out .entry))
+    requires { ⌜ Derivable (now s) (now tree) parent (now way) depth (now out) start ⌝ }
+    ensures { λ r. ⌜ Derives (pathsFrom (now (s .entry)) (now (tree .entry)) parent parent (now (way .entry)) depth) (now (out .entry))
         (now (out .exit)) start r × KeepsWay (now (way .entry)) (now (way .exit)) depth ⌝ }
 {
-    let end = tree[1088] as usize;
     let mut done = start;
-    let mut i = from;
-    while i < end {
-        let w = tree[i];
-        if parent_in(w) == parent {
-            way[depth] = w;
-            let access = access_in(w);
-            if access.is_dependency() {
-                done = put_next(out, done, s, way, depth + 1);
-            } else {
-                done = collect_minimal_deps_in_subtree(
-                    tree,
-                    s,
-                    i + 1,
-                    i + 1,
-                    way,
-                    depth + 1,
-                    out,
-                    done,
-                );
-            }
+    let mut number = first_child(tree, parent);
+    while 0 < number {
+        let w = tree[number - 1];
+        way[depth] = w;
+        let access = access_in(w);
+        if access.is_dependency() {
+            done = put_next(out, done, s, way, depth + 1);
+        } else {
+            done = collect_minimal_deps_in_subtree(tree, s, number, way, depth + 1, out, done);
         }
-        i += 1;
+        number = sibling_in(w);
     }
     done
 }
@@ -430,5 +492,5 @@ pub fn derive_minimal_dependencies(
         (record { at = at; count = 0 }) r ⌝ }
 {
     let mut way = [0u64; 17];
-    collect_minimal_deps_in_subtree(tree, s, 0, 0, &mut way, 0, out, Written { at, count: 0 })
+    collect_minimal_deps_in_subtree(tree, s, 0, &mut way, 0, out, Written { at, count: 0 })
 }

@@ -1,5 +1,5 @@
 -- What the search found is merged; where it found nothing the position is made, the last.
-use Prim.Native.Nat.{_≤_, _<_}
+use Prim.Native.Nat.{_≤_}
 use native.Mathlib.Omega.{arith}
 use mathlib.Core.Path.{sym, ap, subst, _∙_}
 use denote.Ref.{now}
@@ -7,7 +7,7 @@ use borrow.Author.Needs.{needs}
 use Rattle.tree.specs.Words.{parentIn}
 use Rattle.tree.specs.Tree.{countIn}
 use Rattle.tree.proofs.Packed.{packed-parent}
-use Rattle.tree.proofs.Entering.{enters-merged, enters-made}
+use Rattle.tree.proofs.Seeking.{enters-merged, appendable, enters-made}
 use Rattle.tree.proofs.make_or_merge.Statement.{statement}
 use Rattle.tree.proofs.make_or_merge.Tie as tie
 
@@ -20,7 +20,7 @@ seek-requires c κs =
     let lies = start .pre .1 in (
       start .pre .0,
       subst (λ n. n ≤ countIn (now (a .tree)))
-          (sym (ap parentIn (p .pack .ensures) ∙ packed-parent (a .parent) (a .place) (a .access) (omega arith) (start .pre .3))) lies,
+          (sym (ap parentIn (p .pack .ensures .0) ∙ packed-parent (a .parent) (a .place) (a .access) (omega arith) (start .pre .3))) lies,
     )
 
 returns : tie.Need-returns
@@ -32,9 +32,20 @@ returns c =
     let a = start .args in
     let room = start .pre .2 in
     let lies = start .pre .1 in
-    let p< : a .parent < 65536 = omega arith in
-    enters-merged (a .parent) (a .place) (a .access) (p .pack .result) (found .seek .result) (start .pre .0) p< (start .pre .3) (p .pack .ensures)
-    (found .seek .ensures) _ (test .if1 .taken) (c .merge-at .ensures)
+    enters-merged (a .parent) (a .place) (a .access) (p .pack .result) (found .seek .result) (start .pre .0) (omega arith) (start .pre .3)
+    (p .pack .ensures .0) (found .seek .ensures) (test .if1 .taken) _ (c .merge-at .ensures)
+
+append-requires : tie.Need-append-requires
+append-requires c κs =
+    let test = c .before in
+    let found = test .before in
+    let p = found .before .before in
+    let start = p .before .before in
+    let a = start .args in
+    let room = start .pre .2 in
+    let lies = start .pre .1 in
+    appendable (a .parent) (a .place) (a .access) (p .pack .result) (found .seek .result) (start .pre .0) (omega arith) (start .pre .3)
+    (p .pack .ensures .0) (found .seek .ensures) room (test .if1 .left)
 
 returns-2 : tie.Need-returns-2
 returns-2 c =
@@ -45,9 +56,8 @@ returns-2 c =
     let a = start .args in
     let room = start .pre .2 in
     let lies = start .pre .1 in
-    let p< : a .parent < 65536 = omega arith in
-    enters-made (a .parent) (a .place) (a .access) (p .pack .result) (found .seek .result) (start .pre .0) p< (start .pre .3) (p .pack .ensures)
-    (found .seek .ensures) _ (c .append .result) room (test .if1 .left) (c .append .ensures)
+    enters-made (a .parent) (a .place) (a .access) (p .pack .result) (found .seek .result) (start .pre .0) (omega arith) (start .pre .3)
+    (p .pack .ensures .0) (found .seek .ensures) room (test .if1 .left) _ (c .append .result) (c .append .ensures)
 
 pub make-or-merge-spec : {M : Type 1} → statement M
 make-or-merge-spec =
@@ -58,5 +68,5 @@ make-or-merge-spec =
     (λ c. search needs)
     (λ c κs. search needs)
     returns
-    (λ c κs. search needs)
+    append-requires
     returns-2)
