@@ -82,6 +82,9 @@ module _ (p q : ℕ) (a : PropertyAccessType) (p< : p < 65536) (q< : q < 65536) 
       )
       (access-back a)
 
+  pub packed-key : (s : List ℕ) (w : ℕ) → w ≡ pack p q a → keyAt s (parentIn w) (placeIn w) ≡ keyAt s p q
+  packed-key s w e = rw (e, packed-parent, packed-place)
+
   pub packed-position : (s : List ℕ) → positionOf s (pack p q a) ≡ positionAs s p q a
   packed-position s = rw (packed-parent, packed-place, packed-access)
 
@@ -177,7 +180,7 @@ module _ (s : List ℕ) (w step : ℕ) where
       rw (position-key s (parentIn w) (placeIn w) (accessIn w), position-key s (parentIn step) (placeIn step) (accessIn step), h, eqb-same (parentIn step)) e
 
   -- the two keys, as the code has them
-  pub keys-told : (parent at here : ℕ) (key other : Key) → parent ≡ parentIn step → at ≡ placeIn step → keyOf key ≡ keyAt s parent at → here ≡ placeIn w
+  pub keys-told : (parent here : ℕ) (key other : Key) → parent ≡ parentIn step → keyOf key ≡ keyAt s (parentIn step) (placeIn step) → here ≡ placeIn w
       → keyOf other ≡ keyAt s parent here
       → sameKey (keyOf other) (keyOf key) ≡ sameKey (keyAt s (parentIn step) (placeIn w)) (keyAt s (parentIn step) (placeIn step))
-  keys-told parent at here key other p a k h o = rw (k, o, p, a, h)
+  keys-told parent here key other p k h o = rw (k, o, p, h)

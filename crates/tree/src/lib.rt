@@ -231,12 +231,11 @@ struct Sought {
 }
 
 // The search for the position that has the step's parent and key.
-fn seek(tree: &[u64; 1089], s: &[u8], step: u64) -> Sought
-    requires { ⌜ Sized (now tree) × (parentIn step ≤ countIn (now tree)) ⌝ }
+fn seek(tree: &[u64; 1089], s: &[u8], key: Key, step: u64) -> Sought
+    requires { ⌜ Sized (now tree) × (parentIn step ≤ countIn (now tree)) × (keyOf key ≡ keyAt (now s) (parentIn step) (placeIn step)) ⌝ }
     ensures { λ r. ⌜ Seeks (now (s .entry)) (now (tree .entry)) step r ⌝ }
 {
     let parent = parent_in(step);
-    let key = key_at(s, parent, place_in(step));
     let mut last = parent;
     let mut number = first_child(tree, last);
     while 0 < number {
@@ -285,21 +284,23 @@ fn append(tree: &mut [u64; 1089], last: usize, step: u64) -> usize
     number
 }
 
-// Finds the position below a parent whose key stands at a place, and merges the access, or makes
-// it. Says its number.
+// Finds the position below a parent that has the key, which stands at a place, and merges the
+// access, or makes it. Says its number.
 fn make_or_merge(
     tree: &mut [u64; 1089],
     s: &[u8],
     parent: usize,
+    key: Key,
     place: usize,
     access: PropertyAccessType,
 ) -> usize
-    requires { ⌜ Sized (now tree) × (parent ≤ countIn (now tree)) × (countIn (now tree) < 1088) × (place < 65536) ⌝ }
+    requires { ⌜ Sized (now tree) × (parent ≤ countIn (now tree)) × (countIn (now tree) < 1088) × (place < 65536)
+        × (keyOf key ≡ keyAt (now s) parent place) ⌝ }
     ensures { λ r. ⌜ Enters (now (s .entry)) (now (tree .entry)) (now (tree .exit)) parent
         (positionAs (now (s .entry)) parent place access) r ⌝ }
 {
     let step = pack(parent, place, access);
-    let sought = seek(tree, s, step);
+    let sought = seek(tree, s, key, step);
     let number = sought.number;
     if 0 < number {
         merge_at(tree, number - 1, access);
@@ -315,7 +316,9 @@ pub fn add_candidate(tree: &mut [u64; 1089], s: &[u8], at: usize, levels: u32)
     ensures { λ _. ⌜ Adds (now (s .entry)) (now (tree .entry)) (now (tree .exit)) at levels ⌝ }
 {
     let head = head_at(s, at);
+    let identifier = head.identifier;
     let mut parent: usize = 0;
+    let mut key = Key::Identifier(identifier);
     let mut place = at;
     let mut access = PropertyAccessType::UnconditionalAccess;
     let mut next = at + HEAD_SIZE;
@@ -325,7 +328,9 @@ pub fn add_candidate(tree: &mut [u64; 1089], s: &[u8], at: usize, levels: u32)
         let entry = entry_at(s, next);
         let nonnull = flags % 2 == 1;
         if goes_on(nonnull, entry.optional) {
-            parent = make_or_merge(tree, s, parent, place, access);
+            parent = make_or_merge(tree, s, parent, key, place, access);
+            let property = entry.property;
+            key = Key::Property(property);
             place = next;
             access = step_access(nonnull);
             next = next + job::ENTRY_SIZE;
@@ -339,6 +344,7 @@ pub fn add_candidate(tree: &mut [u64; 1089], s: &[u8], at: usize, levels: u32)
         tree,
         s,
         parent,
+        key,
         place,
         access.merge(PropertyAccessType::OptionalDependency),
     );

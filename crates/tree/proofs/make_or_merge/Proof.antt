@@ -1,12 +1,12 @@
 -- What the search found is merged; where it found nothing the position is made, the last.
-use Prim.Native.Nat.{_≤_}
+use Prim.Native.Nat.{_≤_, _<_}
 use native.Mathlib.Omega.{arith}
 use mathlib.Core.Path.{sym, ap, subst, _∙_}
 use denote.Ref.{now}
 use borrow.Author.Needs.{needs}
 use Rattle.tree.specs.Words.{parentIn}
 use Rattle.tree.specs.Tree.{countIn}
-use Rattle.tree.proofs.Packed.{packed-parent}
+use Rattle.tree.proofs.Packed.{packed-parent, packed-key}
 use Rattle.tree.proofs.Seeking.{enters-merged, appendable, enters-made}
 use Rattle.tree.proofs.make_or_merge.Statement.{statement}
 use Rattle.tree.proofs.make_or_merge.Tie as tie
@@ -17,10 +17,12 @@ seek-requires c κs =
     let start = p .before .before in
     let a = start .args in
     let room = start .pre .2 in
-    let lies = start .pre .1 in (
+    let lies = start .pre .1 in
+    let p< : a .parent < 65536 = omega arith in (
       start .pre .0,
       subst (λ n. n ≤ countIn (now (a .tree)))
-          (sym (ap parentIn (p .pack .ensures .0) ∙ packed-parent (a .parent) (a .place) (a .access) (omega arith) (start .pre .3))) lies,
+          (sym (ap parentIn (p .pack .ensures .0) ∙ packed-parent (a .parent) (a .place) (a .access) p< (start .pre .3))) lies,
+      start .pre .4 ∙ sym (packed-key (a .parent) (a .place) (a .access) p< (start .pre .3) (now (a .s)) (p .pack .result) (p .pack .ensures .0)),
     )
 
 returns : tie.Need-returns

@@ -15,28 +15,29 @@ use Rattle.tree.proofs.seek.Statement.{statement}
 use Rattle.tree.proofs.seek.Tie as tie
 
 abbrev Inv-loop : tie.InvT-loop
-Inv-loop tree s step parent key last₀ number₀ last number = Seeking s tree step last number
+Inv-loop tree s key step parent last₀ number₀ last number = Seeking s tree step last number
 
 abbrev μ-loop : tie.MeasureT-loop
-μ-loop tree s step parent key last₀ number₀ last number = countIn tree - last
+μ-loop tree s key step parent last₀ number₀ last number = countIn tree - last
 
 first-child-requires : tie.Need-first-child-requires Inv-loop μ-loop
 first-child-requires c κs =
-    let p = c .before .before in
-    let start = p .before .before in
-    let is = p .parent-in .ensures .0 in
+    let start = c .before .before in
+    let is = c .parent-in .ensures .0 in
     let h = start .pre .1 in
     (start .pre .0, omega arith)
 
 loop-holds : tie.Need-loop-holds Inv-loop μ-loop
 loop-holds c =
-    let p = c .before .before .before in
-    let start = p .before .before in
+    let start = c .before .before .before in
     let a = start .args in
-    let is = p .parent-in .ensures .0 in
+    let is = c .before .parent-in .ensures .0 in
     subst (λ n. Seeking (now (a .s)) (now (a .tree)) (a .step) n (c .first-child .result)) (sym is)
     (seeking-start (now (a .s)) (now (a .tree)) (a .step) (c .first-child .result) (start .pre .0) (start .pre .1)
     (subst (λ n. Next (now (a .tree)) n n (c .first-child .result)) is (c .first-child .ensures)))
+
+element-copy-out-w : tie.Need-element-copy-out-w Inv-loop μ-loop
+element-copy-out-w c = let x = c .before .loop .inv in let h = x .next .within in let r = x .sized .room in omega (arith, c .loop-test .taken)
 
 returns : tie.Need-returns Inv-loop μ-loop
 returns c =
@@ -45,16 +46,15 @@ returns c =
     let here = other .before in
     let i = here .before .before in
     let l = i .before .loop in
-    let key = i .before .before .before in
-    let at = key .before in
-    let parent = at .before in
-    let a = parent .before .before .args in
+    let parent = i .before .before .before in
+    let start = parent .before .before in
+    let a = start .args in
     let s = now (a .s) in
     let w = getD (now (a .tree)) (l .number - 1) 0 in
     seeking-found (l .inv) (i .loop-test .taken)
     (by-key s w (a .step) _ (seeking-below (l .inv) (i .loop-test .taken))
-    (sym (keys-told s w (a .step) (parent .parent-in .result) (at .place-in .result) (here .place-in2 .result) (key .key-at .result) (other .key-at2 .result)
-    (parent .parent-in .ensures .0) (at .place-in .ensures .0) (key .key-at .ensures) (here .place-in2 .ensures .0) (other .key-at2 .ensures))
+    (sym (keys-told s w (a .step) (parent .parent-in .result) (here .place-in .result) (a .key) (other .key-at .result)
+    (parent .parent-in .ensures .0) (start .pre .2) (here .place-in .ensures .0) (other .key-at .ensures))
     ∙ sym (same .same .ensures) ∙ c .if1 .taken))
 
 loop-less : tie.Need-loop-less Inv-loop μ-loop
@@ -68,24 +68,20 @@ loop-again c =
     let here = other .before in
     let i = here .before .before in
     let l = i .before .loop in
-    let key = i .before .before .before in
-    let at = key .before in
-    let parent = at .before in
-    let a = parent .before .before .args in
+    let parent = i .before .before .before in
+    let start = parent .before .before in
+    let a = start .args in
     let s = now (a .s) in
     let w = getD (now (a .tree)) (l .number - 1) 0 in
     seeking-past (l .inv) (i .loop-test .taken) (c .sibling-in .result)
     (by-key s w (a .step) _ (seeking-below (l .inv) (i .loop-test .taken))
-    (sym (keys-told s w (a .step) (parent .parent-in .result) (at .place-in .result) (here .place-in2 .result) (key .key-at .result) (other .key-at2 .result)
-    (parent .parent-in .ensures .0) (at .place-in .ensures .0) (key .key-at .ensures) (here .place-in2 .ensures .0) (other .key-at2 .ensures))
+    (sym (keys-told s w (a .step) (parent .parent-in .result) (here .place-in .result) (a .key) (other .key-at .result)
+    (parent .parent-in .ensures .0) (start .pre .2) (here .place-in .ensures .0) (other .key-at .ensures))
     ∙ sym (same .same .ensures) ∙ test .if1 .left))
     (c .sibling-in .ensures)
 
 returns-2 : tie.Need-returns-2 Inv-loop μ-loop
 returns-2 c = seeking-over (c .before .loop .inv) (c .loop-test .left)
-
-element-copy-out-w : tie.Need-element-copy-out-w Inv-loop μ-loop
-element-copy-out-w c = let x = c .before .loop .inv in let h = x .next .within in let r = x .sized .room in omega (arith, c .loop-test .taken)
 
 pub seek-spec : {M : Type 1} → statement M
 seek-spec =
@@ -93,8 +89,6 @@ seek-spec =
     (tie.spec
     Inv-loop
     μ-loop
-    (λ c κs. search needs)
-    (λ c κs. search needs)
     (λ c κs. search needs)
     first-child-requires
     loop-holds
