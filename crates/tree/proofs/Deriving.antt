@@ -17,7 +17,7 @@ use Rattle.model.specs.Answer.{DE, pathBytes, entryBytes}
 use Rattle.model.specs.Tests.{decide, eqb-true, eqb-false, eqb-equal, eqb-apart}
 use Rattle.model.specs.Tree.{DependencyPosition, isDependency, dependencyOf}
 use Rattle.writer.specs.Writes.{Writes, pathHeadBytes}
-use Rattle.writer.proofs.Bytes.{path-head-length, writes-none, writes-as, Coming, coming-start, coming-more, coming-over, coming-room, coming-as}
+use Rattle.writer.proofs.Bytes.{path-head-length, writes-as, Coming, coming-start, coming-more, coming-over, coming-room, coming-as}
 use Rattle.tree.specs.declared.Written.{Written}
 use Rattle.laws.specs.Flat.{grow, flatFirsts}
 use Rattle.tree.specs.Words.{parentIn, placeIn, accessIn, siblingIn, positionOf, nodeOf, positionsFrom, nodesFrom, wayPositions}

@@ -10,7 +10,7 @@ use borrow.Author.Tests.{leb-true, leb-false}
 use lib.Dec.{eqb, leb}
 use Rattle.model.specs.Tests.{decide, eqb-true, eqb-false}
 use Rattle.tree.specs.Words.{parentIn, childIn, siblingIn}
-use Rattle.tree.specs.Tree.{countIn, Apart, Next, Linked, Sized, LastChild}
+use Rattle.tree.specs.Tree.{countIn, Apart, Next, Linked, LastChild}
 
 -- What does not change at a position that has another parent is the same at the first position
 -- that has this one.

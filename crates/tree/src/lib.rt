@@ -11,7 +11,7 @@ ghost use lib.Dec.{eqb};
 ghost use Rattle.model.specs.Forest.{empty, sameKey};
 ghost use Rattle.model.specs.Lists.{concatMap};
 ghost use Rattle.model.specs.Answer.{DE, entryBytes, pathBytes, spanWidth};
-ghost use Rattle.model.specs.Tree.{stepAccess, rootPosition, entryOf, dependencyOf};
+ghost use Rattle.model.specs.Tree.{stepAccess, entryOf, dependencyOf};
 ghost use Rattle.writer.specs.Writes.{Writes};
 ghost use Rattle.tree.specs.Words.{headAt, entryAt, parentIn, placeIn, accessIn, pack, keyOf, keyAt, positionAs, positionOf};
 ghost use Rattle.tree.specs.Words.{childIn, siblingIn, wayPositions, restOf, mergedWord, linkedWord, linkIn};

@@ -13,7 +13,6 @@ use borrow.Fn.PlainCycle.{Measures, is, falls, and}
 use Rattle.entries.specs.Access.{isDependencyAccess}
 use Rattle.tree.specs.Tree.{countIn}
 use Rattle.tree.proofs.Deriving.{
-  Deriving,
   deriving-start,
   placeOf,
   AtChild,

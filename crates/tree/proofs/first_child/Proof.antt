@@ -1,6 +1,5 @@
 -- A root's link is not needed: the first position is a root. Another first child is found by the
 -- parent's link.
-use native.Mathlib.Omega.{arith}
 use denote.Ref.{now}
 use borrow.Author.Needs.{needs}
 use Rattle.tree.proofs.Linking.{first-root, first-link}

@@ -1,6 +1,6 @@
 -- Number 0 has no word: the first root is the first position. Another number's word gets the link.
 use native.Mathlib.Omega.{arith}
-use mathlib.Core.Path.{sym, ap}
+use mathlib.Core.Path.{ap}
 use denote.Ref.{now}
 use borrow.Author.Needs.{needs}
 use lib.ListN.{set}

@@ -1,6 +1,5 @@
 -- The word is packed again with the merged access, and its links are put above it.
 use Prim.Native.Nat.{_+_, _*_, _/_}
-use native.Mathlib.Omega.{arith}
 use mathlib.Core.Path.{ap, _∙_}
 use borrow.Author.Needs.{needs}
 use Rattle.tree.proofs.merged_word.Statement.{statement}
