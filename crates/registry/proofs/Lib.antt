@@ -1,4 +1,5 @@
 pub mod Pack
+pub mod Quarters
 pub mod Stored
 pub mod View
 pub mod Buckets

@@ -1,5 +1,5 @@
 -- The set of the nodes with an optional entry, kept while nodes are made.
-use Prim.Native.Nat.{ℕ, zero, suc, _+_, _≤_, _<_}
+use Prim.Native.Nat.{ℕ, zero, suc, _+_, _/_, _%_, _≤_, _<_}
 use native.Mathlib.Omega.{arith}
 use mathlib.Core.Path.{_≡_, refl, sym, ap, _∙_, subst}
 use mathlib.Core.Bool.{Bool, false, _||_, cond, or-comm, or-false}
@@ -21,7 +21,8 @@ use Rattle.rows.proofs.Members.{no-members}
 use Rattle.registry.specs.declared.Node.{Node}
 use Rattle.registry.specs.declared.Node.the-variants.{Root, Child}
 use Rattle.registry.specs.Nodes.{nodeOver, Inside, optionalOver, notedWith}
-use Rattle.registry.specs.Words.{endIn, countIn, nodesOf, registryOf, Held, HoldsNone}
+use Rattle.registry.specs.Words.{quarter, endIn, countIn, nodesOf, registryOf, Held, HoldsNone}
+use Rattle.registry.proofs.Quarters.{no-quarter}
 use Rattle.registry.proofs.View.{registry-length, registry-snoc}
 use Rattle.registry.proofs.Buckets.{none-linked}
 
@@ -85,12 +86,14 @@ noted-new ws vs os ps n k h e nodes members j =
     ∙ ap (λ r. hasOptional r j) (sym (registry-snoc ws vs n nodes))
 
 -- words that count no node
-none-held : (ws os : List ℕ) → length ws ≡ 1665 → countIn ws ≡ 0 → ((b : ℕ) → b < 128 → endIn ws b ≡ 0) → membersOf os ≡ []
+none-held : (ws os : List ℕ) → length ws ≡ 1665 → countIn ws ≡ 0 → ((b : ℕ) → b < 512 → endIn ws b ≡ 0) → length os ≡ 8 → membersOf os ≡ []
     → HoldsNone ws os
-none-held ws os long none ends empty = (
+none-held ws os long none ends eight empty = (
   record {
     sized = record { long = long; room = omega arith };
     linked = none-linked ws none ends;
+    packed = λ k l. absurd (omega arith);
+    eight = eight;
     sound = subst Sound (sym nothing) sound-empty;
     noted = λ k. ap (λ s. contains s k) empty ∙ sym (ap (λ r. hasOptional r k) nothing ∙ past-none [] k (omega arith));
   },
@@ -108,4 +111,5 @@ none-held ws os long none ends empty = (
 pub zeros-hold-none : HoldsNone (replicate 1665 0) (replicate 8 0)
 zeros-hold-none =
     none-held (replicate 1665 0) (replicate 8 0) (length-replicate {A = ℕ} 1665 0) (getD-replicate 1665 1536 0 0 (omega arith))
-    (λ b l. getD-replicate 1665 (1537 + b) 0 0 (omega arith)) (no-members (replicate 8 0) (λ i l. getD-replicate 8 i 0 0 l))
+    (λ b l. ap (λ (w : ℕ). quarter w (b % 4)) (getD-replicate 1665 (1537 + b / 4) 0 0 (omega arith)) ∙ no-quarter (b % 4)) (length-replicate {A = ℕ} 8 0)
+    (no-members (replicate 8 0) (λ i l. getD-replicate 8 i 0 0 l))

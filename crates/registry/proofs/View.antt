@@ -18,7 +18,7 @@ use Rattle.model.specs.RegistryLaws as Placed
 use Rattle.registry.specs.declared.Node.{Node}
 use Rattle.registry.specs.declared.Node.the-variants.{Root, Child}
 use Rattle.registry.specs.Nodes.{sameKey, findNode, originOf, nodeOver, nodesOver, registryFrom, testFor, reachedFor, Inside}
-use Rattle.registry.specs.Words.{ParentFits, storedNode, countIn, nodesOf, registryOf}
+use Rattle.registry.specs.Words.{storedNode, countIn, nodesOf, registryOf}
 use Rattle.registry.proofs.Stored.{nodesOf-length, nodesOf-at}
 
 over-length : (before : PropertyPathRegistry) (ns : List Node) → length (nodesOver before ns) ≡ length ns
@@ -145,17 +145,19 @@ module _ (ws : List ℕ) (n : Node) where
       let c = registry-length ws in
       omega arith
 
--- The same, as the code knows it: by the number k that was found and the count e.
-module _ (ws : List ℕ) (n : Node) (k e : ℕ) (found : k ≡ findNode (nodesOf ws) n) (counted : e ≡ countIn ws) where
-  pub arrived-found : k < e → reachedFor (registryOf ws) n ≡ record { registry = registryOf ws; node = record { 0 = k }; made = 0 }
-  arrived-found l = rw found (made-found ws n (omega arith))
+-- The same, as the code knows it: by the number k that was found, or by the count e.
 
-  pub arrived-new : (vs : List ℕ) → e ≤ k → nodesOf vs ≡ nodesOf ws ++ (n ∷ [])
+pub arrived-found : (ws : List ℕ) (n : Node) (k : ℕ) → findNode (nodesOf ws) n ≡ k → k < countIn ws
+    → reachedFor (registryOf ws) n ≡ record { registry = registryOf ws; node = record { 0 = k }; made = 0 }
+arrived-found ws n k found l = rw found at (made-found ws n (omega arith))
+
+module _ (ws : List ℕ) (n : Node) (e : ℕ) (none : findNode (nodesOf ws) n ≡ countIn ws) (counted : e ≡ countIn ws) where
+  pub arrived-new : (vs : List ℕ) → nodesOf vs ≡ nodesOf ws ++ (n ∷ [])
       → reachedFor (registryOf ws) n ≡ record { registry = registryOf vs; node = record { 0 = e }; made = 1 }
-  arrived-new vs l h = rw (counted, registry-snoc ws vs n h) (made-new ws n (omega arith))
+  arrived-new vs h = rw (counted, registry-snoc ws vs n h) (made-new ws n (omega arith))
 
-  pub arrived-full : e ≤ k → nodeLimit ≤ e → nodeLimit < length (reachedFor (registryOf ws) n .registry)
-  arrived-full l f = made-full ws n (omega arith) (omega arith)
+  pub arrived-full : nodeLimit ≤ e → nodeLimit < length (reachedFor (registryOf ws) n .registry)
+  arrived-full f = made-full ws n (omega arith) (omega arith)
 
 -- a sound registry stays sound
 pub arrived-sound : (ws vs : List ℕ) (n : Node) (k : NodeId) (m : ℕ) → Sound (registryOf ws) → Inside n (countIn ws)
@@ -166,11 +168,7 @@ arrived-sound ws vs n k m h inside e = subst (λ (x : Reached). Sound (x .regist
     go (Root i r s) l = root-reached (registryOf ws) i r s h .proper .sound
     go (Child p f) l = child-reached (registryOf ws) p f h l .proper .sound
 
--- a parent among the nodes fits its bits
-pub inside-packs : (n : Node) (m : ℕ) → m ≤ 512 → Inside n m → ParentFits n
-inside-packs (Root i r s) m l h = tt
-inside-packs (Child p e) m l h = omega arith
-
+-- a parent among the nodes is one of 512
 pub inside-limit : (n : Node) (m : ℕ) → m ≤ 512 → Inside n m → Inside n 512
 inside-limit (Root i r s) m l h = tt
 inside-limit (Child p e) m l h = omega arith

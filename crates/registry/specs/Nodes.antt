@@ -1,12 +1,10 @@
 -- Nodes as the words keep them, and the model's registry that a list of them stands for.
-use Prim.Native.Nat.{ℕ, zero, suc, _+_, _*_, _/_, _%_, _<_}
+use Prim.Native.Nat.{ℕ, zero, suc, _<_}
 use mathlib.Core.Bool.{Bool, true, false, _&&_, _||_, cond}
 use mathlib.Core.List.{List, [], _∷_, _++_}
-use lib.ListN.{length}
-use lib.Dec.{eqb, ltb}
+use lib.Dec.{eqb}
 use Rattle.entries.specs.declared.NodeId.{NodeId}
 use Rattle.entries.specs.Path.{sameEntry}
-use Rattle.entries.specs.Property.{valueOf}
 use Rattle.model.specs.Sets.{NodeSet, contains, insert}
 use Rattle.model.specs.Registry.{PropertyPathNode, PropertyPathRegistry, isRootFor, isChildBy, Origin, root, childOf, Reached, findOrMake}
 use Rattle.model.specs.Registry.{rootNode, childNode, fullPathOf}
@@ -19,16 +17,6 @@ sameKey (Root i r s) (Root j q t) = eqb (i .0) (j .0)
 sameKey (Root i r s) (Child q f) = false
 sameKey (Child p e) (Root j q t) = false
 sameKey (Child p e) (Child q f) = eqb (p .0) (q .0) && sameEntry e f
-
--- The bucket in which a node is looked for, below 128: nodes with the same key have the same. A
--- child's comes from its parent and its property's value. A number as a property has the 64 bits of
--- a float, of which a small integer uses the high ones, so that high and low bits are added. The
--- factors are chosen so that the buckets still differ where parents and values go up together, as
--- along a chain of new names.
-abbrev pub bucketOf : Node → ℕ
-bucketOf (Root i r s) = i .0 % 128
-bucketOf (Child p e) =
-    (p .0 % 65536 * 791547 + (valueOf (e .property) % 4294967296 + valueOf (e .property) / 70368744177664) * 597521) / 8192 % 128
 
 -- a root, or the child of a node by an entry
 abbrev pub originOf : Node → Origin

@@ -1,6 +1,6 @@
 -- The nodes that a list of words holds: three words a node, how many there are in word 1536, and
--- behind it a word for each of the 128 buckets.
-use Prim.Native.Nat.{ℕ, zero, suc, _+_, _*_, _/_, _%_, _≤_, _<_}
+-- behind it 128 words for the ends of the 512 buckets.
+use Prim.Native.Nat.{ℕ, zero, suc, _+_, _*_, _/_, _%_, _^_, _≤_, _<_}
 use mathlib.Core.Path.{_≡_}
 use mathlib.Core.Logic.{_≢_}
 use mathlib.Core.Bool.{Bool, true, false, cond}
@@ -12,13 +12,14 @@ use Rattle.model.specs.Registry.{nodeLimit, rootMark, PropertyPathRegistry, Rea
 use Rattle.model.specs.RegistryLaws.{Sound}
 use Rattle.model.specs.Sets.{contains}
 use Rattle.model.specs.Reduction.{hasOptional}
-use Rattle.entries.specs.Property.{propertyOf, valueOf}
+use Rattle.entries.specs.Property.{propertyOf, isNumber, valueOf}
+use Rattle.model.specs.Answer.{flag}
 use Rattle.rows.specs.Members.{membersOf}
 use Rattle.registry.specs.declared.Node.{Node}
 use Rattle.registry.specs.declared.NodeEntered.{NodeEntered}
 use Rattle.registry.specs.declared.NodeEntered.the-variants.{At, Full}
 use Rattle.registry.specs.declared.Node.the-variants.{Root, Child}
-use Rattle.registry.specs.Nodes.{bucketOf, registryFrom}
+use Rattle.registry.specs.Nodes.{registryFrom}
 
 -- a parent's number fits its bits, and is no root's mark
 abbrev pub ParentFits : Node → Type 0
@@ -57,6 +58,20 @@ reactiveUnit = 1125899906842624
 abbrev pub linkUnit : ℕ
 linkUnit = 2251799813685248
 
+-- The key of a node: its first word below the reactive mark. Nodes with the same key and value are
+-- the same root, or children of one parent by equal entries.
+abbrev pub keyIn : Node → ℕ
+keyIn (Root i r s) = i .0 + rootMark * parentUnit
+keyIn (Child p e) = p .0 * parentUnit + (flag (e .optional) + flag (isNumber (e .property)) * 2) * optionalUnit
+
+-- The bucket of the nodes with a key and a value, below 512. A name's value is any number, often a
+-- small one, and a number's is the 64 bits of a float, of which a small integer uses the high ones:
+-- so both halves of the value are added to the identifier. That sum and the parent with its marks
+-- have a factor each, so that the buckets still differ where parents and values go up together, as
+-- along a chain of new names.
+unfoldable pub bucketBy : ℕ → ℕ → ℕ
+bucketBy key value = (key / parentUnit * 21013597 + (key % parentUnit + value / parentUnit + value % parentUnit) * 165902235) / 524288 % 512
+
 -- the node that three words hold, a root or a child
 abbrev pub unpackBy : Bool → ℕ → ℕ → ℕ → Node
 unpackBy true head value span = Root (record { 0 = head % parentUnit }) (eqb (head / reactiveUnit % 2) 1) span
@@ -76,17 +91,43 @@ storedNode ws k = unpack (getD ws (k * 3) 0) (getD ws (k * 3 + 1) 0) (getD ws (k
 abbrev pub countIn : List ℕ → ℕ
 countIn ws = getD ws 1536 0
 
--- The bucket of node k of the words.
+-- Three words are as a node is packed: what unpacking passes over is 0, the link and, of a root,
+-- the reactive mark excepted.
+pub record Packed (head value span : ℕ) : Type 0 where
+  pub key : head % reactiveUnit ≡ keyIn (unpack head value span)
+  pub second : value ≡ valueIn (unpack head value span)
+
+-- Node k of the words is packed so.
+abbrev pub PackedAt : List ℕ → ℕ → Type 0
+PackedAt ws k = Packed (getD ws (k * 3) 0) (getD ws (k * 3 + 1) 0) (getD ws (k * 3 + 2) 0)
+
+-- All nodes of the words are.
+abbrev pub NodesPacked : List ℕ → Type 0
+NodesPacked ws = (k : ℕ) → k < countIn ws → PackedAt ws k
+
+-- The key of node k of the words.
+abbrev pub keyAt : List ℕ → ℕ → ℕ
+keyAt ws k = getD ws (k * 3) 0 % reactiveUnit
+
+-- The value of node k.
+abbrev pub valueAt : List ℕ → ℕ → ℕ
+valueAt ws k = getD ws (k * 3 + 1) 0
+
+-- The bucket of node k.
 abbrev pub bucketAt : List ℕ → ℕ → ℕ
-bucketAt ws k = bucketOf (storedNode ws k)
+bucketAt ws k = bucketBy (keyAt ws k) (valueAt ws k)
 
 -- The link of node k.
 abbrev pub linkAt : List ℕ → ℕ → ℕ
 linkAt ws k = getD ws (k * 3) 0 / linkUnit
 
--- The end of bucket b.
+-- Quarter i of a word: 16 bits.
+abbrev pub quarter : ℕ → ℕ → ℕ
+quarter w i = w / 2 ^ (i * 16) % 65536
+
+-- The end of bucket b: a word has four of them.
 abbrev pub endIn : List ℕ → ℕ → ℕ
-endIn ws b = getD ws (1537 + b) 0
+endIn ws b = quarter (getD ws (1537 + b / 4) 0) (b % 4)
 
 -- n nodes from number k on
 abbrev pub nodesFrom : List ℕ → ℕ → ℕ → List Node
@@ -116,20 +157,28 @@ pub record BehindLast (ws : List ℕ) (b limit e : ℕ) : Type 0 where
 -- The end of each bucket is behind its last node, and the link of each node behind the last one
 -- before it in its bucket.
 pub record BucketsLinked (ws : List ℕ) : Type 0 where
-  pub ends : (b : ℕ) → b < 128 → BehindLast ws b (countIn ws) (endIn ws b)
+  pub ends : (b : ℕ) → b < 512 → BehindLast ws b (countIn ws) (endIn ws b)
   pub links : (k : ℕ) → k < countIn ws → BehindLast ws (bucketAt ws k) k (linkAt ws k)
+
+-- r is the number behind a node with this key and value, or 0 where no node has them.
+pub record KeySought (ws : List ℕ) (key value r : ℕ) : Type 0 where
+  pub within : r ≤ countIn ws
+  pub here : (k : ℕ) → k + 1 ≡ r → (keyAt ws k ≡ key) × (valueAt ws k ≡ value)
+  pub none : r ≡ 0 → (j : ℕ) → j < countIn ws → keyAt ws j ≡ key → valueAt ws j ≢ value
 
 -- The words hold a registry as its operations make it.
 pub record HoldsRegistry (ws : List ℕ) : Type 0 where
   pub sized : Sized ws
   pub sound : Sound (registryOf ws)
 
--- The same, its nodes are linked, and the eight words `os` hold the set of its nodes with an
--- optional entry.
+-- The same, its nodes are linked and packed, and the eight words `os` hold the set of its nodes
+-- with an optional entry.
 pub record Held (ws os : List ℕ) : Type 0 where
   pub sized : Sized ws
   pub linked : BucketsLinked ws
+  pub packed : NodesPacked ws
   pub sound : Sound (registryOf ws)
+  pub eight : length os ≡ 8
   pub noted : (k : NodeId) → contains (membersOf os) k ≡ hasOptional (registryOf ws) k
 
 -- The words hold a registry that has no node.

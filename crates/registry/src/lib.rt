@@ -1,35 +1,43 @@
 // The registry of property paths: nodes numbered from 0 as made, in words that the caller lends:
 // three words a node, and the number of nodes behind them. A node is looked for among those of its
-// bucket, of which there are 128. 128 more words say where each bucket's last node is, and a node's
+// bucket, of which there are 512. 128 more words say where each bucket's last node is, and a node's
 // first word where the one before it is. Eight words of their own are the set of the nodes with an
 // optional entry, so that a reduction finds them at once.
 ghost use mathlib.Core.Path.{_≡_};
-ghost use Prim.Native.Nat.{_<_, _≤_};
+ghost use Prim.Native.Nat.{_<_, _+_, _*_, _%_, _^_};
 ghost use Rattle.model.specs.Registry.{getOrCreateIdentifier, getOrCreatePropertyEntry};
-ghost use Rattle.model.specs.RegistryLaws.{Sound};
-ghost use Rattle.model.specs.Answer.{flag};
 ghost use mathlib.Core.List.{_++_, _∷_, []};
 ghost use Rattle.registry.specs.declared.Node.the-variants.{Root, Child};
 ghost use Rattle.rows.specs.Members.{membersOf};
-ghost use Rattle.registry.specs.Nodes.{sameKey, bucketOf, findNode, reachedFor, Inside, optionalOver, notedWith};
+ghost use lib.ListN.{length};
+ghost use lib.Dec.{eqb};
+ghost use mathlib.Core.Bool.{_&&_};
+ghost use Rattle.registry.specs.Nodes.{reachedFor, Inside, optionalOver, notedWith};
 ghost use Rattle.registry.specs.Words.{
   valueIn,
   spanIn,
+  keyIn,
   ParentFits,
+  reactiveUnit,
+  linkUnit,
   unpack,
+  bucketBy,
+  Packed,
+  NodesPacked,
   storedNode,
+  keyAt,
+  valueAt,
+  quarter,
+  endIn,
   countIn,
   nodesOf,
   registryOf,
-  linkUnit,
-  linkAt,
 };
-ghost use Rattle.registry.specs.Words.{endIn, Sized, BucketsLinked, Held, Arrives};
+ghost use Rattle.registry.specs.Words.{Sized, BucketsLinked, KeySought, Held, Arrives};
 use entries::DependencyPathEntry;
 use entries::IdentifierId;
 use entries::NodeId;
 use entries::PropertyLiteral;
-use rows::NodeBits;
 use writer::flag;
 
 // A node: a root with its identifier, reactive mark and span, or the child of a node by an entry.
@@ -56,38 +64,6 @@ impl Node {
     {
         Node::Child(parent, entry)
     }
-
-    // A root for the same identifier, or a child of the same parent by an equal entry.
-    pub fn same(self, other: Node) -> bool
-        ensures { λ r. ⌜ r ≡ sameKey self other ⌝ }
-    {
-        match self {
-            Node::Root(a, _, _) => match other {
-                Node::Root(b, _, _) => a.0 == b.0,
-                Node::Child(_, _) => false,
-            },
-            Node::Child(p, e) => match other {
-                Node::Root(_, _, _) => false,
-                Node::Child(q, f) => { if p.0 == q.0 { e.same(f) } else { false } }
-            },
-        }
-    }
-
-    // The bucket in which a node is looked for.
-    fn bucket(self) -> usize
-        ensures { λ r. ⌜ (r ≡ bucketOf self) × (r < 128) ⌝ }
-    {
-        match self {
-            Node::Root(identifier, _, _) => identifier.0 as usize % 128,
-            Node::Child(parent, entry) => {
-                let property = entry.property;
-                let value = property.value() as usize;
-                (parent.0 % 65536 * 791547 + (value % 4294967296 + value / 70368744177664) * 597521)
-                    / 8192
-                    % 128
-            }
-        }
-    }
 }
 
 // A node as three words, and back. The first word has the identifier (of a root) below the parent,
@@ -106,7 +82,7 @@ const LINK: u64 = 2251799813685248;
 impl Node {
     fn head(self) -> u64
         requires { ⌜ ParentFits self ⌝ }
-        ensures { λ r. ⌜ (unpack r (valueIn self) (spanIn self) ≡ self) × (r < linkUnit) ⌝ }
+        ensures { λ r. ⌜ (unpack r (valueIn self) (spanIn self) ≡ self) × (r < linkUnit) × (r % reactiveUnit ≡ keyIn self) ⌝ }
     {
         match self {
             Node::Root(identifier, reactive, _) => {
@@ -182,59 +158,83 @@ pub fn load(ws: &[u64; 1665], k: NodeId) -> Node
     Node::unpack(ws[at], ws[at + 1], ws[at + 2])
 }
 
-// Where the words of the buckets start. An end is the number behind the last node of a bucket, and
-// 0 where there is none.
+// The bucket in which a key and a value are looked for.
+fn bucket(key: u64, value: u64) -> usize
+    requires { ⌜ key < reactiveUnit ⌝ }
+    ensures { λ r. ⌜ (r ≡ bucketBy key value) × (r < 512) ⌝ }
+{
+    let sum = key % PARENT + value / PARENT + value % PARENT;
+    ((key / PARENT * 21013597 + sum * 165902235) / 524288 % 512) as usize
+}
+
+// Where the words of the buckets start, each with the ends of four. An end is the number behind the
+// last node of a bucket, and 0 where there is none.
 const ENDS: usize = 1537;
 
 // The end of bucket b.
-fn end_of(ws: &[u64; 1665], b: usize) -> usize
-    requires { ⌜ b < 128 ⌝ }
+fn end_of(ws: &[u64; 1665], b: usize) -> u64
+    requires { ⌜ b < 512 ⌝ }
     ensures { λ r. ⌜ r ≡ endIn (now (ws .entry)) b ⌝ }
 {
-    ws[ENDS + b] as usize
+    (ws[ENDS + b / 4] >> (b % 4 * 16)) % 65536
 }
 
-// The link of node k: the end of its bucket when k was made.
-fn link(ws: &[u64; 1665], k: usize) -> usize
+// A word of ends with quarter i raised.
+fn raise(ends: u64, i: usize, rise: u64) -> u64
+    requires { ⌜ (i < 4) × (quarter ends i + rise < 65536) ⌝ }
+    ensures { λ r. ⌜ r ≡ ends + rise * 2 ^ (i * 16) ⌝ }
+{
+    ends + (rise << (i * 16))
+}
+
+// One node more in these words, which is the last of its bucket b.
+fn push(ws: &mut [u64; 1665], b: usize, head: u64, value: u64, span: u64)
+    requires { ⌜ Sized (now ws) × BucketsLinked (now ws) × NodesPacked (now ws) × (countIn (now ws) < 512)
+        × Packed head value span × (head < linkUnit) × (b ≡ bucketBy (head % reactiveUnit) value) × (b < 512) ⌝ }
+    ensures { λ _. ⌜ Sized (now (ws .exit)) × BucketsLinked (now (ws .exit)) × NodesPacked (now (ws .exit))
+        × (nodesOf (now (ws .exit)) ≡ nodesOf (now (ws .entry)) ++ (unpack head value span ∷ [])) ⌝ }
+{
+    let k = ws[1536];
+    let more = k + 1;
+    let at = k as usize * 3;
+    let link = end_of(ws, b);
+    let end = ENDS + b / 4;
+    let ends = raise(ws[end], b % 4, more - link);
+    ws[at] = head + link * LINK;
+    ws[at + 1] = value;
+    ws[at + 2] = span;
+    ws[end] = ends;
+    ws[1536] = more;
+}
+
+// Node k has this key and value.
+fn has_key(ws: &[u64; 1665], k: usize, key: u64, value: u64) -> bool
     requires { ⌜ k < 512 ⌝ }
-    ensures { λ r. ⌜ r ≡ linkAt (now (ws .entry)) k ⌝ }
+    ensures { λ r. ⌜ r ≡ eqb (keyAt (now (ws .entry)) k) key && eqb (valueAt (now (ws .entry)) k) value ⌝ }
 {
-    (ws[k * 3] / LINK) as usize
-}
-
-// One node more, which is the last of its bucket.
-fn push(ws: &mut [u64; 1665], n: Node)
-    requires { ⌜ Sized (now ws) × BucketsLinked (now ws) × (countIn (now ws) < 512) × ParentFits n ⌝ }
-    ensures { λ _. ⌜ Sized (now (ws .exit)) × BucketsLinked (now (ws .exit))
-        × (nodesOf (now (ws .exit)) ≡ nodesOf (now (ws .entry)) ++ (n ∷ [])) ⌝ }
-{
-    let k = ws[1536] as usize;
     let at = k * 3;
-    let end = ENDS + n.bucket();
-    let link = ws[end];
-    ws[at] = n.head() + link * LINK;
-    ws[at + 1] = n.value();
-    ws[at + 2] = n.span();
-    ws[end] = (k + 1) as u64;
-    ws[1536] = (k + 1) as u64;
+    if ws[at] % REACTIVE == key {
+        ws[at + 1] == value
+    } else {
+        false
+    }
 }
 
-// The number of the node with the key of n, or how many there are. A key occurs once, so that the
-// search may go from the last node of the bucket to the first.
-fn find(ws: &[u64; 1665], n: Node) -> usize
-    requires { ⌜ Sized (now ws) × BucketsLinked (now ws) × Sound (registryOf (now ws)) ⌝ }
-    ensures { λ r. ⌜ r ≡ findNode (nodesOf (now (ws .entry))) n ⌝ }
+// The number behind the node with this key and value, or 0 where there is none. They occur once, so
+// that the search may go from the last node of the bucket to the first, along the links.
+fn find(ws: &[u64; 1665], b: usize, key: u64, value: u64) -> usize
+    requires { ⌜ Sized (now ws) × BucketsLinked (now ws) × (b ≡ bucketBy key value) × (b < 512) ⌝ }
+    ensures { λ r. ⌜ KeySought (now (ws .entry)) key value r ⌝ }
 {
-    let mut end = end_of(ws, n.bucket());
+    let mut end = end_of(ws, b) as usize;
     while 0 < end {
         let k = end - 1;
-        let m = load(ws, NodeId(k));
-        if m.same(n) {
-            return k;
+        if has_key(ws, k, key, value) {
+            return end;
         }
-        end = link(ws, k);
+        end = (ws[k * 3] / LINK) as usize;
     }
-    count(ws)
+    end
 }
 
 // The node reached, and how many nodes were made on the way to it, 1 or 0 where a single one was to
@@ -244,51 +244,59 @@ pub enum NodeEntered {
     Full,
 }
 
-// Whether a node has an optional entry: its own, or one of its parent's path.
-fn has_optional(n: Node, optional: NodeBits) -> bool
-    requires { ⌜ Inside n 512 ⌝ }
-    ensures { λ r. ⌜ r ≡ optionalOver (membersOf (optional .words)) n ⌝ }
+// Whether a node with this first word has an optional entry: its own, or one of its parent's path.
+fn has_optional(head: u64, optional: &[u64; 8]) -> bool
+    requires { ⌜ Inside (unpack head 0 0) 512 ⌝ }
+    ensures { λ r. ⌜ r ≡ optionalOver (membersOf (now (optional .entry))) (unpack head 0 0) ⌝ }
 {
-    match n {
-        Node::Root(_, _, _) => false,
-        Node::Child(p, e) => {
-            if e.optional {
-                true
-            } else {
-                optional.contains(p)
-            }
-        }
+    let parent = head / PARENT % 65536;
+    if parent == Node::ROOT {
+        return false;
+    }
+    if head / OPTIONAL % 2 == 1 {
+        return true;
+    }
+    let p = parent as usize;
+    (optional[p / 64] >> (p % 64)) % 2 == 1
+}
+
+// Node k, which has this first word, joins the set where it has an optional entry.
+fn note(optional: &mut [u64; 8], head: u64, k: usize)
+    requires { ⌜ (length (now optional) ≡ 8) × Inside (unpack head 0 0) 512 × (k < 512) ⌝ }
+    ensures { λ _. ⌜ (length (now (optional .exit)) ≡ 8)
+        × (membersOf (now (optional .exit)) ≡ notedWith (membersOf (now (optional .entry))) (unpack head 0 0)
+        (record { 0 = k })) ⌝ }
+{
+    if has_optional(head, optional) {
+        let at = k / 64;
+        optional[at] = optional[at] | (1 << (k % 64));
     }
 }
 
-// Node k, which is n, joins the set where it has an optional entry.
-fn note(optional: &mut [u64; 8], n: Node, k: NodeId)
-    requires { ⌜ Inside n 512 × (k .0 < 512) ⌝ }
-    ensures { λ _. ⌜ membersOf (now (optional .exit)) ≡ notedWith (membersOf (now (optional .entry))) n k ⌝ }
+// The node with the key and value of these words, made where there is none.
+fn find_or_make(
+    ws: &mut [u64; 1665],
+    optional: &mut [u64; 8],
+    head: u64,
+    value: u64,
+    span: u64,
+) -> NodeEntered
+    requires { ⌜ Held (now ws) (now optional) × Packed head value span × (head < linkUnit)
+        × Inside (unpack head value span) (countIn (now ws)) ⌝ }
+    ensures { λ r. ⌜ Arrives (reachedFor (registryOf (now (ws .entry))) (unpack head value span)) r (now (ws .exit))
+        (now (optional .exit)) ⌝ }
 {
-    let row = NodeBits { words: *optional };
-    if has_optional(n, row) {
-        let more = row.insert(k);
-        let words = more.words;
-        *optional = words;
+    let key = head % REACTIVE;
+    let b = bucket(key, value);
+    let found = find(ws, b, key, value);
+    if 0 < found {
+        return NodeEntered::At(NodeId(found - 1), 0);
     }
-}
-
-// The node with the key of n, made where there is none.
-fn find_or_make(ws: &mut [u64; 1665], optional: &mut [u64; 8], n: Node) -> NodeEntered
-    requires { ⌜ Held (now ws) (now optional) × Inside n (countIn (now ws)) ⌝ }
-    ensures { λ r. ⌜ Arrives (reachedFor (registryOf (now (ws .entry))) n) r (now (ws .exit)) (now (optional .exit)) ⌝ }
-{
-    let k = find(ws, n);
     let end = count(ws);
-    if k < end {
-        return NodeEntered::At(NodeId(k), 0);
-    }
     if end < Node::LIMIT {
-        push(ws, n);
-        let node = NodeId(end);
-        note(optional, n, node);
-        NodeEntered::At(node, 1)
+        push(ws, b, head, value, span);
+        note(optional, head, end);
+        NodeEntered::At(NodeId(end), 1)
     } else {
         NodeEntered::Full
     }
@@ -305,7 +313,8 @@ pub fn get_or_create_identifier(
     ensures { λ r. ⌜ Arrives (getOrCreateIdentifier (registryOf (now (ws .entry))) identifier reactive span) r (now (ws .exit))
         (now (optional .exit)) ⌝ }
 {
-    find_or_make(ws, optional, Node::root(identifier, reactive, span))
+    let n = Node::root(identifier, reactive, span);
+    find_or_make(ws, optional, n.head(), n.value(), n.span())
 }
 
 pub fn get_or_create_property_entry(
@@ -318,5 +327,6 @@ pub fn get_or_create_property_entry(
     ensures { λ r. ⌜ Arrives (getOrCreatePropertyEntry (registryOf (now (ws .entry))) parent entry) r (now (ws .exit))
         (now (optional .exit)) ⌝ }
 {
-    find_or_make(ws, optional, Node::child(parent, entry))
+    let n = Node::child(parent, entry);
+    find_or_make(ws, optional, n.head(), n.value(), n.span())
 }

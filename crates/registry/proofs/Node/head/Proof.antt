@@ -1,7 +1,7 @@
 -- Each field is put into bits of its own, so that unpacking gives it back (`Pack`).
 use mathlib.Core.Path.{_∙_, ap}
 use Rattle.model.specs.Answer.{flag}
-use Rattle.registry.proofs.Pack.{packed-root, packed-child, packs-child}
+use Rattle.registry.proofs.Pack.{packed-root, packed-child, packs-child, key-of-root, key-of-child}
 use borrow.Author.Needs.{needs}
 use Rattle.registry.proofs.Node.head.Statement.{statement}
 use Rattle.registry.proofs.Node.head.Tie as tie
@@ -64,6 +64,7 @@ returns c = (
   rw (c .before .before .before .self .given .1) (packed-root _ _ _ (c .before .flag .result) (search needs) (c .before .flag .ensures .0)
       (c .before .flag .ensures .1)),
   search needs,
+  rw (c .before .before .before .self .given .1) (key-of-root _ (c .before .flag .result) (search needs)),
 )
 
 returns-2 : tie.Need-returns-2
@@ -73,6 +74,8 @@ returns-2 c =
           (packed-child _ _ (c .flag3 .result) (c .before .flag2 .result) small (c .flag3 .ensures .0) (c .flag3 .ensures .1)
           (c .before .flag2 .ensures .0 ∙ ap flag (c .before .before .is-number .ensures)) (c .before .flag2 .ensures .1)),
       search needs,
+      key-of-child _ (c .flag3 .result) (c .before .flag2 .result) small (c .flag3 .ensures .1) (c .before .flag2 .ensures .1)
+          ∙ rw (c .before .before .before .before .self2 .given .1, c .flag3 .ensures .0, c .before .flag2 .ensures .0, c .before .before .is-number .ensures),
     )
 
 pub head-spec : {M : Type 1} → statement M
