@@ -33,11 +33,17 @@ pub struct ReducedSet {
 }
 
 // An optional entry becomes plain where the node reached so far is in the set.
-fn reduced_mark(set: NodeBits, k: NodeId, e: DependencyPathEntry) -> bool
+fn reduced_mark(set: &[u64; 8], k: NodeId, e: DependencyPathEntry) -> bool
     requires { ⌜ k .0 < 512 ⌝ }
-    ensures { λ r. ⌜ r ≡ reducedMark (membersOf (set .words)) k e ⌝ }
+    ensures { λ r. ⌜ r ≡ reducedMark (membersOf (now (set .entry))) k e ⌝ }
 {
-    if e.optional { !set.contains(k) } else { false }
+    if e.optional {
+        let at = k.0 / 64;
+        let inside = (set[at] >> (k.0 % 64)) % 2 == 1;
+        !inside
+    } else {
+        false
+    }
 }
 
 // From q on by the entry e, under its mark there, with `made_before` nodes made before it. Node k
@@ -45,7 +51,7 @@ fn reduced_mark(set: NodeBits, k: NodeId, e: DependencyPathEntry) -> bool
 fn step(
     ws: &mut [u64; 1665],
     optional: &mut [u64; 8],
-    set: NodeBits,
+    set: &[u64; 8],
     k: NodeId,
     p: NodeId,
     e: DependencyPathEntry,
@@ -54,7 +60,7 @@ fn step(
 ) -> NodeEntered
     requires { ⌜ Held (now ws) (now optional) × (q .0 < countIn (now ws)) × ChildAt (registryOf (now ws)) p e k
         × («made_before» ≤ countIn (now ws)) ⌝ }
-    ensures { λ r. ⌜ Arrives (stepFrom (reducedMark (membersOf (set .words)))
+    ensures { λ r. ⌜ Arrives (stepFrom (reducedMark (membersOf (now (set .entry))))
         (record { registry = registryOf (now (ws .entry)); node = q; made = «made_before» }) e) r
         (now (ws .exit)) (now (optional .exit)) ⌝ }
 {
@@ -88,11 +94,11 @@ fn step(
 pub fn walk_again(
     ws: &mut [u64; 1665],
     optional: &mut [u64; 8],
-    set: NodeBits,
+    set: &[u64; 8],
     k: NodeId,
 ) -> NodeEntered
     requires { ⌜ Held (now ws) (now optional) × (k .0 < countIn (now ws)) ⌝ }
-    ensures { λ r. ⌜ Arrives (walkPath (reducedMark (membersOf (set .words))) (registryOf (now (ws .entry)))
+    ensures { λ r. ⌜ Arrives (walkPath (reducedMark (membersOf (now (set .entry)))) (registryOf (now (ws .entry)))
         (fullPathOf (registryOf (now (ws .entry))) k)) r (now (ws .exit)) (now (optional .exit)) ⌝ }
 {
     let n = load(ws, k);
@@ -109,9 +115,9 @@ pub fn walk_again(
 
 // Whether the path of node k, walked again under the marks that the set leaves, leads back to k:
 // each optional entry keeps its mark. This goes up the parents and searches nothing.
-fn leads_back(ws: &[u64; 1665], set: NodeBits, k: NodeId) -> bool
+fn leads_back(ws: &[u64; 1665], set: &[u64; 8], k: NodeId) -> bool
     requires { ⌜ HoldsRegistry (now ws) × (k .0 < countIn (now ws)) ⌝ }
-    ensures { λ r. ⌜ r ≡ leadsBack (registryOf (now (ws .entry))) (membersOf (set .words)) k ⌝ }
+    ensures { λ r. ⌜ r ≡ leadsBack (registryOf (now (ws .entry))) (membersOf (now (set .entry))) k ⌝ }
 {
     let mut at = k;
     loop {
@@ -137,7 +143,7 @@ fn reduce_node(ws: &mut [u64; 1665], optional: &mut [u64; 8], r: PassSet, k: Nod
 {
     let set = r.set;
     let changed = r.changed;
-    let NodeEntered::At(q, _) = walk_again(ws, optional, set, k) else {
+    let NodeEntered::At(q, _) = walk_again(ws, optional, &set.words, k) else {
         return PassSet {
             set,
             changed,
@@ -178,7 +184,8 @@ fn pass(ws: &mut [u64; 1665], optional: &mut [u64; 8], set: NodeBits) -> PassSet
         let Next::At(k) = snapshot.next(from) else {
             return r;
         };
-        if leads_back(ws, r.set, k) {
+        let so_far = r.set;
+        if leads_back(ws, &so_far.words, k) {
             from = k.0 + 1;
         } else {
             r = reduce_node(ws, optional, r, k);

@@ -24,14 +24,14 @@ use Rattle.registry.proofs.load.Reads as load-reads
 use Rattle.reduction.proofs.+walk_again.{statement}
 use Rattle.reduction.proofs.+walk_again.Tie.{close}
 
-abbrev μ-walk-again : Measures 2 walk-again-kinds.ps ℕ
+abbrev μ-walk-again : Measures 3 walk-again-kinds.ps ℕ
 μ-walk-again κs a = a .1 .1 .1 .0 .0
 
-abbrev at : ℕ → In 2 walk-again-kinds.ps
-at t = and 2 walk-again-kinds.ps (is 2 walk-again-kinds.ps μ-walk-again t) walk-again.Pre
+abbrev at : ℕ → In 3 walk-again-kinds.ps
+at t = and 3 walk-again-kinds.ps (is 3 walk-again-kinds.ps μ-walk-again t) walk-again.Pre
 
-abbrev below : ℕ → In 2 walk-again-kinds.ps
-below t = and 2 walk-again-kinds.ps (falls 2 walk-again-kinds.ps _<_ μ-walk-again t) walk-again.Pre
+abbrev below : ℕ → In 3 walk-again-kinds.ps
+below t = and 3 walk-again-kinds.ps (falls 3 walk-again-kinds.ps _<_ μ-walk-again t) walk-again.Pre
 
 -- what the callees ask and give
 abbrev claims : ℕ → lts.Claims
@@ -49,7 +49,7 @@ walk-again-requires t c κs =
     let n = c .before .before .before in
     let l = n .before .before in
     let s = l .before .before in
-    let less = parent-before (reducedMark (membersOf (s .args .set .words))) (loaded t l) (n .n .given .1) in
+    let less = parent-before (reducedMark (membersOf (now (s .args .set)))) (loaded t l) (n .n .given .1) in
     (subst (λ (j : ℕ). n .n .given .0 .0 .0 < j) (s .pre .0) less, (s .pre .1 .0, lt-trans less (s .pre .1 .1)))
 
 returns : (t : ℕ) → lts.Need-returns (claims t) (at t) walk-again.Post
@@ -59,7 +59,7 @@ returns t c =
     let l = n .before .before in
     let s = l .before .before in
     let r = w .walk-again in
-    walk-full (reducedMark (membersOf (s .args .set .words))) (loaded t l) (n .n .given .1)
+    walk-full (reducedMark (membersOf (now (s .args .set)))) (loaded t l) (n .n .given .1)
     (arrived-full _ (r .result) (r .last .0) (r .last .1 .0) (c .enum-told2 .given .1) (r .ensures))
 
 step-requires : (t : ℕ) → lts.Need-step-requires (claims t) (at t) walk-again.Post
@@ -70,7 +70,7 @@ step-requires t c κs =
     let l = n .before .before in
     let s = l .before .before in
     let r = w .walk-again in
-    let mark = reducedMark (membersOf (s .args .set .words)) in
+    let mark = reducedMark (membersOf (now (s .args .set))) in
     let there = arrived-at _ (r .result) _ _ (r .last .0) (r .last .1 .0) (q .q .given .1) (r .ensures) in (
       there .0,
       reached-inside mark (loaded t l) (n .n .given .1) (r .last .0) (there .1),
@@ -82,7 +82,7 @@ returns-2 : (t : ℕ) → lts.Need-returns-2 (claims t) (at t) walk-again.Post
 returns-2 t c =
     let l = c .before .before in
     let s = l .before .before in
-    (s .pre .1 .0, walk-root (reducedMark (membersOf (s .args .set .words))) (loaded t l) _ _ _ (c .enum-told .given .1))
+    (s .pre .1 .0, walk-root (reducedMark (membersOf (now (s .args .set)))) (loaded t l) _ _ _ (c .enum-told .given .1))
 
 returns-3 : (t : ℕ) → lts.Need-returns-3 (claims t) (at t) walk-again.Post
 returns-3 t c =
@@ -93,7 +93,7 @@ returns-3 t c =
     let s = l .before .before in
     let r = w .walk-again in
     let there = arrived-at _ (r .result) _ _ (r .last .0) (r .last .1 .0) (q .q .given .1) (r .ensures) in
-    walk-child (reducedMark (membersOf (s .args .set .words))) (loaded t l) (n .n .given .1) (r .last .0) (there .1)
+    walk-child (reducedMark (membersOf (now (s .args .set)))) (loaded t l) (n .n .given .1) (r .last .0) (there .1)
     (c .step .result) (c .step .last .0) (c .step .last .1 .0) (c .step .ensures)
 
 pub +walk-again-spec : {M : Type 1} → statement M

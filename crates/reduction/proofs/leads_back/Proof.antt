@@ -15,7 +15,7 @@ use Rattle.reduction.proofs.leads_back.Statement.{statement}
 use Rattle.reduction.proofs.leads_back.Tie as tie
 
 abbrev Inv-loop : tie.InvT-loop
-Inv-loop ws set at₀ at = Climbing ws (membersOf (set .words)) at₀ at
+Inv-loop ws set at₀ at = Climbing ws (membersOf set) at₀ at
 
 abbrev μ-loop : tie.MeasureT-loop
 μ-loop ws set at₀ at = at .0

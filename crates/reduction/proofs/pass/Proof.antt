@@ -34,21 +34,21 @@ returns c =
 
 leads-back-requires : tie.Need-leads-back-requires Inv-loop μ-loop
 leads-back-requires c κs =
-    let k = c .before .before in
+    let k = c .before .before .before .before .before in
     let n = k .before .before in
     let inv = n .before .before .loop .inv in
     (record { sized = inv .held .sized; sound = inv .held .sound }, along-inside inv _ (sym (n .next .ensures) ∙ k .k .given .1))
 
 add-from : tie.Need-add-from Inv-loop μ-loop
 add-from c =
-    let k = c .before .before .before .before .before in
+    let k = c .before .before .before .before .before .before .before .before in
     let n = k .before .before in
     let a = along-ahead (n .before .before .loop .inv) _ (sym (n .next .ensures) ∙ k .k .given .1) in
     record { fits = omega arith }
 
 loop-less : tie.Need-loop-less Inv-loop μ-loop
 loop-less c =
-    let k = c .before .before .before .before .before in
+    let k = c .before .before .before .before .before .before .before .before in
     let n = k .before .before in
     let a = along-ahead (n .before .before .loop .inv) _ (sym (n .next .ensures) ∙ k .k .given .1) in
     omega arith
@@ -56,7 +56,7 @@ loop-less c =
 loop-again : tie.Need-loop-again Inv-loop μ-loop
 loop-again c =
     let told = c .before in
-    let k = told .before .before .before .before in
+    let k = told .before .before .before .before .before .before .before in
     let n = k .before .before in
     let l = n .before .before .loop in
     let size = registry-length (l .ws) in
@@ -68,14 +68,14 @@ loop-again c =
 
 reduce-node-requires : tie.Need-reduce-node-requires Inv-loop μ-loop
 reduce-node-requires c κs =
-    let k = c .before .before .before .before .before .before in
+    let k = c .before .before .before .before .before .before .before .before .before in
     let n = k .before .before in
     let l = n .before .before in
     (l .loop .inv .held, along-inside (l .loop .inv) _ (sym (n .next .ensures) ∙ k .k .given .1))
 
 returns-2 : tie.Need-returns-2 Inv-loop μ-loop
 returns-2 c =
-    let k = c .before .before .before .before .before .before .before .before in
+    let k = c .before .before .before .before .before .before .before .before .before .before .before in
     let n = k .before .before in
     let l = n .before .before in
     let r = c .before .reduce-node in
@@ -83,21 +83,21 @@ returns-2 c =
 
 add-from-2 : tie.Need-add-from-2 Inv-loop μ-loop
 add-from-2 c =
-    let k = c .before .before .before .before .before .before .before .before .before in
+    let k = c .before .before .before .before .before .before .before .before .before .before .before .before in
     let n = k .before .before in
     let a = along-ahead (n .before .before .loop .inv) _ (sym (n .next .ensures) ∙ k .k .given .1) in
     record { fits = omega arith }
 
 loop-less-2 : tie.Need-loop-less-2 Inv-loop μ-loop
 loop-less-2 c =
-    let k = c .before .before .before .before .before .before .before .before .before in
+    let k = c .before .before .before .before .before .before .before .before .before .before .before .before in
     let n = k .before .before in
     let a = along-ahead (n .before .before .loop .inv) _ (sym (n .next .ensures) ∙ k .k .given .1) in
     omega arith
 
 loop-again-2 : tie.Need-loop-again-2 Inv-loop μ-loop
 loop-again-2 c =
-    let k = c .before .before .before .before .before .before .before .before .before in
+    let k = c .before .before .before .before .before .before .before .before .before .before .before .before in
     let n = k .before .before in
     let r = c .before .before .reduce-node in
     along-more (n .before .before .loop .inv) _ (sym (n .next .ensures) ∙ k .k .given .1) (r .result) (r .last .0) (r .last .1 .0)

@@ -20,7 +20,7 @@ returns c =
     let m = c .before .before .before .before in
     let a = m .before .args in (
       m .before .pre .0,
-      step-same (reducedMark (membersOf (a .set .words))) (registryOf (now (a .ws))) (a .p) (a .q) (a .k) (a .e) _
+      step-same (reducedMark (membersOf (now (a .set)))) (registryOf (now (a .ws))) (a .p) (a .q) (a .k) (a .e) _
           (m .reduced-mark .ensures) (a .made-before) (m .before .pre .2) (c .before .if1 .taken) (beq-true _ _ (c .if2 .taken)),
     )
 
@@ -30,7 +30,7 @@ returns-2 c =
     let m = g .before .before .before .before .before .before in
     let a = m .before .args in
     let r = g .get-or-create-property-entry in
-    step-full (reducedMark (membersOf (a .set .words))) (registryOf (now (a .ws))) (a .p) (a .q) (a .k) (a .e) _ (m .reduced-mark .ensures) (a .made-before)
+    step-full (reducedMark (membersOf (now (a .set)))) (registryOf (now (a .ws))) (a .p) (a .q) (a .k) (a .e) _ (m .reduced-mark .ensures) (a .made-before)
     (arrived-full _ (r .result) (r .last .0) (r .last .1 .0) (c .enum-told .given .1) (r .ensures))
 
 add-made : tie.Need-add-made
@@ -42,7 +42,7 @@ add-made c =
     let there = arrived-at _ (r .result) _ _ (r .last .0) (r .last .1 .0) (c .before .child .given .1) (r .ensures) in
     let size = registry-length (now (a .ws)) in
     let few = m .before .pre .3 in
-    let fits = step-fits (reducedMark (membersOf (a .set .words))) (registryOf (now (a .ws))) (a .p) (a .q) (a .k) (a .e) _ (m .reduced-mark .ensures)
+    let fits = step-fits (reducedMark (membersOf (now (a .set)))) (registryOf (now (a .ws))) (a .p) (a .q) (a .k) (a .e) _ (m .reduced-mark .ensures)
     (r .last .0) _ _ (there .1) (a .made-before) (omega arith) in
     let room = there .0 .sized .room in
     search needs
@@ -55,7 +55,7 @@ returns-3 c =
     let r = g .get-or-create-property-entry in
     let there = arrived-at _ (r .result) _ _ (r .last .0) (r .last .1 .0) (c .before .child .given .1) (r .ensures) in (
       there .0,
-      step-made (reducedMark (membersOf (a .set .words))) (registryOf (now (a .ws))) (a .p) (a .q) (a .k) (a .e) _ (m .reduced-mark .ensures)
+      step-made (reducedMark (membersOf (now (a .set)))) (registryOf (now (a .ws))) (a .p) (a .q) (a .k) (a .e) _ (m .reduced-mark .ensures)
           (r .last .0) _ _ (there .1) (a .made-before),
     )
 
