@@ -1,5 +1,6 @@
 // The answer's bytes: each candidate walks and is added to the dependency tree, and the returned
-// paths are written behind the answer's head.
+// paths are written behind the answer's head. Where there are several candidates, the hoistable
+// tree is built for them once.
 ghost use mathlib.Core.Path.{_≡_};
 ghost use Prim.Native.Nat.{_≤_, _<_};
 ghost use lib.ListN.{length};
@@ -7,6 +8,7 @@ ghost use Rattle.model.specs.ReductionLaws.{Members};
 ghost use Rattle.model.specs.Answer.{leastBuffer};
 ghost use Rattle.rows.specs.Members.{membersOf};
 ghost use Rattle.registry.specs.Words.{registryOf, HoldsRegistry};
+ghost use Rattle.hoistable.specs.Positions.{MayHoldTree};
 ghost use Rattle.writer.specs.Writes.{Writes};
 ghost use Rattle.answer_bytes.specs.Answers.{CandidatesAt, AddsCandidates, headBytes, WritesAnswer};
 use job::ReadPathHead;
@@ -17,10 +19,14 @@ use writer::put_number;
 // The mark of an answer.
 pub const AN: u64 = 0x4E41;
 
-// The dependency tree of the candidates from a place on, whatever the words were; `set` is the
-// scope block's.
-fn add_candidates(
+// The hoistable tree is built for so many candidates. For fewer it takes longer than it saves.
+const FEW: usize = 3;
+
+// Each candidate from a place on walks, and is added to the dependency tree, whatever its words
+// were. `hoist` may hold the hoistable tree of the scope block's set.
+fn walk_candidates(
     tree: &mut [u64; 1089],
+    hoist: &[u64],
     s: &[u8],
     ws: &[u64; 1665],
     set: NodeBits,
@@ -28,7 +34,7 @@ fn add_candidates(
     count: usize,
 )
     requires { ⌜ (length (now tree) ≡ 1089) × HoldsRegistry (now ws) × Members (registryOf (now ws)) (membersOf (set .words))
-        × CandidatesAt (now s) start count ⌝ }
+        × CandidatesAt (now s) start count × MayHoldTree (now ws) (now hoist) (membersOf (set .words)) ⌝ }
     ensures { λ _. ⌜ AddsCandidates (now (s .entry)) start count (registryOf (now (ws .entry))) (membersOf (set .words))
         (now (tree .exit)) ⌝ }
 {
@@ -42,11 +48,46 @@ fn add_candidates(
             return;
         };
         let identifier = head.identifier;
-        let levels = hoistable::nonnull_levels(ws, set, s, identifier, entries_at, head.entries);
+        let levels = hoistable::nonnull_levels(
+            hoist,
+            ws,
+            set,
+            s,
+            identifier,
+            entries_at,
+            head.entries,
+        );
         tree::add_candidate(tree, s, fields_at, levels);
         at = entries_at + job::ENTRY_SIZE * (head.entries as usize);
         left = left - 1;
     }
+}
+
+// The dependency tree of the candidates from a place on, whatever the words were; `set` is the
+// scope block's. Where the words had no room for the hoistable tree, the candidates would walk
+// without it. There is room, since each position has a node of its own, but no proof needs that.
+fn add_candidates(
+    tree: &mut [u64; 1089],
+    s: &[u8],
+    ws: &[u64; 1665],
+    set: NodeBits,
+    start: usize,
+    count: usize,
+)
+    requires { ⌜ (length (now tree) ≡ 1089) × HoldsRegistry (now ws) × Members (registryOf (now ws)) (membersOf (set .words))
+        × CandidatesAt (now s) start count ⌝ }
+    ensures { λ _. ⌜ AddsCandidates (now (s .entry)) start count (registryOf (now (ws .entry))) (membersOf (set .words))
+        (now (tree .exit)) ⌝ }
+{
+    if FEW <= count {
+        let mut hoist = [0u64; 513];
+        if hoistable::build_tree(&mut hoist, ws, set) {
+            walk_candidates(tree, &hoist, s, ws, set, start, count);
+            return;
+        }
+    }
+    let none = [0u64; 1];
+    walk_candidates(tree, &none, s, ws, set, start, count);
 }
 
 // What stands before the returned paths.

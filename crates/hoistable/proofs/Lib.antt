@@ -5,3 +5,7 @@ pub mod Names
 pub mod Steps
 pub mod Nodes
 pub mod Deciding
+pub mod Positions
+pub mod Ways
+pub mod Below
+pub mod Members

@@ -17,7 +17,7 @@ use Rattle.hoistable.specs.Levels.{numberOf, weightOf}
 use Rattle.hoistable.specs.Agreement.{agreed, nextSame, over, HoldsLevels, Small}
 use Rattle.hoistable.proofs.Walks.{number-later}
 
-number-below : (bs : List Bool) → numberOf bs < weightOf bs
+pub number-below : (bs : List Bool) → numberOf bs < weightOf bs
 unfolding numberOf weightOf
 number-below [] = omega arith
 number-below (true ∷ bs) = let h = number-below bs in omega arith
@@ -26,7 +26,7 @@ number-below (false ∷ bs) = let h = number-below bs in omega arith
 weight-some : (bs : List Bool) → 0 < weightOf bs
 weight-some bs = let l = number-below bs in omega arith
 
-weight-most : (bs : List Bool) (n : ℕ) → length bs ≤ n → weightOf bs ≤ 2 ^ n
+pub weight-most : (bs : List Bool) (n : ℕ) → length bs ≤ n → weightOf bs ≤ 2 ^ n
 unfolding weightOf
 weight-most [] n l = pow-pos n
 weight-most (b ∷ bs) zero l = absurd (omega arith)

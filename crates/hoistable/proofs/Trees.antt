@@ -154,7 +154,7 @@ tree-decided i es ds =
 
 -- Levels that the tree does not have add nothing to the number.
 
-none-levels : (es : List DependencyPathEntry) → numberOf (levelsOf none es) ≡ 0
+pub none-levels : (es : List DependencyPathEntry) → numberOf (levelsOf none es) ≡ 0
 unfolding numberOf levelsOf
 none-levels [] = refl
 none-levels (e ∷ es) = let h = none-levels es in omega arith

@@ -1,3 +1,4 @@
 pub mod Levels
 pub mod Candidate
 pub mod Agreement
+pub mod Positions

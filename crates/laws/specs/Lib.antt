@@ -13,6 +13,7 @@ pub mod WalkSteps
 pub mod ForestLaws
 pub mod Flat
 pub mod FlatLaws
+pub mod FlatSteps
 pub mod TreeLaws
 pub mod AddedAgain
 -- what is written and read
