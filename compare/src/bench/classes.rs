@@ -1,5 +1,5 @@
-//! The jobs that are timed, by class. They are those of the comparison's generator, in its order and
-//! with its weights; a class only says which of them it takes, by what is in a job.
+//! The jobs that are timed, by class. They are those of the comparison's generator, in its order
+//! and with its weights; a class only says which of them it takes, by what is in a job.
 
 use crate::generate::{edges, generate};
 use crate::job::{Block, Job, Path, limits};

@@ -46,12 +46,25 @@ module _ {P : Type 0} (key : P → Key) (merge : P → P → P) where
       rw (eqb-same p, grow-fresh (suc i) (suc i) ss (omega arith), fresh-frame (suc i) p (suc i) ss (omega arith) (λ e. omega arith))
 
   -- entering a way down into the list adds it to the forest
-  pub grow-enter : (xs : List (Node P)) (i p : ℕ) (ss : List P) → p ≤ i → grow (enter key merge xs i p ss) i p ≡ add key merge (grow xs i p) ss
+  pub grow-enter : (xs : List (Node P)) (i p : ℕ) (ss : List P) → p ≤ i
+      → grow (enter key merge xs i p ss) i p ≡ add key merge (grow xs i p) ss
   grow-enter [] i p ss h = grow-fresh i p ss h
   grow-enter (x ∷ xs) i p [] h = sym (add-nil _)
   grow-enter (x ∷ xs) i p (s ∷ ss) h =
       decide (eqb (x .parent) p)
       (λ e. decide (sameKey (key (x .here)) (key s))
-      (λ k. rw (e, k, e, grow-enter xs (suc i) (suc i) ss (omega arith), frame xs (suc i) p (suc i) ss (omega arith) (omega arith) (λ g. omega arith)))
-      (λ k. rw (e, k, e, grow-enter xs (suc i) p (s ∷ ss) (omega arith), frame xs (suc i) (suc i) p (s ∷ ss) (omega arith) (omega arith) (λ g. omega arith))))
+      (λ k. rw (
+        e,
+        k,
+        e,
+        grow-enter xs (suc i) (suc i) ss (omega arith),
+        frame xs (suc i) p (suc i) ss (omega arith) (omega arith) (λ g. omega arith),
+      ))
+      (λ k. rw (
+        e,
+        k,
+        e,
+        grow-enter xs (suc i) p (s ∷ ss) (omega arith),
+        frame xs (suc i) (suc i) p (s ∷ ss) (omega arith) (omega arith) (λ g. omega arith),
+      )))
       (λ e. rw (e, e) (grow-enter xs (suc i) p (s ∷ ss) (omega arith)))

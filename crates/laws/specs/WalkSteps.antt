@@ -1,5 +1,5 @@
--- Which blocks a walk leaves in which order, and which are Done then, depends on the graph alone. So
--- a walk is the joins of these steps, one after the other.
+-- Which blocks a walk leaves in which order, and which are Done then, depends on the graph alone.
+-- So a walk is the joins of these steps, one after the other.
 use Prim.Native.Nat.{ℕ}
 use mathlib.Core.Path.{_≡_, refl, sym, ap, _∙_}
 use mathlib.Core.Bool.{cond}

@@ -16,7 +16,8 @@ use Rattle.propagation.specs.Joins.{MarksDirty}
 -- a block that is not dirty once block k is, is another one, and was not dirty
 pub not-marked : (dirty : List ℕ) (k b : ℕ) → k < length dirty → getD (set dirty k 1) b 0 ≡ 0 → (b ≢ k) × (getD dirty b 0 ≡ 0)
 not-marked dirty k b room e =
-    let other : b ≢ k = λ same. let one : getD (set dirty k 1) b 0 ≡ 1 = ap (λ (j : ℕ). getD (set dirty k 1) j 0) same ∙ getD-set-same dirty k 1 0 room in omega arith in
+    let other : b ≢ k =
+    λ same. let one : getD (set dirty k 1) b 0 ≡ 1 = ap (λ (j : ℕ). getD (set dirty k 1) j 0) same ∙ getD-set-same dirty k 1 0 room in omega arith in
     (other, sym (getD-set-other dirty k b 1 0 other) ∙ e)
 
 -- The loop over a block's neighbours: those from `from` on are still to be marked.

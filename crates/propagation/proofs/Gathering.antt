@@ -142,7 +142,8 @@ module _ {joining : Joining} {g : List ℕ} {backward : Bool} {b : ℕ} {o place
           behind = omega arith;
           long = length-set places count k ∙ long;
           inside = subst (All (λ k. k < sizeIn g)) (sym one) (all-append (λ k. k < sizeIn g) (take count places) (k ∷ []) (a .inside) (to .inside, tt));
-          rest = ap₂ (λ (t : Bool) (l : List ℕ). cond t [] l) (sym (not-kept joining (doneBefore (sizeIn g) o b) k bs (inr (is-done (sizeIn g) o k (to .inside) (getD o b 0) done))))
+          rest = ap₂ (λ (t : Bool) (l : List ℕ). cond t [] l)
+              (sym (not-kept joining (doneBefore (sizeIn g) o b) k bs (inr (is-done (sizeIn g) o k (to .inside) (getD o b 0) done))))
               (ap (λ (l : List ℕ). l ++ chosen) one
               ∙ append-snoc (take count places) k chosen
               ∙ rw (is-done (sizeIn g) o k (to .inside) (getD o b 0) done))

@@ -1,4 +1,5 @@
--- Joins without effect: where a set has all that the intersection has, the union with it is the set.
+-- Joins without effect: where a set has all that the intersection has, the union with it is the
+-- set.
 use Prim.Native.Nat.{ℕ, _<_}
 use mathlib.Core.Path.{_≡_, refl, sym, ap, subst, _∙_}
 use mathlib.Core.Logic.{_≢_}
@@ -34,7 +35,9 @@ union-keeps s (x ∷ t) k h = union-keeps (insert x s) t k (contains-insert x k 
 -- .. and what the second has
 pub union-has : (s t : NodeSet) → Has (union s t) t
 union-has s [] = tt
-union-has s (x ∷ t) = (union-keeps (insert x s) t x (contains-inserted x x s ∙ ap (λ (e : Bool). e || contains s x) (eqb-same (x .0))), union-has (insert x s) t)
+union-has s (x ∷ t) =
+    let here = contains-inserted x x s ∙ ap (λ (e : Bool). e || contains s x) (eqb-same (x .0)) in
+    (union-keeps (insert x s) t x here, union-has (insert x s) t)
 
 -- a set that has another is its union with that
 pub has-union : (s t : NodeSet) → Ascending s → Has s t → union s t ≡ s

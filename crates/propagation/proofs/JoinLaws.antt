@@ -42,8 +42,8 @@ use Rattle.propagation.proofs.Idling.{union-has, has-union, idle-union}
 use Rattle.propagation.proofs.Reductions.{stands-proper}
 
 -- Where nothing new joins a set that is reduced already, the work stays.
-pub idle-still : (rule : JoiningRule) {g : List ℕ} (backward : Bool) {b : ℕ} (o : List ℕ) {sets ws os : List ℕ} → Ready g sets ws os → AllReduced (sizeIn g) sets ws
-    → b < sizeIn g → Idle rule g backward o sets b → (changed : Bool)
+pub idle-still : (rule : JoiningRule) {g : List ℕ} (backward : Bool) {b : ℕ} (o : List ℕ) {sets ws os : List ℕ} → Ready g sets ws os
+    → AllReduced (sizeIn g) sets ws → b < sizeIn g → Idle rule g backward o sets b → (changed : Bool)
     → joinIn rule g backward b (doneBefore (sizeIn g) o b) (workOf (sizeIn g) sets ws changed) ≡ workOf (sizeIn g) sets ws changed
 unfolding joinIn join joinWith workOf setsToJoin
 idle-still rule {g} backward {b} o {sets} {ws} ready before inside idle changed =
@@ -52,7 +52,8 @@ idle-still rule {g} backward {b} o {sets} {ws} ready before inside idle changed 
     let reg = registryOf ws in
     let members : Members reg own = members-setOf (workOf (sizeIn g) sets ws changed) (stands-proper (ready .stands) changed) b in
     let by : Reduced → Work = λ r. record { registry = r .registry; sets = set rows b (r .set); changed = changed || not (sameSet own (r .set)) } in
-    ap (λ (s : NodeSet). by (reduceMaybeOptionalChains reg s)) (has-union own (intersectionOf (map (setOf rows) (neighboursToJoin rule g backward b o))) (members .ascending) idle)
+    ap (λ (s : NodeSet). by (reduceMaybeOptionalChains reg s))
+    (has-union own (intersectionOf (map (setOf rows) (neighboursToJoin rule g backward b o))) (members .ascending) idle)
     ∙ ap by (reduced-already reg own (ready .stands .held .sound) members (before b inside))
     ∙ rw (set-getD rows b [], same-self own, or-false changed)
 
@@ -157,7 +158,8 @@ module _ {rule : JoiningRule} {g : List ℕ} {backward : Bool} {b : ℕ} {o sets
         full = λ e. never e refl;
         to = λ e. record {
           stands = made .ready .stands;
-          same = λ changed. idle-still rule backward o (made .ready) before (made .inside) idle changed ∙ ap (workOf (sizeIn g) sets ws) (sym (or-false changed));
+          same = λ changed.
+              idle-still rule backward o (made .ready) before (made .inside) idle changed ∙ ap (workOf (sizeIn g) sets ws) (sym (or-false changed));
           own = setOf (rowsOf sets (sizeIn g)) b;
           rows = sym (set-getD (rowsOf sets (sizeIn g)) b []);
           still = λ t. refl;

@@ -156,7 +156,8 @@ module _ {n : ℕ} {o : List ℕ} (x : Noting n o) {b : ℕ} (inside : b < n) wh
           small = x .small;
           few = rw (l, mark-set n o b inside 1, open-same (marksOf n o) b Active (not-done (let u = unmarked in omega arith)) refl) (x .few);
           high = λ k h m. decide (eqb k b)
-              (λ e. absurd (let same : getD (set o b 1) k 0 ≡ 1 = ap (λ (j : ℕ). getD (set o b 1) j 0) (eqb-true k b e) ∙ getD-set-same o b 1 0 room in omega arith))
+              (λ e. absurd
+              (let same : getD (set o b 1) k 0 ≡ 1 = ap (λ (j : ℕ). getD (set o b 1) j 0) (eqb-true k b e) ∙ getD-set-same o b 1 0 room in omega arith))
               (λ e. let same = getD-set-other o b k 1 0 (eqb-false k b e) in let old = x .high k h (let g = m in omega arith) in omega arith);
           inside = λ i h. let same = entered-block i in let old = x .inside i (omega arith) in omega arith;
           back = λ i h.
@@ -281,7 +282,8 @@ module _ {n : ℕ} {o : List ℕ} (x : Noting n o) {b : ℕ} (inside : b < n) wh
             let below = left-below low in
             ap (stepLeft n (leaving o b)) same ∙ (λ j. record {
               block = left-last j;
-              done = (above-set n (255 - left) behind b (255 - left) inside (let at = behind-at b (omega arith) in let one = active in omega arith) (omega arith)
+              done = (above-set n (255 - left) behind b (255 - left) inside
+                  (let at = behind-at b (omega arith) in let one = active in omega arith) (omega arith)
                   ∙ behind-above (255 - left) ∙ done-now) j;
             })
 

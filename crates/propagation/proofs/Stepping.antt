@@ -68,7 +68,8 @@ module _ (joining : Joining) {g : List ℕ} (backward : Bool) (b : ℕ) (o : Lis
   own-clean : (c : ℕ) → c < sizeIn g → c ≢ b → getD dirty′ c 0 ≡ 0 → Idle (ruleOf joining) g backward o sets′ c
   own-clean c l apart e =
       decide (r .changed)
-      (λ t. clean-elsewhere joining g (ready .both-ways) b inside sets sets′ (to .own) (to .rows) backward o (touched .new t .0) (λ k h. h) (flags .clean) c l apart e)
+      (λ t. clean-elsewhere joining g (ready .both-ways) b inside sets sets′ (to .own) (to .rows) backward o (touched .new t .0) (λ k h. h)
+      (flags .clean) c l apart e)
       (λ t. same-idle (ruleOf joining) g backward o sets sets′ c (to .still t)
       (flags .clean c l (ap (λ (d : List ℕ). getD d c 0) (sym (touched .old t .0)) ∙ e)))
 

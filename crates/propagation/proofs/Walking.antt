@@ -128,7 +128,8 @@ module _ {joining : Joining} {g : List ℕ} {backward later : Bool} {o other₀ 
   walk-over l = record {
     holds = record {
       stands = a .stands;
-      same = sym (ap (λ (steps : List Step). takeSteps (joinIn (ruleOf joining) g backward) steps (workOf (sizeIn g) sets ws c)) (sym (steps-end (sizeIn g) o i l))
+      same = sym (ap (λ (steps : List Step). takeSteps (joinIn (ruleOf joining) g backward) steps (workOf (sizeIn g) sets ws c))
+          (sym (steps-end (sizeIn g) o i l))
           ∙ a .rest);
     };
     flags = a .flags;
@@ -149,13 +150,15 @@ module _ {joining : Joining} {g : List ℕ} {backward later : Bool} {o other₀ 
         (h : Steps (ruleOf joining) g backward o other sets (stepEnd (ruleOf joining) g backward b o sets ws c) r dirty′ other′ sets′ ws′ os′) where
       pub walk-full : r ≡ Full → nodeLimit < length (end .registry)
       walk-full e =
-          let full = steps-full (ruleOf joining) g backward o other sets (stepEnd (ruleOf joining) g backward b o sets ws c) r dirty′ other′ sets′ ws′ os′ h e in
+          let full =
+          steps-full (ruleOf joining) g backward o other sets (stepEnd (ruleOf joining) g backward b o sets ws c) r dirty′ other′ sets′ ws′ os′ h e in
           subst (λ (w : Work). nodeLimit < length (w .registry)) comes
           (lt-of-lt-of-le full (steps-add (ruleOf joining) g backward (stepsFrom (sizeIn g) o (i + 1)) (stepEnd (ruleOf joining) g backward b o sets ws c)))
 
       pub walk-more : (c′ : Bool) → r ≡ Changed c′ → Along joining g backward later o other₀ sets₀ (i + 1) end dirty′ other′ sets′ ws′ os′ c′
       walk-more c′ e =
-          let to = steps-to (ruleOf joining) g backward o other sets (stepEnd (ruleOf joining) g backward b o sets ws c) r dirty′ other′ sets′ ws′ os′ h c′ e in
+          let to =
+          steps-to (ruleOf joining) g backward o other sets (stepEnd (ruleOf joining) g backward b o sets ws c) r dirty′ other′ sets′ ws′ os′ h c′ e in
           record {
             stands = to .holds .stands;
             before = λ t. reduced-rows (sizeIn g) sets′ ws′ c′ (stepEnd (ruleOf joining) g backward b o sets ws c) (to .holds .same)

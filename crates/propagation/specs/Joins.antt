@@ -110,7 +110,8 @@ pub record JoinedTo (rule : JoiningRule) (g : List ℕ) (backward : Bool) (b : �
   pub idle : r .idle ≡ true → Idle rule g backward o sets′ b
 
 -- What a join leaves; or the definition's registry, which has no limit, is beyond the limit.
-pub record Joins (rule : JoiningRule) (g : List ℕ) (backward : Bool) (b : ℕ) (o sets ws : List ℕ) (r : Joined) (sets′ ws′ os′ : List ℕ) : Type 0 where
+pub record Joins (rule : JoiningRule) (g : List ℕ) (backward : Bool) (b : ℕ) (o sets ws : List ℕ) (r : Joined) (sets′ ws′ os′ : List ℕ)
+    : Type 0 where
   pub full : r .full ≡ true → (changed : Bool)
       → nodeLimit < length (joinIn rule g backward b (doneBefore (sizeIn g) o b) (workOf (sizeIn g) sets ws changed) .registry)
   pub to : r .full ≡ false → JoinedTo rule g backward b o sets ws r sets′ ws′ os′
@@ -121,8 +122,8 @@ pub record Flags (rule : JoiningRule) (g : List ℕ) (backward : Bool) (o dirty 
   pub other-long : length other ≡ 128
   pub clean : Clean rule g backward o dirty sets
 
--- A step or a walk that found room: the work that was to be reached, with dirty marks that are right
--- in both directions, whatever order the other one has.
+-- A step or a walk that found room: the work that was to be reached, with dirty marks that are
+-- right in both directions, whatever order the other one has.
 pub record StepsTo (rule : JoiningRule) (g : List ℕ) (backward : Bool) (o other sets : List ℕ) (want : Work) (changed : Bool)
     (dirty′ other′ sets′ ws′ os′ : List ℕ) : Type 0 where
   pub holds : HoldsWork want (sizeIn g) changed sets′ ws′ os′
@@ -131,7 +132,8 @@ pub record StepsTo (rule : JoiningRule) (g : List ℕ) (backward : Bool) (o othe
 
 -- What a step or a walk leaves; or its work has no room. The definition has no limit and goes on to
 -- its end.
-abbrev pub Steps : JoiningRule → List ℕ → Bool → List ℕ → List ℕ → List ℕ → Work → Progress → List ℕ → List ℕ → List ℕ → List ℕ → List ℕ → Type 0
+abbrev pub Steps : JoiningRule → List ℕ → Bool → List ℕ → List ℕ → List ℕ → Work → Progress → List ℕ → List ℕ → List ℕ → List ℕ → List ℕ
+    → Type 0
 Steps rule g backward o other sets want (Changed c) dirty′ other′ sets′ ws′ os′ =
     StepsTo rule g backward o other sets want c dirty′ other′ sets′ ws′ os′
 Steps rule g backward o other sets want Full dirty′ other′ sets′ ws′ os′ = nodeLimit < length (want .registry)

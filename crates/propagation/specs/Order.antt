@@ -20,8 +20,8 @@ abbrev pub inOrder : Bool → ℕ → ℕ → ℕ
 inOrder false n i = i
 inOrder true n i = n - 1 - i
 
--- 0 is an unmarked block, 1 an Active one, any other number a Done one; the code stores 255 less how
--- many were left before it
+-- 0 is an unmarked block, 1 an Active one, any other number a Done one; the code stores 255 less
+-- how many were left before it
 abbrev pub stateOf : ℕ → TraversalState
 stateOf zero = Unmarked
 stateOf (suc zero) = Active

@@ -30,8 +30,8 @@ pub record Orders (rule : JoiningRule) (g forward backward dirty-forward dirty-b
   pub clean-back : Clean rule g true backward dirty-backward sets
 
 -- A round that found room.
-pub record TurnsTo (rule : JoiningRule) (g forward backward : List ℕ) (want : Work) (changed : Bool) (dirty-forward dirty-backward sets ws os : List ℕ)
-    : Type 0 where
+pub record TurnsTo (rule : JoiningRule) (g forward backward : List ℕ) (want : Work) (changed : Bool)
+    (dirty-forward dirty-backward sets ws os : List ℕ) : Type 0 where
   pub holds : HoldsWork want (sizeIn g) changed sets ws os
   pub orders : Orders rule g forward backward dirty-forward dirty-backward sets
 

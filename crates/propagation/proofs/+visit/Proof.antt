@@ -136,7 +136,8 @@ visit-requires t c κs =
 -- the neighbour is the first of those to come
 coming : (t : ℕ) (k : lts.After-k (claims t) (at t) visit.Post Inv-loop μ-loop) → let l = loop-at t k in let a = entry t l .args in
     Along (a .graph .now) (a .backward) (k .k .given .0 .0 ∷ neighboursFrom (a .graph .now) (a .backward) (a .b) (k .k .given .0 .1 .0))
-    (each (visitIn (a .graph .now) (a .backward)) (neighbours (a .graph .now) (a .backward) (a .b)) (notedOf (sizeIn (a .graph .now)) (set (a .order .now) (a .b) 1)))
+    (each (visitIn (a .graph .now) (a .backward)) (neighbours (a .graph .now) (a .backward) (a .b))
+    (notedOf (sizeIn (a .graph .now)) (set (a .order .now) (a .b) 1)))
     (set (a .order .now) (a .b) 1) (l .loop .order)
 coming t k = along-by (next t k .rest) (loop-at t k .loop .inv)
 

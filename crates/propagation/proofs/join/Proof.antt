@@ -1,8 +1,8 @@
--- `join` meets its contract. Where nothing new joins a set that is reduced already, nothing is to be
--- done. Elsewhere what is reduced is the block's set with the intersection, a set of the registry's
--- nodes, so the reduction's answer is the definition's; its set goes into the block's row, and is
--- compared with the block's old one and with what was reduced: where it is that, the set has all
--- that joined it.
+-- `join` meets its contract. Where nothing new joins a set that is reduced already, nothing is to
+-- be done. Elsewhere what is reduced is the block's set with the intersection, a set of the
+-- registry's nodes, so the reduction's answer is the definition's; its set goes into the block's
+-- row, and is compared with the block's old one and with what was reduced: where it is that, the
+-- set has all that joined it.
 use native.Mathlib.Omega.{arith}
 use mathlib.Core.Path.{sym, _∙_}
 use mathlib.Core.Bool.{true}
@@ -62,7 +62,8 @@ returns-3 c =
     let row = c .before .before in
     let room = row .before .before .before in
     let r = room .before in
-    joined-set (made (reduced r)) (r .reduce-maybe-optional-chains .result) _ _ (r .reduce-maybe-optional-chains .ensures) (room .if3 .left) (row .set-row .ensures)
+    joined-set (made (reduced r)) (r .reduce-maybe-optional-chains .result) _ _ (r .reduce-maybe-optional-chains .ensures) (room .if3 .left)
+    (row .set-row .ensures)
     (c .before .same-set2 .result) (c .same-set3 .result) (c .before .same-set2 .ensures) (c .same-set3 .ensures)
 
 pub join-spec : {M : Type 1} → statement M

@@ -17,7 +17,9 @@ returns c = record { new = λ t. never t (not-true _ (c .if1 .taken)); old = λ 
 
 returns-2 : tie.Need-returns-2
 returns-2 c = record {
-  new = λ t. (c .before .before .mark-neighbours .ensures, also-dirty (c .before .before .before .before .before .args .b) (inside c) (c .mark-neighbours2 .ensures));
+  new = λ t.
+      let b = c .before .before .before .before .before .args .b in
+      (c .before .before .mark-neighbours .ensures, also-dirty b (inside c) (c .mark-neighbours2 .ensures));
   old = λ t. never (not-false _ (c .before .before .before .before .if1 .left)) t;
 }
 

@@ -32,7 +32,10 @@ element-copy-out-mark : tie.Need-element-copy-out-mark Inv-loop μ-loop
 element-copy-out-mark c = let few = c .pre .0 .size in let inside = c .pre .2 in omega arith
 
 loop-holds : tie.Need-loop-holds Inv-loop μ-loop
-loop-holds c = let s = c .before in let a = s .args in gathering-start (a .joining) (a .graph .now) (a .backward) (a .b) (a .order .now) (a .places .now) (s .pre .3)
+loop-holds c =
+    let s = c .before in
+    let a = s .args in
+    gathering-start (a .joining) (a .graph .now) (a .backward) (a .b) (a .order .now) (a .places .now) (s .pre .3)
 
 next-neighbour-requires : tie.Need-next-neighbour-requires Inv-loop μ-loop
 next-neighbour-requires c κs = let s = c .before .before in (s .pre .0, s .pre .2)

@@ -1,7 +1,7 @@
 -- `step` meets its contract. A block that is not dirty has all that would join it, and its set is
--- reduced in a later walk, so its join would leave the work as it is. Elsewhere the work is what the
--- join leaves; those that the new set may join are marked, and the block's own mark says whether the
--- same join would leave its set.
+-- reduced in a later walk, so its join would leave the work as it is. Elsewhere the work is what
+-- the join leaves; those that the new set may join are marked, and the block's own mark says
+-- whether the same join would leave its set.
 use native.Mathlib.Omega.{arith}
 use borrow.Author.Needs.{needs}
 use Rattle.model.specs.Tests.{eqb-true}

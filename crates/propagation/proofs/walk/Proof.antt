@@ -66,7 +66,8 @@ returns c =
     let t = c .before .before in
     let n = at-block (t .before) in
     let l = loop-at n in
-    walk-full (l .loop .inv) (entry l .pre .2) (below n) (n .as-number2 .result) (block-is n) (t .step .result) _ _ _ _ _ (t .step .ensures) (c .enum-told .given .1)
+    walk-full (l .loop .inv) (entry l .pre .2) (below n) (n .as-number2 .result) (block-is n) (t .step .result) _ _ _ _ _ (t .step .ensures)
+    (c .enum-told .given .1)
 
 loop-again : tie.Need-loop-again Inv-loop μ-loop
 loop-again c =
