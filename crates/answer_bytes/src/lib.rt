@@ -19,8 +19,8 @@ use writer::put_number;
 // The mark of an answer.
 pub const AN: u64 = 0x4E41;
 
-// The hoistable tree is built for so many candidates. For fewer it takes longer than it saves.
-const FEW: usize = 3;
+// For so many candidates the hoistable tree is built. For fewer that takes longer than it saves.
+const SEVERAL: usize = 3;
 
 // Each candidate from a place on walks, and is added to the dependency tree, whatever its words
 // were. `hoist` may hold the hoistable tree of the scope block's set.
@@ -79,7 +79,7 @@ fn add_candidates(
     ensures { λ _. ⌜ AddsCandidates (now (s .entry)) start count (registryOf (now (ws .entry))) (membersOf (set .words))
         (now (tree .exit)) ⌝ }
 {
-    if FEW <= count {
+    if SEVERAL <= count {
         let mut hoist = [0u64; 513];
         if hoistable::build_tree(&mut hoist, ws, set) {
             walk_candidates(tree, &hoist, s, ws, set, start, count);
