@@ -1,9 +1,9 @@
 -- The levels from a position of the words on: what the tree has there, and the candidate's next
 -- entry.
-use Prim.Native.Nat.{ℕ, zero, suc, _+_, _*_, _-_, _^_, _≤_, _<_}
+use Prim.Native.Nat.{ℕ, zero, suc, _+_, _*_, _-_, _≤_, _<_}
 use native.Mathlib.Omega.{arith}
 use mathlib.Core.Path.{_≡_, refl, sym, ap, subst, _∙_}
-use mathlib.Core.List.{List, [], _∷_, map}
+use mathlib.Core.List.{List, _∷_, map}
 use mathlib.Core.Option.{Option}
 use lib.ListN.{length, getD}
 use Rattle.entries.specs.declared.IdentifierId.{IdentifierId}
@@ -20,8 +20,8 @@ use Rattle.job.proofs.Many.{many-first, many-length}
 use Rattle.laws.specs.Flat as Flat
 use Rattle.laws.specs.FlatSteps.{run, seek, grow-find}
 use Rattle.registry.specs.Words.{registryOf}
-use Rattle.hoistable.specs.Levels.{levelsOf, nonNullLevels, numberOf, weightOf}
-use Rattle.hoistable.specs.Candidate.{entriesOf, entriesAt, Candidate}
+use Rattle.hoistable.specs.Levels.{levelsOf, nonNullLevels, numberOf}
+use Rattle.hoistable.specs.Candidate.{entriesAt, Candidate}
 use Rattle.hoistable.specs.Positions.{accessOf, optionalIn, positionAt, positionsIn, flatOf, numberBelow, foundIn, HoldsTree}
 use Rattle.hoistable.proofs.Walks.{levels-length}
 use Rattle.hoistable.proofs.Numbers.{number-below, weight-most}

@@ -1,15 +1,15 @@
 -- The ways down of paths: one entry more, the first entry's mark, and several paths in their order.
 use Prim.Native.Nat.{ℕ, _+_, _<_}
-use mathlib.Core.Path.{_≡_, refl, sym, ap, subst, _∙_}
-use mathlib.Core.Bool.{Bool, true, false, not, cond}
-use mathlib.Core.List.{List, [], _∷_, _++_, map}
+use mathlib.Core.Path.{_≡_, refl, sym, ap, _∙_}
+use mathlib.Core.Bool.{Bool, false}
+use mathlib.Core.List.{List, [], _∷_, _++_}
 use Rattle.entries.specs.declared.IdentifierId.{IdentifierId}
 use Rattle.entries.specs.declared.NodeId.{NodeId}
 use Rattle.entries.specs.declared.DependencyPathEntry.{DependencyPathEntry}
 use Rattle.entries.specs.declared.HoistableAccessType.{HoistableAccessType}
 use Rattle.entries.specs.declared.HoistableAccessType.the-variants.{NonNull}
 use Rattle.entries.specs.Path.{ReactiveScopeDependency}
-use Rattle.model.specs.Registry.{PropertyPathRegistry, fullPathOf, rootNode}
+use Rattle.model.specs.Registry.{fullPathOf}
 use Rattle.model.specs.RegistryLaws.{Sound}
 use Rattle.model.specs.RegistryLaws as Placed
 use Rattle.model.specs.Forest.{Key, identifierKey, propertyKey}
