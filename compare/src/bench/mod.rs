@@ -9,7 +9,7 @@ use crate::job::limits;
 use crate::library::{Library, Stage};
 use crate::operation::Operation;
 use crate::propagation::Propagation;
-use crate::reader::{UNKNOWN_BLOCK, read_job};
+use crate::reader::read_job;
 use crate::reference;
 use std::hint::black_box;
 use std::time::{Duration, Instant};
@@ -19,7 +19,7 @@ use std::time::{Duration, Instant};
 pub struct Times {
     /// The library's whole call, from the bytes of the job to those of the answer.
     pub library: f64,
-    /// The library's reading of the job, refusals 1 to 8 included.
+    /// The library's reading of the job's records, before it looks at their ids.
     pub library_reading: f64,
     /// The Rust's registry, propagation and tree, and the freeing of what they made.
     pub rust_stage: f64,
@@ -67,7 +67,7 @@ impl Timer {
 
     /// The times of an accepted job.
     pub fn time(&mut self, job: &[u8]) -> Times {
-        let unread = with_unknown_scope(job);
+        let unread = refused_at_the_end(job);
         let (mut least, started) = (Times::NONE, Instant::now());
         for done in 0..self.repeat.max(1) {
             if done > 1 && started.elapsed() > MOST_TIME {
@@ -120,15 +120,14 @@ fn nanoseconds(time: Duration) -> f64 {
     time.as_nanos() as f64
 }
 
-/// The same job with a scope block that is no block of it. It is read to its end, all
-/// its ids are looked at, and then it is refused.
-fn with_unknown_scope(job: &[u8]) -> Vec<u8> {
+/// The same job with a byte more, so that it is refused once it is read to its end. One that has no
+/// room for it has a byte less, and is refused at its last field.
+fn refused_at_the_end(job: &[u8]) -> Vec<u8> {
     let mut bytes = job.to_vec();
-    for scope in (0..=u32::MAX).rev() {
-        bytes[6..10].copy_from_slice(&scope.to_le_bytes());
-        if read_job(&bytes, limits::OUT_BYTES) == Err(UNKNOWN_BLOCK) {
-            break;
-        }
+    if bytes.len() < limits::JOB_BYTES {
+        bytes.push(0);
+    } else {
+        bytes.pop();
     }
     bytes
 }
