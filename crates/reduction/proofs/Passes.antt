@@ -1,13 +1,14 @@
 -- One node of a pass, and the nodes that are left of it.
 use Prim.Native.Nat.{ℕ, _+_, _≤_, _<_}
 use native.Mathlib.Omega.{arith}
+use native.Mathlib.Nat.{le-trans}
 use mathlib.Core.Path.{_≡_, refl, sym, ap, subst, _∙_}
 use mathlib.Core.Bool.{Bool, true, false, _||_, not, cond, or-false, or-true}
 use mathlib.Core.List.{List, [], _∷_}
 use lib.ListN.{length}
 use Rattle.entries.specs.declared.NodeId.{NodeId}
 use Rattle.rows.specs.declared.NodeBits.{NodeBits}
-use Rattle.rows.specs.declared.Next.the-variants.{At}
+use Rattle.rows.specs.declared.Next.the-variants.{At, Nothing}
 use Rattle.rows.specs.Members.{membersOf, membersFrom, firstOf}
 use Rattle.rows.proofs.Ahead.{Ahead, next-at}
 use Rattle.registry.specs.Words.{countIn, registryOf, Held}
@@ -21,7 +22,7 @@ use Rattle.model.specs.RegistryLaws.{Sound, Proper, Extends, extends-length, pa
 use Rattle.model.specs.Reduction.{PassState, reducedMark, reduceNode, reduceNodes, hasOptional, pass}
 use Rattle.model.specs.ReductionLaws.{Members, LeadsBack, node-still, node-extends, nodes-extend}
 use Rattle.reduction.specs.declared.PassSet.{PassSet}
-use Rattle.reduction.specs.Reduces.{passOf, PassesBy, Passes}
+use Rattle.reduction.specs.Reduces.{passOver, NextIs, GoesOn, passOf, PassesBy, Passes}
 
 -- One node.
 
@@ -103,37 +104,55 @@ module _ (ws os snapshot : List ℕ) (set : NodeBits) (held : Held ws os) (membe
     left = ap (reduceNodes (record { registry = registryOf ws; set = membersOf (set .words); changed = false })) marked;
   }
 
+-- The nodes that are passed over before the next one: reducing them changes nothing.
+
+pub record Going (ws : List ℕ) (s : NodeSet) (snapshot : List ℕ) (from k : ℕ) : Type 0 where
+  pub ahead : from ≤ k
+  pub inside : All (λ j. j .0 < countIn ws) (membersFrom snapshot k)
+  pub on : (changed : Bool) → passOver (registryOf ws) s changed (membersFrom snapshot from) ≡ passOver (registryOf ws) s changed (membersFrom snapshot k)
+
+module _ {ws : List ℕ} {s : NodeSet} {snapshot : List ℕ} {from k : ℕ} (g : Going ws s snapshot from k) where
+  pub going-over : (to : ℕ) → k ≤ to → membersFrom snapshot k ≡ membersFrom snapshot to → Going ws s snapshot from to
+  going-over to l e = record {
+    ahead = le-trans (g .ahead) l;
+    inside = subst (All (λ j. j .0 < countIn ws)) e (g .inside);
+    on = λ c. g .on c ∙ ap (passOver (registryOf ws) s c) e;
+  }
+
+  pub going-none : membersFrom snapshot k ≡ [] → GoesOn ws s snapshot from Nothing
+  going-none e c = g .on c ∙ ap (passOver (registryOf ws) s c) e
+
+  module _ (j : NodeId) (next : firstOf (membersFrom snapshot k) ≡ At j) where
+    first : Ahead snapshot k j
+    first = next-at snapshot k j next
+
+    pub going-at : NextIs ws s snapshot from j
+    going-at = let l = first .from in let f = g .ahead in record {
+      ahead = omega arith;
+      below = first .below;
+      inside = subst (All (λ i. i .0 < countIn ws)) (first .rest) (g .inside);
+      on = λ c. g .on c ∙ ap (passOver (registryOf ws) s c) (first .rest);
+    }
+
+    -- a node whose path leads back to it is passed over
+    pub going-back : LeadsBack (registryOf ws) s j → Going ws s snapshot from (j .0 + 1)
+    going-back back = let l = first .from in let f = g .ahead in record {
+      ahead = omega arith;
+      inside = going-at .inside .1;
+      on = λ c. going-at .on c ∙ ap (λ (x : PassState). reduceNodes x (membersFrom snapshot (j .0 + 1)))
+          (node-still (record { registry = registryOf ws; set = s; changed = c }) j back);
+    }
+
 module _ {end : PassState} {snapshot ws os : List ℕ} {r : PassSet} {from : ℕ} (a : Along end snapshot ws os r from) where
-  pub along-end : membersFrom snapshot from ≡ [] → Passes end r ws os
-  along-end none = subst (λ b. PassesBy b end r ws os) (sym (a .room)) (a .held, sym (a .left) ∙ ap (reduceNodes (passOf (registryOf ws) r)) none)
+  pub along-end : GoesOn ws (membersOf (r .set .words)) snapshot from Nothing → Passes end r ws os
+  along-end none = subst (λ b. PassesBy b end r ws os) (sym (a .room)) (a .held, sym (a .left) ∙ none (r .changed))
 
-  module _ (k : NodeId) (next : firstOf (membersFrom snapshot from) ≡ At k) where
-    ahead : Ahead snapshot from k
-    ahead = next-at snapshot from k next
-
+  module _ (k : NodeId) (next : NextIs ws (membersOf (r .set .words)) snapshot from k) where
     abbrev one : PassState
     one = reduceNode (passOf (registryOf ws) r) k
 
     onward : reduceNodes one (membersFrom snapshot (k .0 + 1)) ≡ end
-    onward = sym (ap (reduceNodes (passOf (registryOf ws) r)) (ahead .rest)) ∙ a .left
-
-    all : (k .0 < countIn ws) × All (λ j. j .0 < countIn ws) (membersFrom snapshot (k .0 + 1))
-    all = subst (All (λ j. j .0 < countIn ws)) (ahead .rest) (a .inside)
-
-    pub along-inside : k .0 < countIn ws
-    along-inside = all .0
-
-    pub along-ahead : (from ≤ k .0) × (k .0 < 512)
-    along-ahead = (ahead .from, ahead .below)
-
-    -- a node whose path leads back to it is passed over
-    pub along-still : LeadsBack (registryOf ws) (membersOf (r .set .words)) k → Along end snapshot ws os r (k .0 + 1)
-    along-still back = record {
-      held = a .held;
-      room = a .room;
-      inside = all .1;
-      left = ap (λ (x : PassState). reduceNodes x (membersFrom snapshot (k .0 + 1))) (sym (node-still (passOf (registryOf ws) r) k back)) ∙ onward;
-    }
+    onward = sym (next .on (r .changed)) ∙ a .left
 
     pub along-full : (q : PassSet) (vs ps : List ℕ) → q .full ≡ true → Passes one q vs ps → Passes end q vs ps
     along-full q vs ps e full =
@@ -151,6 +170,6 @@ module _ {end : PassState} {snapshot ws os : List ℕ} {r : PassSet} {from : ℕ
         record {
           held = to .0;
           room = e;
-          inside = all-map (λ j. j .0 < countIn ws) (λ j. j .0 < countIn vs) (λ j l. omega arith) (membersFrom snapshot (k .0 + 1)) (all .1);
+          inside = all-map (λ j. j .0 < countIn ws) (λ j. j .0 < countIn vs) (λ j l. omega arith) (membersFrom snapshot (k .0 + 1)) (next .inside .1);
           left = ap (λ (x : PassState). reduceNodes x (membersFrom snapshot (k .0 + 1))) (sym (to .1)) ∙ onward;
         }

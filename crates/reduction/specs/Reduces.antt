@@ -1,16 +1,19 @@
 -- What a reduction in the words leaves.
-use Prim.Native.Nat.{ℕ, _<_}
+use Prim.Native.Nat.{ℕ, _+_, _≤_, _<_}
 use mathlib.Core.Path.{_≡_}
 use mathlib.Core.Bool.{Bool, true, false}
-use mathlib.Core.List.{List}
+use mathlib.Core.List.{List, [], _∷_}
 use lib.ListN.{length}
 use Rattle.entries.specs.declared.NodeId.{NodeId}
 use Rattle.entries.specs.declared.DependencyPathEntry.{DependencyPathEntry}
-use Rattle.rows.specs.Members.{membersOf}
-use Rattle.registry.specs.Words.{registryOf, Held}
+use Rattle.rows.specs.declared.Next.{Next}
+use Rattle.rows.specs.declared.Next.the-variants.{At, Nothing}
+use Rattle.rows.specs.Members.{membersOf, membersFrom}
+use Rattle.registry.specs.Words.{countIn, registryOf, Held}
 use Rattle.model.specs.Registry.{nodeLimit, PropertyPathRegistry, find, isChildBy, fullPathOf, walkPath}
 use Rattle.model.specs.Sets.{NodeSet, sameNode}
-use Rattle.model.specs.Reduction.{PassState, Reduced, reducedMark}
+use Rattle.model.specs.ListLaws.{All}
+use Rattle.model.specs.Reduction.{PassState, Reduced, reducedMark, reduceNodes}
 use Rattle.model.specs.ReductionLaws.{Members, IsReduced}
 use Rattle.reduction.specs.declared.PassSet.{PassSet}
 use Rattle.reduction.specs.declared.ReducedSet.{ReducedSet}
@@ -23,6 +26,25 @@ pub record ChildAt (reg : PropertyPathRegistry) (p : NodeId) (e : DependencyPath
 -- A node's path, walked again under the marks that the set leaves, leads back to it.
 abbrev pub leadsBack : PropertyPathRegistry → NodeSet → NodeId → Bool
 leadsBack reg s k = sameNode (walkPath (reducedMark s) reg (fullPathOf reg k) .node) k
+
+-- What a pass over the nodes ks makes of a registry and a set, whether or not it has changed the set
+-- before.
+abbrev pub passOver : PropertyPathRegistry → NodeSet → Bool → List NodeId → PassState
+passOver reg s changed ks = reduceNodes (record { registry = reg; set = s; changed = changed }) ks
+
+-- The next node to reduce of the snapshot's nodes from a place on is k: a pass over all of them is
+-- one over k and those behind it.
+pub record NextIs (ws : List ℕ) (s : NodeSet) (snapshot : List ℕ) (from : ℕ) (k : NodeId) : Type 0 where
+  pub ahead : from ≤ k .0
+  pub below : k .0 < 512
+  pub inside : All (λ j. j .0 < countIn ws) (k ∷ membersFrom snapshot (k .0 + 1))
+  pub on : (changed : Bool) → passOver (registryOf ws) s changed (membersFrom snapshot from)
+      ≡ passOver (registryOf ws) s changed (k ∷ membersFrom snapshot (k .0 + 1))
+
+-- The next node to reduce; or there is none, and a pass over them changes nothing.
+abbrev pub GoesOn : List ℕ → NodeSet → List ℕ → ℕ → Next → Type 0
+GoesOn ws s snapshot from (At k) = NextIs ws s snapshot from k
+GoesOn ws s snapshot from Nothing = (changed : Bool) → passOver (registryOf ws) s changed (membersFrom snapshot from) ≡ passOver (registryOf ws) s changed []
 
 -- A set of the registry's nodes is reduced, where that is known.
 abbrev pub KnownReduced : Bool → PropertyPathRegistry → NodeSet → Type 0

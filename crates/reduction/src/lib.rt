@@ -3,12 +3,13 @@
 ghost use mathlib.Core.Path.{_≡_};
 ghost use Prim.Native.Nat.{_≤_, _<_};
 ghost use Rattle.entries.specs.declared.NodeId.{NodeId};
-ghost use Rattle.rows.specs.Members.{membersOf};
+ghost use Rattle.rows.specs.Members.{membersOf, membersFrom};
 ghost use Rattle.registry.specs.Words.{countIn, registryOf, HoldsRegistry, Held, Arrives};
 ghost use Rattle.model.specs.Registry.{fullPathOf, stepFrom, walkPath};
 ghost use Rattle.model.specs.Reduction.{reducedMark, reduceNode, pass, reduceMaybeOptionalChains};
+ghost use Rattle.model.specs.ListLaws.{All};
 ghost use Rattle.model.specs.ReductionLaws.{Members};
-ghost use Rattle.reduction.specs.Reduces.{ChildAt, leadsBack, KnownReduced, passOf, Passes, Reduces};
+ghost use Rattle.reduction.specs.Reduces.{ChildAt, leadsBack, GoesOn, KnownReduced, passOf, Passes, Reduces};
 use entries::DependencyPathEntry;
 use entries::NodeId;
 use registry::Node;
@@ -166,8 +167,34 @@ fn reduce_node(ws: &mut [u64; 1665], optional: &mut [u64; 8], r: PassSet, k: Nod
     }
 }
 
-// The set's nodes with an optional entry, ascending, as they are at the start. One whose path leads
-// back to it is passed over, since walking it again would change nothing and make nothing.
+// The next node of a pass: of the snapshot's nodes from a place on, the first whose path leads
+// elsewhere now. One whose path leads back to it is passed over, since walking it again would
+// change nothing and make nothing. No set is copied for a node that is passed over.
+fn next_to_reduce(ws: &[u64; 1665], set: &[u64; 8], snapshot: NodeBits, from: usize) -> Next
+    requires { ⌜ HoldsRegistry (now ws) × All (λ k. k .0 < countIn (now ws)) (membersFrom (snapshot .words) from) ⌝ }
+    ensures { λ r. ⌜ GoesOn (now (ws .entry)) (membersOf (now (set .entry))) (snapshot .words) from r ⌝ }
+{
+    let mut k = from;
+    while k < 512 {
+        let at = k / 64;
+        let w = snapshot.words[at];
+        let left = w >> (k % 64);
+        if left == 0 {
+            k = (at + 1) * 64;
+        } else {
+            let passed = u64::trailing_zeros(left) as usize;
+            let node = k + passed;
+            if leads_back(ws, set, NodeId(node)) {
+                k = node + 1;
+            } else {
+                return Next::At(NodeId(node));
+            }
+        }
+    }
+    Next::Nothing
+}
+
+// The set's nodes with an optional entry, ascending, as they are at the start.
 fn pass(ws: &mut [u64; 1665], optional: &mut [u64; 8], set: NodeBits) -> PassSet
     requires { ⌜ Held (now ws) (now optional) × Members (registryOf (now ws)) (membersOf (set .words)) ⌝ }
     ensures { λ r. ⌜ Passes (pass (registryOf (now (ws .entry))) (membersOf (set .words))) r (now (ws .exit)) (now (optional .exit)) ⌝ }
@@ -181,19 +208,15 @@ fn pass(ws: &mut [u64; 1665], optional: &mut [u64; 8], set: NodeBits) -> PassSet
     };
     let mut from: usize = 0;
     while from < 512 {
-        let Next::At(k) = snapshot.next(from) else {
+        let so_far = r.set;
+        let Next::At(k) = next_to_reduce(ws, &so_far.words, snapshot, from) else {
             return r;
         };
-        let so_far = r.set;
-        if leads_back(ws, &so_far.words, k) {
-            from = k.0 + 1;
-        } else {
-            r = reduce_node(ws, optional, r, k);
-            if r.full {
-                return r;
-            }
-            from = k.0 + 1;
+        r = reduce_node(ws, optional, r, k);
+        if r.full {
+            return r;
         }
+        from = k.0 + 1;
     }
     r
 }

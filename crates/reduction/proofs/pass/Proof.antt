@@ -1,17 +1,17 @@
 -- The loop's invariant, `Along`: the nodes that are left, reduced from here, give what the pass
--- gives. A node whose path leads back to it changes nothing. The measure is what is left of 512.
+-- gives. Those before the next one to reduce change nothing. The measure is what is left of 512.
 use Prim.Native.Nat.{_-_}
 use native.Mathlib.Omega.{arith}
-use mathlib.Core.Path.{sym, _∙_}
+use mathlib.Core.Path.{sym, subst, ap, _∙_}
 use denote.Ref.{now}
 use borrow.Author.Needs.{needs}
+use Rattle.rows.specs.declared.Next.the-variants.{At, Nothing}
 use Rattle.rows.specs.Members.{membersOf}
-use Rattle.rows.proofs.Ahead.{next-nothing, none-past}
+use Rattle.rows.proofs.Ahead.{none-past}
 use Rattle.registry.specs.Words.{registryOf}
 use Rattle.model.specs.Reduction.{pass}
-use Rattle.model.specs.ReductionLaws.{node-back}
-use Rattle.registry.proofs.View.{registry-length}
-use Rattle.reduction.proofs.Passes.{Along, along-start, along-end, along-inside, along-ahead, along-still, along-full, along-more}
+use Rattle.reduction.specs.Reduces.{passOver, NextIs, GoesOn}
+use Rattle.reduction.proofs.Passes.{Along, along-start, along-end, along-full, along-more}
 use Rattle.reduction.proofs.pass.Statement.{statement}
 use Rattle.reduction.proofs.pass.Tie as tie
 
@@ -26,85 +26,61 @@ loop-holds c =
     let s = c .before .before in
     along-start (now (s .args .ws)) (now (s .args .optional)) (c .intersection .result .words) (s .args .set) (s .pre .0) (s .pre .1) (c .intersection .ensures)
 
+next-to-reduce-requires : tie.Need-next-to-reduce-requires Inv-loop μ-loop
+next-to-reduce-requires c κs =
+    let inv = c .before .before .before .before .before .loop .inv in
+    (record { sized = inv .held .sized; sound = inv .held .sound }, inv .inside)
+
 returns : tie.Need-returns Inv-loop μ-loop
 returns c =
     let n = c .before .before in
-    let l = n .before .before in
-    along-end (l .loop .inv) (next-nothing (l .before .intersection .result .words) (l .loop .from) (sym (n .next .ensures) ∙ c .enum-told .given .1))
+    let l = n .before .before .before .before .before .before in
+    along-end (l .loop .inv)
+    (subst (GoesOn (l .loop .ws) (membersOf (l .loop .r .set .words)) (l .before .intersection .result .words) (l .loop .from)) (c .enum-told .given .1) (n .next-to-reduce .ensures))
 
-leads-back-requires : tie.Need-leads-back-requires Inv-loop μ-loop
-leads-back-requires c κs =
-    let k = c .before .before .before .before .before in
-    let n = k .before .before in
-    let inv = n .before .before .loop .inv in
-    (record { sized = inv .held .sized; sound = inv .held .sound }, along-inside inv _ (sym (n .next .ensures) ∙ k .k .given .1))
+-- the next node to reduce
+next : (c : tie.After-known-told Inv-loop μ-loop) → let n = c .before .before .before in let l = n .before .before .before .before .before .before in
+    NextIs (l .loop .ws) (membersOf (l .loop .r .set .words)) (l .before .intersection .result .words) (l .loop .from) (c .before .k .given .0 .0)
+next c =
+    let n = c .before .before .before in
+    let l = n .before .before .before .before .before .before in
+    subst (GoesOn (l .loop .ws) (membersOf (l .loop .r .set .words)) (l .before .intersection .result .words) (l .loop .from)) (c .before .k .given .1) (n .next-to-reduce .ensures)
+
+reduce-node-requires : tie.Need-reduce-node-requires Inv-loop μ-loop
+reduce-node-requires c κs =
+    let t = c .before .before in
+    let l = t .before .before .before .before .before .before .before .before .before in
+    (l .loop .inv .held, next t .inside .0)
+
+returns-2 : tie.Need-returns-2 Inv-loop μ-loop
+returns-2 c =
+    let r = c .before .reduce-node in
+    let t = c .before .before .before .before in
+    let l = t .before .before .before .before .before .before .before .before .before in
+    along-full (l .loop .inv) _ (next t) (r .result) (r .last .0) (r .last .1 .0) (c .if1 .taken) (r .ensures)
 
 add-from : tie.Need-add-from Inv-loop μ-loop
-add-from c =
-    let k = c .before .before .before .before .before .before .before .before in
-    let n = k .before .before in
-    let a = along-ahead (n .before .before .loop .inv) _ (sym (n .next .ensures) ∙ k .k .given .1) in
-    record { fits = omega arith }
+add-from c = let b = next (c .before .before .before .before .before) .below in record { fits = omega arith }
 
 loop-less : tie.Need-loop-less Inv-loop μ-loop
 loop-less c =
-    let k = c .before .before .before .before .before .before .before .before in
-    let n = k .before .before in
-    let a = along-ahead (n .before .before .loop .inv) _ (sym (n .next .ensures) ∙ k .k .given .1) in
+    let n = next (c .before .before .before .before .before) in
+    let a = n .ahead in
+    let b = n .below in
     omega arith
 
 loop-again : tie.Need-loop-again Inv-loop μ-loop
 loop-again c =
-    let told = c .before in
-    let k = told .before .before .before .before .before .before .before in
-    let n = k .before .before in
-    let l = n .before .before .loop in
-    let size = registry-length (l .ws) in
-    let next = sym (n .next .ensures) ∙ k .k .given .1 in
-    let inside = along-inside (l .inv) _ next in
-    let back = node-back (membersOf (l .r .set .words)) (registryOf (l .ws)) _ (l .inv .held .sound) (omega arith)
-    (sym (told .before .leads-back .ensures) ∙ told .if1 .taken) in
-    along-still (l .inv) _ next back
-
-reduce-node-requires : tie.Need-reduce-node-requires Inv-loop μ-loop
-reduce-node-requires c κs =
-    let k = c .before .before .before .before .before .before .before .before .before in
-    let n = k .before .before in
-    let l = n .before .before in
-    (l .loop .inv .held, along-inside (l .loop .inv) _ (sym (n .next .ensures) ∙ k .k .given .1))
-
-returns-2 : tie.Need-returns-2 Inv-loop μ-loop
-returns-2 c =
-    let k = c .before .before .before .before .before .before .before .before .before .before .before in
-    let n = k .before .before in
-    let l = n .before .before in
-    let r = c .before .reduce-node in
-    along-full (l .loop .inv) _ (sym (n .next .ensures) ∙ k .k .given .1) (r .result) (r .last .0) (r .last .1 .0) (c .if2 .taken) (r .ensures)
-
-add-from-2 : tie.Need-add-from-2 Inv-loop μ-loop
-add-from-2 c =
-    let k = c .before .before .before .before .before .before .before .before .before .before .before .before in
-    let n = k .before .before in
-    let a = along-ahead (n .before .before .loop .inv) _ (sym (n .next .ensures) ∙ k .k .given .1) in
-    record { fits = omega arith }
-
-loop-less-2 : tie.Need-loop-less-2 Inv-loop μ-loop
-loop-less-2 c =
-    let k = c .before .before .before .before .before .before .before .before .before .before .before .before in
-    let n = k .before .before in
-    let a = along-ahead (n .before .before .loop .inv) _ (sym (n .next .ensures) ∙ k .k .given .1) in
-    omega arith
-
-loop-again-2 : tie.Need-loop-again-2 Inv-loop μ-loop
-loop-again-2 c =
-    let k = c .before .before .before .before .before .before .before .before .before .before .before .before in
-    let n = k .before .before in
     let r = c .before .before .reduce-node in
-    along-more (n .before .before .loop .inv) _ (sym (n .next .ensures) ∙ k .k .given .1) (r .result) (r .last .0) (r .last .1 .0)
-    (c .before .if2 .left) (r .ensures)
+    let t = c .before .before .before .before .before in
+    let l = t .before .before .before .before .before .before .before .before .before in
+    along-more (l .loop .inv) _ (next t) (r .result) (r .last .0) (r .last .1 .0) (c .before .if1 .left) (r .ensures)
 
 returns-3 : tie.Need-returns-3 Inv-loop μ-loop
-returns-3 c = let l = c .before in along-end (l .loop .inv) (none-past (l .before .intersection .result .words) (l .loop .from) (c .loop-test .left))
+returns-3 c =
+    let l = c .before in
+    along-end (l .loop .inv) (λ b. ap (passOver (registryOf (l .loop .ws)) (membersOf (l .loop .r .set .words)) b)
+    (none-past (l .before .intersection .result .words) (l .loop .from) (c .loop-test .left)))
 
 pub pass-spec : {M : Type 1} → statement M
 pass-spec =
@@ -114,17 +90,13 @@ pass-spec =
     μ-loop
     (λ c κs. search needs)
     loop-holds
-    (λ c κs. search needs)
+    next-to-reduce-requires
     (λ c. search needs)
     (λ c. search needs)
     returns
-    leads-back-requires
+    reduce-node-requires
+    returns-2
     add-from
     loop-less
     loop-again
-    reduce-node-requires
-    returns-2
-    add-from-2
-    loop-less-2
-    loop-again-2
     returns-3)
