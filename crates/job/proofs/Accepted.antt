@@ -11,17 +11,15 @@ use Rattle.entries.specs.declared.Refusal.the-variants.{RepeatedId, UnknownBloc
 use Rattle.model.specs.ReadingBytes.{got, refused, readMany}
 use Rattle.model.specs.Job.{HD, CA, Header, Job, idsOf, readPath, readBlock, readRecords, hasRepeat, hasUnknown, acceptIds, readJob}
 use Rattle.laws.specs.Fits.{holds-got}
-use Rattle.job.specs.Kept.{notePlace, noteNumber, blockNotes, blockPlaces, blockNumbers, candidatesAt, headOf, keptOf}
+use Rattle.job.specs.Kept.{notePlace, noteNumber, blockNotes, blockPlaces, blockNumbers, blockIds, candidatesAt, headOf, keptOf}
 use Rattle.job.specs.declared.JobHead.{JobHead}
 use Rattle.job.specs.declared.ReadJob.the-variants.{Value}
 use Rattle.job.proofs.Bounds.{blocks-most, candidates-most}
 use Rattle.job.proofs.Many.{many-length, Again, read-again}
 use Rattle.job.proofs.Passing.{not-both, then-got}
-use Rattle.job.proofs.Records.{Parts, parts, answer-value}
+use Rattle.job.proofs.Records.{Parts, parts, job-fields, answer-value}
 use Rattle.job.proofs.Stored.{stored}
-use Rattle.job.specs.Ids.{blockIds}
-use Rattle.job.proofs.Noted.{ids-are}
-use Rattle.job.proofs.Answers.{job-fields, block-count, note-count}
+use Rattle.job.proofs.Noted.{block-count, note-count, ids-are}
 
 -- the job behind an answer, which keeps the lengths of its lists, its scope and the place of its
 -- candidates

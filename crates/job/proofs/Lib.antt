@@ -8,13 +8,10 @@ pub mod Heads
 pub mod Ends
 -- what the functions' proofs cite
 pub mod IdFields
-pub mod IdLists
-pub mod Stamps
 pub mod Stored
 pub mod Records
 pub mod Noted
 pub mod ReadAgain
-pub mod Answers
 -- what later stages go on from
 pub mod Accepted
 pub mod RecordParts

@@ -1,23 +1,18 @@
 -- What was read once can be read again: a block's head and its predecessors, and ids one after the
 -- other.
 use Prim.Native.Nat.{ℕ, _<_, _+_, _-_}
-use mathlib.Core.Path.{_≡_, sym, ap, _∙_}
+use mathlib.Core.Path.{_≡_, sym, _∙_}
 use mathlib.Core.List.{List}
 use native.Mathlib.Omega.{arith}
-use lib.ListN.{length, length-map}
-use Rattle.entries.specs.declared.BlockId.{BlockId}
 use Rattle.entries.specs.declared.Refusal.{Refusal}
-use Rattle.model.specs.ReadingBytes.{Read, got, refused, readMany, readNumber}
+use Rattle.model.specs.ReadingBytes.{got, refused, readMany, readNumber}
 use Rattle.model.specs.Job.{readBlockId, readBlock, blockId}
-use Rattle.laws.specs.Fits.{holds-got}
-use Rattle.job.specs.Passing.{IsRead, notes, noteValue}
+use Rattle.job.specs.Passing.{IsRead}
 use Rattle.job.specs.Head.{readBlockHead}
-use Rattle.job.specs.Ids.{blockIds}
 use Rattle.job.specs.declared.BlockHead.{BlockHead}
 use Rattle.job.proofs.Passing.{not-both, mapped-got, then-got}
 use Rattle.job.proofs.Heads.{block-by-head}
-use Rattle.job.proofs.Many.{many-first, many-length}
-use Rattle.job.proofs.Noted.{numbers-noted}
+use Rattle.job.proofs.Many.{many-first}
 
 -- the head of a block that was read is no refusal
 pub head-again : {B : Type 0} (s : List ℕ) (at : ℕ) {r : Refusal} → IsRead (readBlock 4 s at) → readBlockHead s at ≡ refused r → B
@@ -51,11 +46,3 @@ module _ (s : List ℕ) (n i at : ℕ) (more : i < n) (ids : IsRead (readMany (n
       let z : n - i - 1 ≡ n - (i + 1) = omega arith in
       let p : first .1 ≡ _ = same-place (sym (first .2) ∙ e) in
       rw (← z, ← p) (first .3)
-
--- as many numbers are noted as ids were read
-pub count-again : (s : List ℕ) (n at : ℕ) → IsRead (readMany n readBlockId s at) → length (notes noteValue n (readNumber 4) s at) ≡ n
-count-again s n at ids =
-    let numbers = notes noteValue n (readNumber 4) s at in
-    sym (length-map numbers blockId)
-    ∙ ap length (holds-got (λ all. blockIds numbers ≡ all) (ids .read) (numbers-noted s n at))
-    ∙ many-length readBlockId s n at (ids .read)

@@ -11,7 +11,7 @@ use Rattle.entries.specs.declared.Refusal.{Refusal}
 use Rattle.entries.specs.declared.Refusal.the-variants.{ExtraByte}
 use Rattle.entries.specs.Path.{ReactiveScopeDependency}
 use Rattle.model.specs.ReadingBytes.{Read, got, refused, andThen, readMany}
-use Rattle.model.specs.Job.{HD, CA, Header, Block, Job, readHeader, readBlock, readPath, readRecords}
+use Rattle.model.specs.Job.{HD, CA, Header, Block, Job, readHeader, readBlock, readPath, readRecords, acceptIds, readJob}
 use Rattle.fields.proofs.Reading.{seen}
 use Rattle.job.specs.Answer.{headerOf, gotHeader}
 use Rattle.job.specs.Kept.{candidatesAt, headOf, keptOf, afterHeader, BehindHeader}
@@ -31,6 +31,10 @@ pub records-fields : (s : List ℕ) → readRecords HD 4 s ≡
     cond (eqb next (length s)) (got (record { scope = header .scope; blocks = blocks; candidates = candidates }) next) (refused ExtraByte))))
 unfolding readRecords
 records-fields s = refl
+
+pub job-fields : (s : List ℕ) → readJob HD 4 s ≡ andThen (readRecords HD 4 s) acceptIds
+unfolding readJob
+job-fields s = refl
 
 candidates-place : (s : List ℕ) {h : Header} {b : ℕ} {bs : List Block} {c : ℕ} → readHeader HD s 0 ≡ got h b
     → readMany (h .blocks) (readBlock 4) s b ≡ got bs c → candidatesAt s ≡ c

@@ -1,7 +1,6 @@
 -- What each answer of a record reader says, as the reading of the definitions that it stands for.
-use Rattle.entries.specs.declared.BlockId.{BlockId}
 use Rattle.entries.specs.declared.DependencyPathEntry.{DependencyPathEntry}
-use Rattle.model.specs.ReadingBytes.{Read, got, refused, mapped}
+use Rattle.model.specs.ReadingBytes.{Read, got, refused}
 use Rattle.model.specs.Job as model
 use Rattle.job.specs.declared.ReadEntry.{ReadEntry}
 use Rattle.job.specs.declared.ReadEntry.the-variants as entry
@@ -51,10 +50,6 @@ gotRawHead (rawHead.Refused r) = refused r
 abbrev pub gotBlockHead : ReadBlockHead → Read BlockHead
 gotBlockHead (blockHead.Value x next) = got x next
 gotBlockHead (blockHead.Refused r) = refused r
-
--- What an answer of `block_at` says: the block's id and the place after its paths, or the refusal.
-abbrev pub gotBlockId : ReadBlockHead → Read BlockId
-gotBlockId r = mapped (λ (head : BlockHead). head .id) (gotBlockHead r)
 
 -- The header as the definitions have it.
 abbrev pub headerOf : Header → model.Header

@@ -2,12 +2,12 @@
 -- block.
 use Prim.Native.Nat.{ℕ, _<_}
 use mathlib.Core.Path.{_≡_}
-use mathlib.Core.List.{List}
+use mathlib.Core.List.{List, map}
 use lib.ListN.{length, getD}
-use lib.Seq.{sets}
+use Rattle.entries.specs.declared.BlockId.{BlockId}
 use Rattle.model.specs.ReadingBytes.{Read, got, refused, andThen, readMany}
 use Rattle.model.specs.Answer.{spanWidth}
-use Rattle.model.specs.Job.{HD, Header, Block, Job, readHeader, readBlock, readJob}
+use Rattle.model.specs.Job.{HD, Header, Block, Job, blockId, readHeader, readBlock, readJob}
 use Rattle.job.specs.Passing.{orNone, notes}
 use Rattle.job.specs.Answer.{gotHeader}
 use Rattle.job.specs.declared.ReadHeader.{ReadHeader}
@@ -35,6 +35,10 @@ blockPlaces s = blockNotes notePlace s
 -- The number of each block's id.
 abbrev pub blockNumbers : List ℕ → List ℕ
 blockNumbers s = blockNotes noteNumber s
+
+-- The ids that a list of numbers stands for.
+abbrev pub blockIds : List ℕ → List BlockId
+blockIds ids = map blockId ids
 
 -- the place after a value; of no use where there is none
 abbrev pub placeAfter : {A : Type 0} → Read A → ℕ
@@ -69,13 +73,6 @@ headOf s job = record {
 abbrev pub keptOf : List ℕ → Read Job → ReadJob
 keptOf s (got job end) = Value (headOf s job)
 keptOf s (refused r) = Refused r
-
--- The job in these bytes is answered by what is kept of it, or its refusal. The id of each block,
--- and the place of its record, stand at the front of the two arrays.
-abbrev pub ReadsJob : List ℕ → ReadJob → List ℕ → List ℕ → List ℕ → List ℕ → Type 0
-ReadsJob s answer ids idsAfter places placesAfter =
-    (answer ≡ keptOf s (readJob HD spanWidth s))
-    × ((idsAfter ≡ sets ids 0 (blockNumbers s)) × (placesAfter ≡ sets places 0 (blockPlaces s)))
 
 -- the blocks of the job that the bytes read to; none where they read to no job
 unfoldable pub blocksOf : List ℕ → List Block

@@ -1,11 +1,12 @@
 // A job read through a struct that keeps its bytes together with a position in them. The functions
-// over the structs are thin: each takes its struct apart and leaves the work to functions of `job`,
-// which have the slice and the place as parameters. `read_job`, whose parameters are plain, is the
-// one that others call.
+// over the structs are thin: each takes its struct apart and leaves the work to functions of `job`
+// and `whole_job`, which have the slice and the place as parameters. `read_job`, whose parameters
+// are plain, is the one that others call.
 use job::ReadHeader;
 use job::ReadJob;
 ghost use mathlib.Core.Path.{_≡_};
-ghost use Rattle.job.specs.Kept.{BehindHeader, ReadsJob};
+ghost use Rattle.job.specs.Kept.{BehindHeader};
+ghost use Rattle.whole_job.specs.Reads.{ReadsJob};
 ghost use Rattle.reader.specs.Reads.{ReadsHeader};
 
 // The job's bytes, and the position from which the next record is read.
@@ -51,7 +52,7 @@ impl<'a> AfterHeader<'a> {
         ensures { λ r. ⌜ ReadsJob (now (self .entry .job)) r
             (now (ids .entry)) (now (ids .exit)) (now (places .entry)) (now (places .exit)) ⌝ }
     {
-        job::rest_at(self.job, self.at, self.header, ids, places)
+        whole_job::rest_at(self.job, self.at, self.header, ids, places)
     }
 }
 

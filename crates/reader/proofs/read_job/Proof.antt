@@ -49,7 +49,8 @@ use denote.Triple.Clauses.{Lasts, ensured, lasts}
 use Rattle.job.specs.declared.ReadJob.{ReadJob}
 use Rattle.job.proofs.ReadJob as S
 use Rattle.job.proofs.ReadJob.Laws as S′
-use Rattle.job.specs.Kept.{BehindHeader, ReadsJob}
+use Rattle.job.specs.Kept.{BehindHeader}
+use Rattle.whole_job.specs.Reads.{ReadsJob}
 use Rattle.reader.specs.Reads.{ReadsHeader}
 use Rattle.reader.specs.declared.Reader.{Reader}
 use Rattle.reader.specs.declared.AfterHeader.{AfterHeader}

@@ -1,6 +1,6 @@
 -- `AfterHeader::rest` meets its contract: a walk of its MIR, by hand. The struct is taken apart,
--- and `job::rest_at` is called on the slice, the number, the header and the two arrays. All that
--- the proof knows of `rest_at` is that it meets its contract.
+-- and `whole_job::rest_at` is called on the slice, the number, the header and the two arrays. All
+-- that the proof knows of `rest_at` is that it meets its contract.
 -- The struct is Copy: what it owns is had twice, one copy is kept whole for the exit, and of the
 -- other what the fields own goes to the callee. The two arrays go to the callee for good, at their
 -- own lifetimes, shares and names; what the callee says of their last values is what is had of them
@@ -55,15 +55,16 @@ use Rattle.job.proofs.ReadHeader as E
 use Rattle.job.proofs.ReadHeader.Laws as E′
 use Rattle.job.proofs.ReadJob as S
 use Rattle.job.proofs.ReadJob.Laws as S′
-use Rattle.job.specs.Kept.{BehindHeader, ReadsJob}
+use Rattle.job.specs.Kept.{BehindHeader}
+use Rattle.whole_job.specs.Reads.{ReadsJob}
 use Rattle.reader.specs.declared.AfterHeader.{AfterHeader}
 use Rattle.reader.proofs.Lent.{Ids, Places, ids-slot, places-slot, Gave}
 use Rattle.reader.proofs.AfterHeader as T
 use Rattle.reader.proofs.AfterHeader.Laws as T′
-use Rattle.job.proofs.rest_at as rest-at
-use Rattle.job.proofs.rest_at.Symbol as rest-at-def
-use Rattle.job.proofs.rest_at.Symbol.{name as #job·rest-at}
-use Rattle.job.proofs.rest_at.Met as rest-at-thm
+use Rattle.whole_job.proofs.rest_at as rest-at
+use Rattle.whole_job.proofs.rest_at.Symbol as rest-at-def
+use Rattle.whole_job.proofs.rest_at.Symbol.{name as #whole-job·rest-at}
+use Rattle.whole_job.proofs.rest_at.Met as rest-at-thm
 use Rattle.reader.proofs.AfterHeader.rest.Key.{name as #reader·AfterHeader·rest}
 use Rattle.reader.proofs.AfterHeader.rest as rest
 use Rattle.reader.proofs.AfterHeader.rest.Statement as stated
@@ -170,7 +171,7 @@ module _ {M : Type 1} (𝓤 : URA M) (H : Heap 𝓤) (A : Atoms 𝓤) (W : Given
       (tt, (tt, (tt, tt)))) $ says ! e $
       move ! (1 ∷ []) $ frame ! $ move ! (2 ∷ 1 ∷ []) $ fjoin ! $ frame ! $ done !
 
-  module _ (C : Calls 𝓤 H) (Λ : Loops 𝓤 H) (fm : FmC 𝓤 H (W .laws) C) (known : Triple 𝓤 (C #job·rest-at) (RestAt 𝓤 H A mem run)) where
+  module _ (C : Calls 𝓤 H) (Λ : Loops 𝓤 H) (fm : FmC 𝓤 H (W .laws) C) (known : Triple 𝓤 (C #whole-job·rest-at) (RestAt 𝓤 H A mem run)) where
     walk : Behind → Holds (hasTy (T′.mir (named 0)) mach) × WT mach → Is E.the-row (d .header) (w ∷ [])
         → ent 𝓤 (onEntry 𝓤 H A rest.signature κs (q, (q₁, (q₂, tt))) a at) (WpFn 𝓤 H C Λ code.function (mach ∷ v₁ ∷ v₂ ∷ []) Post)
     walk ok wt hd =
@@ -210,7 +211,7 @@ module _ {M : Type 1} (𝓤 : URA M) (H : Heap 𝓤) (A : Atoms 𝓤) (W : Given
         by ! (exits r u (ws .1 .1 .1 .0) (ws .1 .1 .1 .1 .0) e)))))))))))))))
 
 module _ {M : Type 1} (𝓤 : URA M) (H : Heap 𝓤) (A : Atoms 𝓤) (W : Given 𝓤 H A) (mem : Memory → SProp 𝓤) (run : Routine → Fun 𝓤) (𝓣 : Tables 𝓤 H)
-    (known : Triple 𝓤 (𝓣 .C #job·rest-at) (RestAt 𝓤 H A mem run)) where
+    (known : Triple 𝓤 (𝓣 .C #whole-job·rest-at) (RestAt 𝓤 H A mem run)) where
   rest-walks : Walks 𝓤 H A rest.ended stayed (WpFn 𝓤 H (𝓣 .C) (𝓣 .Λ) code.function) (rest.clauses 𝓤 H A mem run)
   rest-walks = walked 𝓤 H A rest.ended stayed (rest.clauses 𝓤 H A mem run) (WpFn 𝓤 H (𝓣 .C) (𝓣 .Λ) code.function)
       (λ κs. (LL.vals (D κs) (L κs), (ptr-vals, (ptr-vals, tt))))
@@ -233,4 +234,4 @@ rest-spec 𝓤 H 𝓜 𝓖 𝓡 =
     entered 𝓤 H (tripleOf 𝓤 H (𝓖 .A) rest.signature (rest.spec 𝓤 H (𝓖 .A) (𝓜 .mem) (𝓡 .run)))
     (tables 𝓤 H 𝓜 𝓡 code.env .C) (tables 𝓤 H 𝓜 𝓡 code.env .Λ) #reader·AfterHeader·rest code.function (code.unfolded 𝓤 H 𝓜 𝓡)
     (rest-meets 𝓤 H (𝓖 .A) (givenOf 𝓤 H 𝓜 𝓖) (𝓜 .mem) (𝓡 .run) (tablesOf 𝓤 H 𝓜 (tables 𝓤 H 𝓜 𝓡 code.env))
-    (cited 𝓤 H (RestAt 𝓤 H (𝓖 .A) (𝓜 .mem) (𝓡 .run)) 𝓜 𝓡 code.env #job·rest-at rest-at-def.routine code.calls-job·rest-at (rest-at-thm.met 𝓤 H 𝓜 𝓖 𝓡)))
+    (cited 𝓤 H (RestAt 𝓤 H (𝓖 .A) (𝓜 .mem) (𝓡 .run)) 𝓜 𝓡 code.env #whole-job·rest-at rest-at-def.routine code.calls-whole-job·rest-at (rest-at-thm.met 𝓤 H 𝓜 𝓖 𝓡)))
