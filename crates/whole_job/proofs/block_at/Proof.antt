@@ -1,5 +1,5 @@
--- `whole_job::block_at` meets its contract: head, predecessors, raw reads and paths one after the other;
--- the id is known before the rest.
+-- `whole_job::block_at` meets its contract: head, predecessors, raw reads and paths one after the
+-- other; the id is known before the rest.
 use borrow.Author.Needs.{needs}
 use mathlib.Core.Path.{_≡_, refl}
 use mathlib.Core.List.{List}

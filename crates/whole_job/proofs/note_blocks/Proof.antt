@@ -1,5 +1,5 @@
--- `whole_job::note_blocks` meets its contract. The invariant: the rest from here ends where the whole
--- does, and what is noted with what follows from here is the whole.
+-- `whole_job::note_blocks` meets its contract. The invariant: the rest from here ends where the
+-- whole does, and what is noted with what follows from here is the whole.
 use borrow.Author.Needs.{needs}
 use Prim.Native.Nat.{_-_, _≤_}
 use native.Mathlib.Nat.{sub-zero}

@@ -1,5 +1,5 @@
--- `whole_job::records_at` meets its contract: the header that was read, then blocks and candidates one
--- after the other. The laws of `Records` say how far the definition goes.
+-- `whole_job::records_at` meets its contract: the header that was read, then blocks and candidates
+-- one after the other. The laws of `Records` say how far the definition goes.
 use borrow.Author.Needs.{needs}
 use Prim.Native.Nat.{_≤_}
 use mathlib.Core.Path.{sym}

@@ -1,5 +1,5 @@
--- `whole_job::ids::any_repeat` meets its contract, as `contains_from` does: the test passes in the rest
--- from here if it passes in the whole.
+-- `whole_job::ids::any_repeat` meets its contract, as `contains_from` does: the test passes in the
+-- rest from here if it passes in the whole.
 use borrow.Author.Needs.{needs}
 use Prim.Native.Nat.{_-_}
 use mathlib.Core.Path.{_≡_, refl, sym, _∙_}

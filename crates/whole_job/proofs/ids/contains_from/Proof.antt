@@ -1,5 +1,5 @@
--- `whole_job::ids::contains_from` meets its contract. The invariant: the id stands in the rest from here
--- if it stands in the whole.
+-- `whole_job::ids::contains_from` meets its contract. The invariant: the id stands in the rest from
+-- here if it stands in the whole.
 use borrow.Author.Needs.{needs}
 use Prim.Native.Nat.{_-_}
 use mathlib.Core.Path.{_≡_, refl, sym, _∙_}

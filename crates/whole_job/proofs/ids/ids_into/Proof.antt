@@ -1,5 +1,5 @@
--- `whole_job::ids::ids_into` meets its contract. The invariant: what is stored with what follows from
--- here is the whole, and the ids from here on were read. So no id is refused.
+-- `whole_job::ids::ids_into` meets its contract. The invariant: what is stored with what follows
+-- from here is the whole, and the ids from here on were read. So no id is refused.
 use borrow.Author.Needs.{needs}
 use Prim.Native.Nat.{_-_, _≤_}
 use native.Mathlib.Nat.{sub-zero}

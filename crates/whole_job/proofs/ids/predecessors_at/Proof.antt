@@ -1,5 +1,5 @@
--- `whole_job::ids::predecessors_at` meets its contract: the head, which was read before, says how many
--- ids follow it, and they are at most 64.
+-- `whole_job::ids::predecessors_at` meets its contract: the head, which was read before, says how
+-- many ids follow it, and they are at most 64.
 use borrow.Author.Needs.{needs}
 use Prim.Native.Nat.{_≤_}
 use mathlib.Core.Path.{sym}

@@ -1,4 +1,5 @@
--- `whole_job::ids::repeat_at` meets its contract: the front of the array is the list of the predecessors.
+-- `whole_job::ids::repeat_at` meets its contract: the front of the array is the list of the
+-- predecessors.
 use borrow.Author.Needs.{needs}
 use mathlib.Core.Path.{refl}
 use Rattle.whole_job.proofs.Predecessors.{predecessors-stored}

@@ -1,5 +1,5 @@
--- `whole_job::ids::repeat_in` meets its contract, as `contains_from` does: an id stands twice in the rest
--- from here if one does in the whole.
+-- `whole_job::ids::repeat_in` meets its contract, as `contains_from` does: an id stands twice in
+-- the rest from here if one does in the whole.
 use borrow.Author.Needs.{needs}
 use Prim.Native.Nat.{_-_}
 use mathlib.Core.Path.{_≡_, refl, sym, _∙_}

@@ -1,5 +1,5 @@
--- `whole_job::ids::unknown_in` meets its contract, as `contains_from` does: an id of the rest from here
--- is none of the known ones if one of the whole is.
+-- `whole_job::ids::unknown_in` meets its contract, as `contains_from` does: an id of the rest from
+-- here is none of the known ones if one of the whole is.
 use borrow.Author.Needs.{needs}
 use Prim.Native.Nat.{_-_}
 use mathlib.Core.Path.{_≡_, refl, sym, _∙_}
