@@ -67,16 +67,16 @@ walk-levels reg set d l =
 
 pub record Adding (s : List ℕ) (start count : ℕ) (reg : PropertyPathRegistry) (set : NodeSet) (tree : List ℕ) (at left : ℕ) : Type 0 where
   pub held : Held s tree
-  pub room : countIn tree + 17 * left ≤ 1088
+  pub room : countIn tree + 17 * left < length tree
   pub on : (cs : List ReactiveScopeDependency) (end : ℕ) → readMany count (readPath 4 CA) s start ≡ got cs end
       → (rest : List ReactiveScopeDependency) × (readMany left (readPath 4 CA) s at ≡ got rest end)
       × (addAll dependencyKey mergePosition (forestOf s tree) (map (walkCandidate (treeOf reg set)) rest) ≡ dependencyTree (map (fullPathOf reg) set) cs)
 
-pub adding : (s : List ℕ) (start count : ℕ) (reg : PropertyPathRegistry) (set : NodeSet) (tree : List ℕ) → count ≤ 64 → Held s tree
-    → forestOf s tree ≡ empty → countIn tree ≡ 0
+pub adding : (s : List ℕ) (start count : ℕ) (reg : PropertyPathRegistry) (set : NodeSet) (tree : List ℕ) → 17 * count < length tree
+    → Held s tree → forestOf s tree ≡ empty → countIn tree ≡ 0
     → Adding s start count reg set tree start count
 unfolding dependencyTree
-adding s start count reg set tree few held none zero-count = record {
+adding s start count reg set tree room held none zero-count = record {
   held = held;
   room = omega arith;
   on = λ cs end e. (cs, e, ap (λ f. addAll dependencyKey mergePosition f (map (walkCandidate (treeOf reg set)) cs)) none);
@@ -155,9 +155,10 @@ module _ {s : List ℕ} {start count : ℕ} {reg : PropertyPathRegistry} {set : 
       identifier-same = ap (λ (d : ReactiveScopeDependency). d .identifier) (parts .same) ∙ ap (λ (h : PathHead). h .identifier) same-head
 
       pub adding-more : (levels : ℕ) (after : List ℕ) → levels ≡ numberOf
-          (nonNullLevels reg set (head .identifier) (entriesAt (head .entries) s entriesAt′)) → Adds s tree after (at + 2) levels
+          (nonNullLevels reg set (head .identifier) (entriesAt (head .entries) s entriesAt′))
+          → length after ≡ length tree → Adds s tree after (at + 2) levels
           → Adding s start count reg set after (entriesAt′ + 14 * head .entries) (left - 1)
-      adding-more levels after is added = record {
+      adding-more levels after is long added = record {
         held = added .held;
         room = let r = x .room in let f = added .few in omega arith;
         on = λ cs end e.

@@ -1,5 +1,5 @@
 -- The answer over the lent words, and what writing it leaves.
-use Prim.Native.Nat.{ℕ, _≤_}
+use Prim.Native.Nat.{ℕ, _*_, _≤_, _<_}
 use mathlib.Core.Path.{_≡_}
 use mathlib.Core.Bool.{Bool}
 use mathlib.Core.List.{List, _++_, map}
@@ -22,6 +22,12 @@ pub record CandidatesAt (s : List ℕ) (start count : ℕ) : Type 0 where
   pub reads : readMany count (readPath spanWidth CA) s start ≡ got candidates end
   pub few : count ≤ 64
   pub short : end ≤ longestJob
+
+-- The words have room for the dependency tree of these many candidates: 17 positions for each, and
+-- their number.
+pub record TreeRoom (tree : List ℕ) (count : ℕ) : Type 0 where
+  pub long : 17 * count < length tree
+  pub short : length tree ≤ 2048
 
 -- The words hold the dependency tree of the candidates, in the hoistable tree of a set of nodes.
 pub record AddsCandidates (s : List ℕ) (start count : ℕ) (reg : PropertyPathRegistry) (set : NodeSet) (tree : List ℕ) : Type 0 where

@@ -10,7 +10,7 @@ ghost use Rattle.rows.specs.Members.{membersOf};
 ghost use Rattle.registry.specs.Words.{registryOf, HoldsRegistry};
 ghost use Rattle.hoistable.specs.Positions.{MayHoldTree};
 ghost use Rattle.writer.specs.Writes.{Writes};
-ghost use Rattle.answer_bytes.specs.Answers.{CandidatesAt, AddsCandidates, headBytes, WritesAnswer};
+ghost use Rattle.answer_bytes.specs.Answers.{CandidatesAt, TreeRoom, AddsCandidates, headBytes, WritesAnswer};
 use job::ReadPathHead;
 use rows::NodeBits;
 use writer::flag;
@@ -22,10 +22,13 @@ pub const AN: u64 = 0x4E41;
 // For so many candidates the hoistable tree is built. For fewer that takes longer than it saves.
 const SEVERAL: usize = 3;
 
+// For so few nodes it is built in fewer words, which are sooner cleared.
+const FEW_NODES: usize = 64;
+
 // Each candidate from a place on walks, and is added to the dependency tree, whatever its words
 // were. `hoist` may hold the hoistable tree of the scope block's set.
 fn walk_candidates(
-    tree: &mut [u64; 1089],
+    tree: &mut [u64],
     hoist: &[u64],
     s: &[u8],
     ws: &[u64; 1665],
@@ -33,7 +36,7 @@ fn walk_candidates(
     start: usize,
     count: usize,
 )
-    requires { ⌜ (length (now tree) ≡ 1089) × HoldsRegistry (now ws) × Members (registryOf (now ws)) (membersOf (set .words))
+    requires { ⌜ TreeRoom (now tree) count × HoldsRegistry (now ws) × Members (registryOf (now ws)) (membersOf (set .words))
         × CandidatesAt (now s) start count × MayHoldTree (now ws) (now hoist) (membersOf (set .words)) ⌝ }
     ensures { λ _. ⌜ AddsCandidates (now (s .entry)) start count (registryOf (now (ws .entry))) (membersOf (set .words))
         (now (tree .exit)) ⌝ }
@@ -63,31 +66,71 @@ fn walk_candidates(
     }
 }
 
-// The dependency tree of the candidates from a place on, whatever the words were; `set` is the
-// scope block's. Where the words had no room for the hoistable tree, the candidates would walk
-// without it. There is room, since each position has a node of its own, but no proof needs that.
-fn add_candidates(
-    tree: &mut [u64; 1089],
+// They walk with a single word, which is no tree.
+fn walk_without_tree(
+    tree: &mut [u64],
     s: &[u8],
     ws: &[u64; 1665],
     set: NodeBits,
     start: usize,
     count: usize,
 )
-    requires { ⌜ (length (now tree) ≡ 1089) × HoldsRegistry (now ws) × Members (registryOf (now ws)) (membersOf (set .words))
+    requires { ⌜ TreeRoom (now tree) count × HoldsRegistry (now ws) × Members (registryOf (now ws)) (membersOf (set .words))
         × CandidatesAt (now s) start count ⌝ }
     ensures { λ _. ⌜ AddsCandidates (now (s .entry)) start count (registryOf (now (ws .entry))) (membersOf (set .words))
         (now (tree .exit)) ⌝ }
 {
-    if SEVERAL <= count {
-        let mut hoist = [0u64; 513];
-        if hoistable::build_tree(&mut hoist, ws, set) {
-            walk_candidates(tree, &hoist, s, ws, set, start, count);
-            return;
-        }
-    }
     let none = [0u64; 1];
     walk_candidates(tree, &none, s, ws, set, start, count);
+}
+
+// They walk with the hoistable tree, built in words that are lent, or without it where these have
+// no room for it. They have, since each position has a node of its own, but no proof needs that.
+fn walk_with_tree(
+    tree: &mut [u64],
+    hoist: &mut [u64],
+    s: &[u8],
+    ws: &[u64; 1665],
+    set: NodeBits,
+    start: usize,
+    count: usize,
+)
+    requires { ⌜ TreeRoom (now tree) count × HoldsRegistry (now ws) × Members (registryOf (now ws)) (membersOf (set .words))
+        × CandidatesAt (now s) start count × (0 < length (now hoist)) × (length (now hoist) ≤ 513) ⌝ }
+    ensures { λ _. ⌜ AddsCandidates (now (s .entry)) start count (registryOf (now (ws .entry))) (membersOf (set .words))
+        (now (tree .exit)) ⌝ }
+{
+    if hoistable::build_tree(hoist, ws, set) {
+        walk_candidates(tree, hoist, s, ws, set, start, count);
+    } else {
+        walk_without_tree(tree, s, ws, set, start, count);
+    }
+}
+
+// The dependency tree of the candidates from a place on, whatever the words were; `set` is the
+// scope block's.
+fn add_candidates(
+    tree: &mut [u64],
+    s: &[u8],
+    ws: &[u64; 1665],
+    set: NodeBits,
+    start: usize,
+    count: usize,
+)
+    requires { ⌜ TreeRoom (now tree) count × HoldsRegistry (now ws) × Members (registryOf (now ws)) (membersOf (set .words))
+        × CandidatesAt (now s) start count ⌝ }
+    ensures { λ _. ⌜ AddsCandidates (now (s .entry)) start count (registryOf (now (ws .entry))) (membersOf (set .words))
+        (now (tree .exit)) ⌝ }
+{
+    if count < SEVERAL {
+        walk_without_tree(tree, s, ws, set, start, count);
+    } else if registry::count(ws) <= FEW_NODES {
+        let mut hoist = [0u64; 65];
+        walk_with_tree(tree, &mut hoist, s, ws, set, start, count);
+    } else {
+        let mut hoist = [0u64; 513];
+        walk_with_tree(tree, &mut hoist, s, ws, set, start, count);
+    }
 }
 
 // What stands before the returned paths.
@@ -102,8 +145,9 @@ fn put_head(out: &mut [u8], count: usize, rounds: u8, settled: bool) -> usize
 }
 
 // The whole answer, from the buffer's start on. The head is written last, since it has the number
-// of returned paths.
+// of returned paths. `tree` is lent for the dependency tree, whatever its words are.
 pub fn put_answer(
+    tree: &mut [u64],
     s: &[u8],
     ws: &[u64; 1665],
     set: NodeBits,
@@ -113,14 +157,13 @@ pub fn put_answer(
     settled: bool,
     out: &mut [u8],
 ) -> usize
-    requires { ⌜ HoldsRegistry (now ws) × Members (registryOf (now ws)) (membersOf (set .words)) × CandidatesAt (now s) start count
-        × (leastBuffer ≤ length (now out)) ⌝ }
+    requires { ⌜ TreeRoom (now tree) count × HoldsRegistry (now ws) × Members (registryOf (now ws)) (membersOf (set .words))
+        × CandidatesAt (now s) start count × (leastBuffer ≤ length (now out)) ⌝ }
     ensures { λ r. ⌜ WritesAnswer (now (s .entry)) start count (registryOf (now (ws .entry)))
         (membersOf (set .words)) rounds settled (now (out .entry)) (now (out .exit)) r ⌝ }
 {
-    let mut tree = [0u64; 1089];
-    add_candidates(&mut tree, s, ws, set, start, count);
-    let written = tree::derive_minimal_dependencies(&tree, s, out, 6);
+    add_candidates(tree, s, ws, set, start, count);
+    let written = tree::derive_minimal_dependencies(tree, s, out, 6);
     put_head(out, written.count, rounds, settled);
     written.at
 }

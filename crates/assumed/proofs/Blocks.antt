@@ -18,7 +18,7 @@ use Rattle.model.specs.PropagationLaws.{paths-longer}
 use Rattle.registry.specs.Words.{registryOf, Held}
 use Rattle.registry.proofs.View.{registry-length}
 use Rattle.rows.specs.Members.{membersOf}
-use Rattle.rows.specs.Rows.{Lent, RowSet, rowOf, rowsFrom, rowsOf}
+use Rattle.rows.specs.Rows.{RowSet, rowOf, rowsFrom, rowsOf}
 use Rattle.rows.proofs.Rows.{row-at, rows-count}
 use Rattle.job.specs.Kept.{blocksOf, PlacedJob}
 use Rattle.job.specs.Passing.{IsRead}
@@ -79,20 +79,21 @@ one-more front more made e reg s madeHere bs cs is stored same =
     ∙ ap (λ bs. after more (made + madeHere) (enterBlocks reg bs)) same
 
 -- The blocks that are left start, after the sets before them, what is wanted, and what was made for
--- those before is among the nodes.
-pub record Starting (bs : List Block) (n : ℕ) (ws os sets : List ℕ) (made b : ℕ) : Type 0 where
+-- those before is among the nodes. There is as much room for sets as at the start.
+pub record Starting (bs : List Block) (n room : ℕ) (ws os sets : List ℕ) (made b : ℕ) : Type 0 where
   pub held : Held ws os
   pub among : made ≤ length (registryOf ws)
-  pub lent : Lent sets
+  pub long : length sets ≡ room
   pub below : b ≤ n
   pub same : startOf bs ≡ after (rowsOf sets b) made (enterBlocks (registryOf ws) (drop b bs))
 
-pub starting : (bs : List Block) (n : ℕ) (ws os sets : List ℕ) → Held ws os → registryOf ws ≡ [] → Lent sets → Starting bs n ws os sets 0 0
+pub starting : (bs : List Block) (n : ℕ) (ws os sets : List ℕ) → Held ws os → registryOf ws ≡ []
+    → Starting bs n (length sets) ws os sets 0 0
 unfolding rowsOf
-starting bs n ws os sets held none lent = record {
+starting bs n ws os sets held none = record {
   held = held;
   among = omega arith;
-  lent = lent;
+  long = refl;
   below = omega arith;
   same =
       ap (λ reg. enterBlocks reg bs) (sym none)
@@ -100,7 +101,7 @@ starting bs n ws os sets held none lent = record {
 }
 
 -- what was made is among the nodes, for which the words have room
-pub starting-few : {bs : List Block} {n : ℕ} {ws os sets : List ℕ} {made b : ℕ} → Starting bs n ws os sets made b → made ≤ 512
+pub starting-few : {bs : List Block} {n room : ℕ} {ws os sets : List ℕ} {made b : ℕ} → Starting bs n room ws os sets made b → made ≤ 512
 starting-few {ws = ws} x = let size = registry-length ws in let room = x .held .sized .room in let among = x .among in omega arith
 
 module _ {s : List ℕ} {n : ℕ} {places : List ℕ} (job : PlacedJob s n places) where
@@ -110,7 +111,7 @@ module _ {s : List ℕ} {n : ℕ} {places : List ℕ} (job : PlacedJob s n place
   pub block-read : (b : ℕ) → b < n → IsRead (readBlock 4 s (getD places b 0))
   block-read b l = let t = block-there (job .job) (job .blocks) b l in record { value = t .0; next = t .1; read = t .2 }
 
-  module _ {ws os sets : List ℕ} {made b : ℕ} (x : Starting (blocksOf s) n ws os sets made b) where
+  module _ {room : ℕ} {ws os sets : List ℕ} {made b : ℕ} (x : Starting (blocksOf s) n room ws os sets made b) where
     all-entered : n ≤ b → startOf (blocksOf s) ≡ record { registry = registryOf ws; sets = rowsOf sets n; made = made }
     unfolding enterBlocks
     all-entered none =
@@ -121,10 +122,15 @@ module _ {s : List ℕ} {n : ℕ} {places : List ℕ} (job : PlacedJob s n place
         x .same ∙ ap (λ bs. after (rowsOf sets b) made (enterBlocks (registryOf ws) bs)) gone
         ∙ (λ i. record { registry = registryOf ws; sets = rows i; made = add-zero made i })
 
-    pub starting-end : n ≤ b → StartHeld (startOf (blocksOf s)) n ws os sets × (made ≡ startOf (blocksOf s) .made)
-    starting-end none =
+    pub starting-end : n * 8 ≤ room → n ≤ b → StartHeld (startOf (blocksOf s)) n ws os sets × (made ≡ startOf (blocksOf s) .made)
+    starting-end enough none =
         let is = all-entered none in (
-          record { held = x .held; lent = x .lent; registry = ap (λ (st : Started). st .registry) is; sets = ap (λ (st : Started). st .sets) is },
+          record {
+            held = x .held;
+            lent = rw (x .long) enough;
+            registry = ap (λ (st : Started). st .registry) is;
+            sets = ap (λ (st : Started). st .sets) is;
+          },
           sym (ap (λ (st : Started). st .made) is),
         )
 
@@ -154,7 +160,7 @@ module _ {s : List ℕ} {n : ℕ} {places : List ℕ} (job : PlacedJob s n place
           subst (λ (st : Started). nodeLimit < length (st .registry)) (sym (t .1)) (omega arith)
 
       pub starting-more : r .full ≡ false → (more : List ℕ) → RowSet sets more b (membersOf (r .set .words))
-          → Starting (blocksOf s) n us ps more (made + r .made) (b + 1)
+          → Starting (blocksOf s) n room us ps more (made + r .made) (b + 1)
       unfolding enterBlocks
       starting-more e more stored =
           let t = next-block in
@@ -165,7 +171,7 @@ module _ {s : List ℕ} {n : ℕ} {places : List ℕ} (job : PlacedJob s n place
           record {
             held = is .0;
             among = let so-far = x .among in omega arith;
-            lent = stored .lent;
+            long = stored .long ∙ x .long;
             below = omega arith;
             same =
                 t .1

@@ -77,7 +77,7 @@ EntersAll (refused x) start r ws os = ⊥
 -- The words hold the registry, and the first n rows the sets, with which propagation starts.
 pub record StartHeld (want : stage.Started) (n : ℕ) (ws os rows : List ℕ) : Type 0 where
   pub held : Held ws os
-  pub lent : Lent rows
+  pub lent : Lent n rows
   pub registry : want .registry ≡ registryOf ws
   pub sets : want .sets ≡ rowsOf rows n
 

@@ -203,9 +203,9 @@ pub fn enter_blocks(
     blocks: usize,
     ws: &mut [u64; 1665],
     optional: &mut [u64; 8],
-    sets: &mut [u64; 1024],
+    sets: &mut [u64],
 ) -> BlocksEntered
-    requires { ⌜ PlacedJob (now s) blocks (now places) × (blocks ≤ 128) × HoldsNone (now ws) (now optional) × Lent (now sets) ⌝ }
+    requires { ⌜ PlacedJob (now s) blocks (now places) × (blocks ≤ 128) × HoldsNone (now ws) (now optional) × Lent blocks (now sets) ⌝ }
     ensures { λ r. ⌜ Starts (startOf (blocksOf (now (s .entry)))) blocks r (now (ws .exit)) (now (optional .exit))
         (now (sets .exit)) ⌝ }
 {

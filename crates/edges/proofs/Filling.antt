@@ -1,5 +1,5 @@
 -- Rows of predecessors, one block after the other: a row that is stored leaves the rows before it
--- and all behind the rows as they were.
+-- and all between the degrees and the rows as they were.
 use Prim.Native.Nat.{ℕ, zero, suc, _+_, _*_, _≤_, _<_}
 use native.Mathlib.Omega.{arith}
 use native.Mathlib.Decide.{ℕ-discrete}
@@ -16,7 +16,7 @@ use Rattle.job.specs.declared.BlockHead.{BlockHead}
 use Rattle.laws.specs.Fits.{HoldsIfRead}
 use Rattle.job.proofs.Bounds.{predecessors-most}
 use Rattle.job.proofs.Noting.{notes-few}
-use Rattle.graph.specs.Bytes.{degreeIn, predecessorIn}
+use Rattle.graph.specs.Bytes.{degreeIn, predecessorIn, RoomFor}
 use Rattle.edges.specs.Rows.{idsNoted, placeAmong, placesNoted, rowAt, withRow, RowsFilled}
 
 -- An element outside of a list that is stored, and one of it.
@@ -50,42 +50,59 @@ row-few s at ids n = few-of 64 (readBlockHead s at) _ (predecessors-most s at)
 
 -- One row more.
 
-module _ (g : List ℕ) (b : ℕ) (row : List ℕ) (long : length g ≡ 10497) (below : b < 128) (few : length row ≤ 64) where
-  wide : length (sets g (b * 64) row) ≡ 10497
-  wide = length-sets g (b * 64) row ∙ long
+module _ (g : List ℕ) (b : ℕ) (row : List ℕ) (room : RoomFor (b + 1) g) (below : b < 128) (few : length row ≤ 64) where
+  wide : length (sets g (2305 + b * 64) row) ≡ length g
+  wide = length-sets g (2305 + b * 64) row
 
-  pub with-long : length (withRow g b row) ≡ 10497
-  with-long = length-set (sets g (b * 64) row) (8192 + b) (length row) ∙ wide
+  pub with-long : length (withRow g b row) ≡ length g
+  with-long = length-set (sets g (2305 + b * 64) row) (1 + b) (length row) ∙ wide
 
   pub with-degree : degreeIn (withRow g b row) b ≡ length row
-  with-degree = getD-set-same (sets g (b * 64) row) (8192 + b) (length row) 0 (let w = wide in omega arith)
+  with-degree = getD-set-same (sets g (2305 + b * 64) row) (1 + b) (length row) 0 (let w = wide in omega arith)
 
   pub with-predecessor : (i : ℕ) → i < length row → predecessorIn (withRow g b row) b i ≡ getD row i 0
   with-predecessor i h =
-      getD-set-other (sets g (b * 64) row) (8192 + b) (b * 64 + i) (length row) 0 (λ e. omega arith)
-      ∙ sets-inside row g (b * 64) i (omega arith) h
+      getD-set-other (sets g (2305 + b * 64) row) (1 + b) (2305 + b * 64 + i) (length row) 0 (λ e. omega arith)
+      ∙ sets-inside row g (2305 + b * 64) i (omega arith) h
 
-  pub with-other : (k : ℕ) → (k < b * 64) ⊎ (b * 64 + 64 ≤ k) → (k ≡ 8192 + b → ⊥) → getD (withRow g b row) k 0 ≡ getD g k 0
-  with-other k (inl h) n = getD-set-other (sets g (b * 64) row) (8192 + b) k (length row) 0 n ∙ sets-outside row g (b * 64) k (inl h)
-  with-other k (inr h) n = getD-set-other (sets g (b * 64) row) (8192 + b) k (length row) 0 n ∙ sets-outside row g (b * 64) k (inr (omega arith))
+  pub with-other : (k : ℕ) → (k < 2305 + b * 64) ⊎ (2305 + b * 64 + 64 ≤ k) → (k ≡ 1 + b → ⊥) → getD (withRow g b row) k 0 ≡ getD g k 0
+  with-other k (inl h) n =
+      getD-set-other (sets g (2305 + b * 64) row) (1 + b) k (length row) 0 n ∙ sets-outside row g (2305 + b * 64) k (inl h)
+  with-other k (inr h) n =
+      getD-set-other (sets g (2305 + b * 64) row) (1 + b) k (length row) 0 n ∙ sets-outside row g (2305 + b * 64) k (inr (omega arith))
 
 -- The rows so far.
 
-pub no-rows : (rows : ℕ → List ℕ) (g : List ℕ) → length g ≡ 10497 → RowsFilled rows 0 g g
-no-rows rows g long = record { long = long; degree = λ b l. absurd (omega arith); predecessor = λ b i l h. absurd (omega arith); behind = λ k h. refl }
+pub no-rows : (rows : ℕ → List ℕ) (g : List ℕ) → RowsFilled rows 0 g g
+no-rows rows g = record {
+  long = refl;
+  degree = λ b l. absurd (omega arith);
+  predecessor = λ b i l h. absurd (omega arith);
+  between = λ k h l. refl;
+}
 
-pub one-row : (rows : ℕ → List ℕ) (b : ℕ) (g h k : List ℕ) → b < 128 → ((c : ℕ) → length (rows c) ≤ 64) → RowsFilled rows b g h → k ≡ withRow h b
-    (rows b) → RowsFilled rows (b + 1) g k
-one-row rows b g h k below few x stored = subst (λ (l : List ℕ). RowsFilled rows (b + 1) g l) (sym stored) (record {
-  long = with-long h b (rows b) (x .long) below (few b);
-  degree = λ c l. elim (ℕ-discrete c b) [
-    | yes e ↦ rw e (with-degree h b (rows b) (x .long) below (few b))
-    | no n ↦ with-other h b (rows b) (x .long) below (few b) (8192 + c) (inr (omega arith)) (λ e. n (omega arith)) ∙ x .degree c (omega (arith, n))
-  ];
-  predecessor = λ c i l m. elim (ℕ-discrete c b) [
-    | yes e ↦ rw e (with-predecessor h b (rows b) (x .long) below (few b) i (subst (λ d. i < length (rows d)) e m))
-    | no n ↦ (let most = few c in let less : c < b = omega (arith, n) in with-other h b (rows b) (x .long) below (few b) (c * 64 + i)
-        (inl (omega arith)) (λ e. omega arith) ∙ x .predecessor c i less m)
-  ];
-  behind = λ p l. with-other h b (rows b) (x .long) below (few b) p (inr (omega arith)) (λ e. omega arith) ∙ x .behind p l;
-})
+module _ (rows : ℕ → List ℕ) (b : ℕ) (g h : List ℕ) (below : b < 128) (room : RoomFor (b + 1) g) (few : (c : ℕ) → length (rows c) ≤ 64)
+    (x : RowsFilled rows b g h) where
+  room-left : RoomFor (b + 1) h
+  room-left = let long = x .long in omega arith
+
+  row-other : (k : ℕ) → (k < 2305 + b * 64) ⊎ (2305 + b * 64 + 64 ≤ k) → (k ≡ 1 + b → ⊥) → getD (withRow h b (rows b)) k 0 ≡ getD h k 0
+  row-other = with-other h b (rows b) room-left below (few b)
+
+  pub one-row : (k : List ℕ) → k ≡ withRow h b (rows b) → RowsFilled rows (b + 1) g k
+  one-row k stored = subst (λ (l : List ℕ). RowsFilled rows (b + 1) g l) (sym stored) (record {
+    long = with-long h b (rows b) room-left below (few b) ∙ x .long;
+    degree = λ c l. elim (ℕ-discrete c b) [
+      | yes e ↦ rw e (with-degree h b (rows b) room-left below (few b))
+      | no n ↦ row-other (1 + c) (inl (omega arith)) (λ e. n (omega arith)) ∙ x .degree c (omega (arith, n))
+    ];
+    predecessor = λ c i l m. elim (ℕ-discrete c b) [
+      | yes e ↦ rw e (with-predecessor h b (rows b) room-left below (few b) i (subst (λ d. i < length (rows d)) e m))
+      | no n ↦ (
+          let most = few c in
+          let less : c < b = omega (arith, n) in
+          row-other (2305 + c * 64 + i) (inl (omega arith)) (λ e. omega arith)
+          ∙ x .predecessor c i less m)
+    ];
+    between = λ p a l. row-other p (inl (omega arith)) (λ e. omega arith) ∙ x .between p a l;
+  })

@@ -7,7 +7,7 @@ use mathlib.Core.Path.{_≡_, refl, sym, ap, subst, _∙_}
 use mathlib.Core.Logic.{_⊎_, inl, inr}
 use mathlib.Core.Bool.{Bool, true, false, _&&_, _||_}
 use mathlib.Core.List.{List, [], _∷_, map}
-use lib.ListN.{length, getD, set}
+use lib.ListN.{length, getD, set, length-set}
 use lib.Seq.{getD-set-same, getD-set-other}
 use lib.Dec.{eqb, leb, ltb, le→leb, leb→le, lt→ltb}
 use Rattle.model.specs.Lists.{select, anyOf}
@@ -16,11 +16,12 @@ use Rattle.model.specs.Tests.{decide, passes-test, test-passes, and-first}
 use Rattle.model.specs.Rounds.{placesFrom}
 use Rattle.rows.specs.Members.{bit}
 use Rattle.rows.proofs.Words.{zero-bit}
-use Rattle.graph.specs.Bytes.{sizeIn, degreeIn, predecessorIn, blockOfRank, isSuccessor, predecessorsFrom, successorsFrom}
+use Rattle.graph.specs.Bytes.{sizeIn, degreeIn, predecessorIn, blockOfRank, isSuccessor, predecessorsFrom, successorsFrom, RoomFor}
 use Rattle.graph.proofs.Neighbours.{none-among}
 use Rattle.edges.specs.Rows.{RowsFilled}
 use Rattle.edges.specs.Order.{orderFrom, Ordered}
 use Rattle.edges.specs.Successors.{RankFits, RanksFit, namesAsPredecessor, AllMarked}
+use Rattle.edges.specs.Fills.{Blank}
 use Rattle.edges.proofs.Ordering.{order-more, map-same}
 
 -- Lists by place.
@@ -55,15 +56,15 @@ order-at P g (suc d) first r e l a = order-at P g d (first + 1) r (omega arith) 
 
 module _ (rows : ℕ → List ℕ) (n : ℕ) (order g₀ g₁ g₂ : List ℕ) (most : n ≤ 128) (few : (b : ℕ) → length (rows b) ≤ 64)
     (small : (b i : ℕ) → b < n → getD (rows b) i 0 < 128)
-    (x₁ : RowsFilled rows n g₀ g₁) (x₂ : Ordered g₁ g₂ (128 - n) order) (inside : All (λ j. j < n) order) where
+    (x₁ : RowsFilled rows n g₀ g₁) (x₂ : Ordered g₁ g₂ (128 - n) order) (blank : Blank n g₀) (inside : All (λ j. j < n) order) where
   pub ranked-inside : (r : ℕ) → 128 - n ≤ r → r < 128 → blockOfRank g₂ r < n
   ranked-inside r from r< = order-at (λ j. j < n) g₂ (r - (128 - n)) (128 - n) r (omega arith) r< (subst (All (λ j. j < n)) (sym (x₂ .ranks)) inside)
 
   degree₂ : (b : ℕ) → b < n → degreeIn g₂ b ≡ length (rows b)
-  degree₂ b l = x₂ .outside (8192 + b) (inl (omega arith)) ∙ x₁ .degree b l
+  degree₂ b l = x₂ .outside (1 + b) (inl (omega arith)) ∙ x₁ .degree b l
 
   predecessor₂ : (b i : ℕ) → b < n → i < length (rows b) → predecessorIn g₂ b i ≡ getD (rows b) i 0
-  predecessor₂ b i l h = let f = few b in x₂ .outside (b * 64 + i) (inl (omega arith)) ∙ x₁ .predecessor b i l h
+  predecessor₂ b i l h = let f = few b in x₂ .outside (2305 + b * 64 + i) (inr (omega arith)) ∙ x₁ .predecessor b i l h
 
   pub ranks-fit : RanksFit g₂ n
   ranks-fit r from r< =
@@ -71,30 +72,37 @@ module _ (rows : ℕ → List ℕ) (n : ℕ) (order g₀ g₁ g₂ : List ℕ) (
       let f = few (blockOfRank g₂ r) in
       let d = degree₂ (blockOfRank g₂ r) l in
       record {
-        long = x₂ .long;
+        room = let a = x₁ .long in let b = x₂ .long in let w = blank .room in omega arith;
         block = omega arith;
         degree = omega arith;
         predecessor = λ i h. rw (predecessor₂ (blockOfRank g₂ r) i l (omega arith)) (small (blockOfRank g₂ r) i l);
       }
 
-  module _ (g₃ : List ℕ) (zeros : (p : ℕ) → 8448 ≤ p → getD g₀ p 0 ≡ 0) (x₃ : AllMarked g₂ g₃ (128 - n) 128) where
+  module _ (g₃ : List ℕ) (x₃ : AllMarked g₂ g₃ (128 - n) 128) where
     abbrev g : List ℕ
-    g = set g₃ 10496 n
+    g = set g₃ 0 n
 
-    before : (p : ℕ) → p < 8448 → getD g p 0 ≡ getD g₂ p 0
-    before p l = getD-set-other g₃ 10496 p n 0 (λ e. omega arith) ∙ x₃ .outside p (inl l)
+    -- the bytes outside the successors' part, behind the size
+    before : (p : ℕ) → 0 < p → (p < 257) ⊎ (2305 ≤ p) → getD g p 0 ≡ getD g₂ p 0
+    before p l o = getD-set-other g₃ 0 p n 0 (λ e. omega arith) ∙ x₃ .outside p o
+
+    length-is : length g₃ ≡ length g₀
+    length-is = x₃ .long ∙ x₂ .long ∙ x₁ .long
 
     pub size-is : sizeIn g ≡ n
-    size-is = getD-set-same g₃ 10496 n 0 (let l = x₃ .long in omega arith)
+    size-is = getD-set-same g₃ 0 n 0 (let l = length-is in let w = blank .room in omega arith)
+
+    pub room-is : RoomFor (sizeIn g) g
+    room-is = let l = length-is in let w = blank .room in rw size-is (simp length-set (omega arith))
 
     pub degree-is : (b : ℕ) → b < n → degreeIn g b ≡ length (rows b)
-    degree-is b l = before (8192 + b) (omega arith) ∙ degree₂ b l
+    degree-is b l = before (1 + b) (omega arith) (inl (omega arith)) ∙ degree₂ b l
 
     pub predecessor-is : (b i : ℕ) → b < n → i < length (rows b) → predecessorIn g b i ≡ getD (rows b) i 0
-    predecessor-is b i l h = let f = few b in before (b * 64 + i) (omega arith) ∙ predecessor₂ b i l h
+    predecessor-is b i l h = let f = few b in before (2305 + b * 64 + i) (omega arith) (inr (omega arith)) ∙ predecessor₂ b i l h
 
     pub rank-is : (r : ℕ) → r < 128 → blockOfRank g r ≡ blockOfRank g₂ r
-    rank-is r l = before (8320 + r) (omega arith)
+    rank-is r l = before (129 + r) (omega arith) (inl (omega arith))
 
     pub predecessors-are : (b : ℕ) → b < n → predecessorsFrom g b 0 ≡ rows b
     unfolding predecessorsFrom
@@ -105,10 +113,11 @@ module _ (rows : ℕ → List ℕ) (n : ℕ) (order g₀ g₁ g₂ : List ℕ) (
 
     -- Successors.
 
-    no-bits : (b q : ℕ) → isSuccessor g₂ b q ≡ false
-    no-bits b q =
-        let p : ℕ = 8448 + b * 16 + q / 8 in
-        ap (λ w. bit w (q % 8)) (x₂ .outside p (inr (omega arith)) ∙ x₁ .behind p (omega arith) ∙ zeros p (omega arith)) ∙ zero-bit (q % 8)
+    no-bits : (b q : ℕ) → b < 128 → q < 128 → isSuccessor g₂ b q ≡ false
+    no-bits b q b< q< =
+        let p : ℕ = 257 + b * 16 + q / 8 in
+        ap (λ w. bit w (q % 8)) (x₂ .outside p (inr (omega arith)) ∙ x₁ .between p (omega arith) (omega arith) ∙ blank .zeros p)
+        ∙ zero-bit (q % 8)
 
     predecessors₂ : (b : ℕ) → b < n → predecessorsFrom g₂ b 0 ≡ rows b
     unfolding predecessorsFrom
@@ -119,9 +128,9 @@ module _ (rows : ℕ → List ℕ) (n : ℕ) (order g₀ g₁ g₂ : List ℕ) (
 
     bit-is : (b q : ℕ) → b < 128 → q < 128 → isSuccessor g b q ≡ leb (128 - n) q && (ltb q 128 && namesAsPredecessor g₂ q b)
     bit-is b q b< q< =
-        ap (λ w. bit w (q % 8)) (getD-set-other g₃ 10496 (8448 + b * 16 + q / 8) n 0 (λ e. omega arith))
+        ap (λ w. bit w (q % 8)) (getD-set-other g₃ 0 (257 + b * 16 + q / 8) n 0 (λ e. omega arith))
         ∙ x₃ .bits b q b< q<
-        ∙ ap (λ x. x || (leb (128 - n) q && (ltb q 128 && namesAsPredecessor g₂ q b))) (no-bits b q)
+        ∙ ap (λ x. x || (leb (128 - n) q && (ltb q 128 && namesAsPredecessor g₂ q b))) (no-bits b q b< q<)
 
     pub bit-below : (b q : ℕ) → b < 128 → q < 128 - n → isSuccessor g b q ≡ false
     bit-below b q b< l =

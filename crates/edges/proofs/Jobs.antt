@@ -1,12 +1,12 @@
 -- The graph of a job whose blocks were noted: the rows are its predecessors by place, and the order
 -- is that of ascending ids.
-use Prim.Native.Nat.{ℕ, zero, suc, _+_, _-_, _≤_, _<_}
+use Prim.Native.Nat.{ℕ, zero, suc, _+_, _*_, _-_, _≤_, _<_}
 use native.Mathlib.Omega.{arith}
 use native.Mathlib.Nat.{zero-add}
 use mathlib.Core.Path.{_≡_, refl, sym, ap, subst, _∙_}
 use mathlib.Core.Bool.{Bool, true, false, not}
 use mathlib.Core.List.{List, [], _∷_, map}
-use lib.ListN.{length, getD, set, drop, replicate}
+use lib.ListN.{length, getD, set, drop, replicate, length-replicate}
 use lib.Seq.{getD-drop}
 use lib.Dec.{eqb, leb, ltb, leb→le, le→leb}
 use Rattle.entries.specs.declared.BlockId.{BlockId}
@@ -40,11 +40,22 @@ use Rattle.graph.specs.Bytes.{neighbours}
 use Rattle.edges.specs.Rows.{idsFrom, idsNoted, placeAmong, place-among, IdsOnce, placesNoted, rowsAt, RowsFilled}
 use Rattle.edges.specs.Order.{insertByNumber, sortByNumber, Ordered}
 use Rattle.edges.specs.Successors.{RanksFit, AllMarked}
-use Rattle.edges.specs.Fills.{IdsAt, NotedJob, HoldsGraph}
+use Rattle.edges.specs.Fills.{IdsAt, NotedJob, Blank, HoldsGraph}
 use Rattle.edges.proofs.Noting.{row-noted}
 use Rattle.edges.proofs.Filling.{row-few}
 use Rattle.edges.proofs.Ordering.{sort-all, places-below}
-use Rattle.edges.proofs.Graphs.{ranks-fit, ranked-inside, size-is, degree-is, predecessor-is, rank-is, predecessors-are, bit-below, successors-are}
+use Rattle.edges.proofs.Graphs.{
+  ranks-fit,
+  ranked-inside,
+  size-is,
+  room-is,
+  degree-is,
+  predecessor-is,
+  rank-is,
+  predecessors-are,
+  bit-below,
+  successors-are,
+}
 
 -- Blocks among neighbours.
 
@@ -184,14 +195,19 @@ module _ (s ids places : List ℕ) (n : ℕ) (j : Job) (at : BlocksAt s n places
       (all-map (λ c. c < n) (λ c. anyOf (eqb b) (rowsAt s ids places n c) ≡ containsId (blockAt bs c .predecessors) (blockAt bs b .id))
       (λ c h. ap (λ (r : List ℕ). anyOf (eqb b) r) (row-is c h) ∙ names-same b c l) (byAscendingId bs) sorted-inside)
 
--- The filled bytes hold the job's graph.
+-- Zeros are blank.
 
 pub zeros-read : (n p : ℕ) → _≡_ {A = ℕ} (getD (replicate n 0) p 0) 0
 zeros-read zero p = refl
 zeros-read (suc n) zero = refl
 zeros-read (suc n) (suc p) = zeros-read n p
 
-module _ (s ids places : List ℕ) (n : ℕ) (job : NotedJob s ids places n) (g₀ g₁ g₂ : List ℕ)
+pub zeros-blank : (n m : ℕ) → 2305 + n * 64 ≤ m → Blank n (replicate m 0)
+zeros-blank n m l = record { zeros = zeros-read m; room = simp length-replicate l }
+
+-- The filled bytes hold the job's graph.
+
+module _ (s ids places : List ℕ) (n : ℕ) (job : NotedJob s ids places n) (g₀ g₁ g₂ : List ℕ) (blank : Blank n g₀)
     (x₁ : RowsFilled (rowsAt s ids places n) n g₀ g₁) (x₂ : Ordered g₁ g₂ (128 - n) (sortByNumber ids (placesFrom 0 n))) where
   few : (b : ℕ) → length (rowsAt s ids places n b) ≤ 64
   few b = row-few s (getD places b 0) ids n
@@ -210,30 +226,32 @@ module _ (s ids places : List ℕ) (n : ℕ) (job : NotedJob s ids places n) (g�
 
   -- the ranks that are read while successors are marked
   pub graph-ranks : RanksFit g₂ n
-  graph-ranks = ranks-fit (rowsAt s ids places n) n (sortByNumber ids (placesFrom 0 n)) g₀ g₁ g₂ (job .few) few small x₁ x₂ inside
+  graph-ranks = ranks-fit (rowsAt s ids places n) n (sortByNumber ids (placesFrom 0 n)) g₀ g₁ g₂ (job .few) few small x₁ x₂ blank inside
 
-  module _ (g₃ : List ℕ) (zeros : (p : ℕ) → 8448 ≤ p → getD g₀ p 0 ≡ 0) (x₃ : AllMarked g₂ g₃ (128 - n) 128) where
-    held-predecessors : (b : ℕ) → b < n → neighbours (set g₃ 10496 n) false b ≡ predecessorsOf (job .job .blocks) b
+  module _ (g₃ : List ℕ) (x₃ : AllMarked g₂ g₃ (128 - n) 128) where
+    held-predecessors : (b : ℕ) → b < n → neighbours (set g₃ 0 n) false b ≡ predecessorsOf (job .job .blocks) b
     held-predecessors b l =
-        predecessors-are (rowsAt s ids places n) n (sortByNumber ids (placesFrom 0 n)) g₀ g₁ g₂ (job .few) few small x₁ x₂ inside g₃ zeros x₃ b l
+        predecessors-are (rowsAt s ids places n) n (sortByNumber ids (placesFrom 0 n)) g₀ g₁ g₂ (job .few) few small x₁ x₂ blank inside
+        g₃ x₃ b l
         ∙ row-is s ids places n (job .job) (job .blocks) (job .numbers) b l
 
-    held-successors : (b : ℕ) → b < n → neighbours (set g₃ 10496 n) true b ≡ successorsOf (job .job .blocks) b
+    held-successors : (b : ℕ) → b < n → neighbours (set g₃ 0 n) true b ≡ successorsOf (job .job .blocks) b
     held-successors b l =
         let count = job .blocks .count in
         let most = job .few in
-        successors-are (rowsAt s ids places n) n (sortByNumber ids (placesFrom 0 n)) g₀ g₁ g₂ most few small x₁ x₂ inside g₃ zeros x₃ b (omega arith)
+        successors-are (rowsAt s ids places n) n (sortByNumber ids (placesFrom 0 n)) g₀ g₁ g₂ most few small x₁ x₂ blank inside
+        g₃ x₃ b (omega arith)
         ∙ ap (select (λ c. anyOf (eqb b) (rowsAt s ids places n c))) (order-is s ids places n (job .job) (job .blocks) (job .numbers))
         ∙ successors-named s ids places n (job .job) (job .blocks) (job .numbers) b (omega arith)
 
-    held-once : (backward : Bool) (b : ℕ) → b < n → NoRepeats (neighbours (set g₃ 10496 n) backward b)
+    held-once : (backward : Bool) (b : ℕ) → b < n → NoRepeats (neighbours (set g₃ 0 n) backward b)
     held-once false b l = subst NoRepeats (sym (held-predecessors b l))
         (predecessors-once (job .job .blocks) (proper s ids places n (job .job) (job .blocks) (job .numbers)) b)
     held-once true b l = subst NoRepeats (sym (held-successors b l))
         (successors-once (job .job .blocks) b)
 
-    held-both-ways : (backward : Bool) (b c : ℕ) → b < n → c < n → anyOf (eqb b) (neighbours (set g₃ 10496 n) backward c) ≡ true
-        → anyOf (eqb c) (neighbours (set g₃ 10496 n) (not backward) b) ≡ true
+    held-both-ways : (backward : Bool) (b c : ℕ) → b < n → c < n → anyOf (eqb b) (neighbours (set g₃ 0 n) backward c) ≡ true
+        → anyOf (eqb c) (neighbours (set g₃ 0 n) (not backward) b) ≡ true
     held-both-ways false b c l h e =
         let bs = job .job .blocks in
         let count = job .blocks .count in
@@ -247,20 +265,21 @@ module _ (s ids places : List ℕ) (n : ℕ) (job : NotedJob s ids places n) (g�
         (successor-predecessor bs (proper s ids places n (job .job) (job .blocks) (job .numbers)) c b (omega arith)
         (member-of b (held-successors c h) e))
 
-    job-held : HoldsGraph (job .job .blocks) (set g₃ 10496 n)
+    job-held : HoldsGraph (job .job .blocks) (set g₃ 0 n)
     job-held =
         let at = job .blocks in
         let most = job .few in
         let count = at .count in
         let rows = rowsAt s ids places n in
         let order = sortByNumber ids (placesFrom 0 n) in
-        let size = size-is rows n order g₀ g₁ g₂ most few small x₁ x₂ inside g₃ zeros x₃ in
-        let degree = degree-is rows n order g₀ g₁ g₂ most few small x₁ x₂ inside g₃ zeros x₃ in
-        let predecessor = predecessor-is rows n order g₀ g₁ g₂ most few small x₁ x₂ inside g₃ zeros x₃ in
-        let rank = rank-is rows n order g₀ g₁ g₂ most few small x₁ x₂ inside g₃ zeros x₃ in
-        let below = bit-below rows n order g₀ g₁ g₂ most few small x₁ x₂ inside g₃ zeros x₃ in
+        let size = size-is rows n order g₀ g₁ g₂ most few small x₁ x₂ blank inside g₃ x₃ in
+        let degree = degree-is rows n order g₀ g₁ g₂ most few small x₁ x₂ blank inside g₃ x₃ in
+        let predecessor = predecessor-is rows n order g₀ g₁ g₂ most few small x₁ x₂ blank inside g₃ x₃ in
+        let rank = rank-is rows n order g₀ g₁ g₂ most few small x₁ x₂ blank inside g₃ x₃ in
+        let below = bit-below rows n order g₀ g₁ g₂ most few small x₁ x₂ blank inside g₃ x₃ in
         record {
           fits = record {
+            room = room-is rows n order g₀ g₁ g₂ most few small x₁ x₂ blank inside g₃ x₃;
             size = omega arith;
             degree = λ b l. let f = few b in let d = degree b (omega arith) in omega arith;
             predecessor = λ b i l h.
@@ -269,7 +288,8 @@ module _ (s ids places : List ℕ) (n : ℕ) (job : NotedJob s ids places n) (g�
                 rw (predecessor b i b< (omega arith), size) (all-below (rowsAt s ids places n b) i n (row-below b b<) (omega arith));
             successor = λ b r l r< e.
                 rw size (decide (leb (128 - n) r)
-                (λ t. rw (rank r r<) (ranked-inside rows n order g₀ g₁ g₂ most few small x₁ x₂ inside r (leb→le (128 - n) r (test-passes t)) r<))
+                (λ t. rw (rank r r<) (ranked-inside rows n order g₀ g₁ g₂ most few small x₁ x₂ blank inside r
+                (leb→le (128 - n) r (test-passes t)) r<))
                 (λ f. never e (below b r (omega arith) (not-from (128 - n) r f))));
             low = λ b r l h. below b r (omega arith) (omega arith);
           };
@@ -287,5 +307,5 @@ module _ (s ids places : List ℕ) (n : ℕ) (job : NotedJob s ids places n) (g�
         not-from : (a r : ℕ) → leb a r ≡ false → r < a
         not-from a r f = decide (ltb r a) (λ t. ltb-true r a t) (λ e. let l = ltb-false r a e in never (passes-test (le→leb a r l)) f)
 
-    pub graph-held : HoldsGraph (blocksOf s) (set g₃ 10496 n)
-    graph-held = subst (λ (bs : List Block). HoldsGraph bs (set g₃ 10496 n)) (sym (blocks-read (job .job) (job .blocks))) job-held
+    pub graph-held : HoldsGraph (blocksOf s) (set g₃ 0 n)
+    graph-held = subst (λ (bs : List Block). HoldsGraph bs (set g₃ 0 n)) (sym (blocks-read (job .job) (job .blocks))) job-held

@@ -4,7 +4,7 @@ use native.Mathlib.Omega.{arith}
 use native.Mathlib.Nat.{add-zero, zero-add}
 use mathlib.Core.Path.{_≡_, refl, sym, ap, subst, _∙_}
 use mathlib.Core.List.{List, [], _∷_}
-use lib.ListN.{length, getD, set}
+use lib.ListN.{length, getD, set, length-set}
 use lib.Seq.{sets}
 use Rattle.entries.specs.declared.BlockId.{BlockId}
 use Rattle.model.specs.Tests.{by-cond, eqb-equal, eqb-apart}
@@ -78,12 +78,16 @@ module _ (s : List ℕ) (ids : List ℕ) (blocks : ℕ) where
 
 -- A list that is left, stored from a place on.
 pub record Storing (whole : List ℕ) (from : ℕ) (before now′ left : List ℕ) (i : ℕ) : Type 0 where
+  pub long : length now′ ≡ length before
   pub count : i + length left ≡ length whole
   pub same : sets now′ (from + i) left ≡ sets before from whole
 
 pub storing : (whole : List ℕ) (from : ℕ) (g left : List ℕ) → left ≡ whole → Storing whole from g g left 0
-storing whole from g left e = record
-    { count = zero-add (length left) ∙ ap length e; same = ap (λ k. sets g k left) (add-zero from) ∙ ap (λ (l : List ℕ). sets g from l) e }
+storing whole from g left e = record {
+  long = refl;
+  count = zero-add (length left) ∙ ap length e;
+  same = ap (λ k. sets g k left) (add-zero from) ∙ ap (λ (l : List ℕ). sets g from l) e;
+}
 
 module _ {whole : List ℕ} {from : ℕ} {before now′ left : List ℕ} {i : ℕ} (x : Storing whole from before now′ left i) where
   pub storing-end : left ≡ [] → (i ≡ length whole) × (now′ ≡ sets before from whole)
@@ -95,6 +99,7 @@ module _ {whole : List ℕ} {from : ℕ} {before now′ left : List ℕ} {i : �
       let size = ap length e in
       let next : suc (from + i) ≡ from + (i + 1) = omega arith in
       record {
+        long = length-set now′ (from + i) z ∙ x .long;
         count = let c = x .count in omega (arith, size);
         same = ap (λ k. sets (set now′ (from + i) z) k rest) (sym next) ∙ ap (λ z. sets (set now′ (from + i) z) (suc (from + i)) rest) v ∙ ap
             (λ (l : List ℕ). sets now′ (from + i) l) (sym e) ∙ x .same;
@@ -110,7 +115,9 @@ row-noted s at ids n e = rw e
 pub noted-few : (s : List ℕ) (at : ℕ) {head : BlockHead} {idsAt : ℕ} → readBlockHead s at ≡ got head idsAt → head .predecessors ≤ 64
 noted-few s at e = holds-got (λ (h : BlockHead). h .predecessors ≤ 64) e (predecessors-most s at)
 
-pub row-stored : (g h : List ℕ) (b : ℕ) (row noted : List ℕ) (n : ℕ) → row ≡ noted → n ≡ length noted → h ≡ sets g (b * 64) noted → set h
-    (8192 + b) n ≡ withRow g b row
+pub row-stored : (g h : List ℕ) (b : ℕ) (row noted : List ℕ) (n : ℕ) → row ≡ noted → n ≡ length noted → h ≡ sets g (2305 + b * 64) noted
+    → set h (1 + b) n ≡ withRow g b row
 row-stored g h b row noted n same count kept =
-    ap (λ (l : List ℕ). set l (8192 + b) n) kept ∙ ap (λ m. set (sets g (b * 64) noted) (8192 + b) m) count ∙ ap (λ (l : List ℕ). withRow g b l) (sym same)
+    ap (λ (l : List ℕ). set l (1 + b) n) kept
+    ∙ ap (λ m. set (sets g (2305 + b * 64) noted) (1 + b) m) count
+    ∙ ap (λ (l : List ℕ). withRow g b l) (sym same)

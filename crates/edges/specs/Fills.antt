@@ -7,7 +7,7 @@ use lib.ListN.{length, getD}
 use Rattle.model.specs.Job.{Block, Job}
 use Rattle.model.specs.Stage.{blockAt, predecessorsOf, successorsOf}
 use Rattle.job.specs.Kept.{BlocksAt}
-use Rattle.graph.specs.Bytes.{sizeIn, neighbours, GraphFits, NeighboursOnce, NeighboursMutual}
+use Rattle.graph.specs.Bytes.{sizeIn, neighbours, RoomFor, GraphFits, NeighboursOnce, NeighboursMutual}
 
 -- The numbers of the blocks' ids are noted.
 abbrev pub IdsAt : List ℕ → Job → Type 0
@@ -19,6 +19,11 @@ pub record NotedJob (s ids places : List ℕ) (n : ℕ) : Type 0 where
   pub blocks : BlocksAt s n places job
   pub numbers : IdsAt ids job
   pub few : n ≤ 128
+
+-- The bytes are all 0, and have room for the graph of n blocks.
+pub record Blank (n : ℕ) (g : List ℕ) : Type 0 where
+  pub zeros : (p : ℕ) → getD g p 0 ≡ 0
+  pub room : RoomFor n g
 
 -- The bytes hold the graph of these blocks, "predecessors in job order", "successors by ascending
 -- id", and can be read as one; no neighbour of a block stands twice, and neighbours are mutual.

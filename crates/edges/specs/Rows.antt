@@ -46,16 +46,16 @@ rowAt s at ids n = orNone (readBlockHead s at) (λ (head : BlockHead) idsAt. pla
 
 -- the bytes once these are the predecessors of block b
 abbrev pub withRow : List ℕ → ℕ → List ℕ → List ℕ
-withRow g b row = set (sets g (b * 64) row) (8192 + b) (length row)
+withRow g b row = set (sets g (2305 + b * 64) row) (1 + b) (length row)
 
 -- the predecessors of block b, whose record's place was noted
 abbrev pub rowsAt : List ℕ → List ℕ → List ℕ → ℕ → ℕ → List ℕ
 rowsAt s ids places n b = rowAt s (getD places b 0) ids n
 
 -- The bytes g have become h: h holds these predecessors of the first n blocks, and what stands
--- behind the predecessors' part is as it was.
+-- between the degrees' part and the predecessors' is as it was.
 pub record RowsFilled (rows : ℕ → List ℕ) (n : ℕ) (g h : List ℕ) : Type 0 where
-  pub long : length h ≡ 10497
+  pub long : length h ≡ length g
   pub degree : (b : ℕ) → b < n → degreeIn h b ≡ length (rows b)
   pub predecessor : (b i : ℕ) → b < n → i < length (rows b) → predecessorIn h b i ≡ getD (rows b) i 0
-  pub behind : (k : ℕ) → 8320 ≤ k → getD h k 0 ≡ getD g k 0
+  pub between : (k : ℕ) → 129 ≤ k → k < 2305 → getD h k 0 ≡ getD g k 0

@@ -6,6 +6,7 @@ use native.Mathlib.Numerals.{add-one}
 use mathlib.Core.Bool.{Bool, true, false}
 use mathlib.Core.Path.{_≡_, sym, ap, subst, _∙_}
 use mathlib.Core.List.{List, [], _∷_, map}
+use lib.ListN.{length}
 use Rattle.model.specs.Lists.{select}
 use Rattle.model.specs.Rounds.{placesFrom}
 use Rattle.rows.specs.Members.{bit}
@@ -66,8 +67,8 @@ module _ (g : List ℕ) (b : ℕ) where
       ∙ ap (successorsFrom g b) (omega arith)
 
 module _ {g : List ℕ} {b : ℕ} (fits : GraphFits g) (here : b < sizeIn g) where
-  pub predecessor-byte : (i d : ℕ) → d ≡ degreeIn g b → i < d → b * 64 + i < 8192
-  predecessor-byte i d e l = let s = fits .size in let h = fits .degree b here in omega arith
+  pub predecessor-byte : (i d : ℕ) → d ≡ degreeIn g b → i < d → 2305 + b * 64 + i < length g
+  predecessor-byte i d e l = let r = fits .room in let h = fits .degree b here in omega arith
 
   pub predecessor-next : (i d k : ℕ) → d ≡ degreeIn g b → i < d → k ≡ predecessorIn g b i → Next g false b i k (i + 1)
   predecessor-next i d k e l found =

@@ -83,8 +83,8 @@ module _ (g : List ℕ) (at : ℕ) where
           ∙ none-higher x (j - 8 * n) (is .1) (omega arith)
 
 -- eight bytes are the bits of 64 ranks
-pub all-bytes : (g : List ℕ) (b half w : ℕ) → HoldsBytes g (8448 + b * 16 + half * 8) 8 w → HoldsBits g b half w
+pub all-bytes : (g : List ℕ) (b half w : ℕ) → HoldsBytes g (257 + b * 16 + half * 8) 8 w → HoldsBits g b half w
 all-bytes g b half w bytes j l =
-    let p : 8448 + b * 16 + half * 8 + j / 8 ≡ 8448 + b * 16 + (half * 64 + j) / 8 = omega arith in
+    let p : 257 + b * 16 + half * 8 + j / 8 ≡ 257 + b * 16 + (half * 64 + j) / 8 = omega arith in
     let m : j % 8 ≡ (half * 64 + j) % 8 = omega arith in
     bytes .held j l ∙ ap₂ (λ (i k : ℕ). bit (getD g i 0) k) p m

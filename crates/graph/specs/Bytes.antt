@@ -4,7 +4,7 @@ use Prim.Native.Nat.{ℕ, _+_, _*_, _-_, _/_, _%_, _≤_, _<_}
 use mathlib.Core.Path.{_≡_}
 use mathlib.Core.Bool.{Bool, true, false, not}
 use mathlib.Core.List.{List, [], _∷_, map}
-use lib.ListN.{getD}
+use lib.ListN.{length, getD}
 use lib.Dec.{eqb}
 use Rattle.model.specs.Lists.{select, anyOf}
 use Rattle.model.specs.Rounds.{placesFrom}
@@ -16,23 +16,23 @@ use Rattle.graph.specs.declared.Neighbour.the-variants.{At, Nothing}
 
 -- how many blocks there are
 abbrev pub sizeIn : List ℕ → ℕ
-sizeIn g = getD g 10496 0
+sizeIn g = getD g 0 0
 
 -- how many predecessors block b has
 abbrev pub degreeIn : List ℕ → ℕ → ℕ
-degreeIn g b = getD g (8192 + b) 0
+degreeIn g b = getD g (1 + b) 0
 
 -- the place of predecessor i of block b
 abbrev pub predecessorIn : List ℕ → ℕ → ℕ → ℕ
-predecessorIn g b i = getD g (b * 64 + i) 0
+predecessorIn g b i = getD g (2305 + b * 64 + i) 0
 
 -- the place of the block of rank r by ascending id
 abbrev pub blockOfRank : List ℕ → ℕ → ℕ
-blockOfRank g r = getD g (8320 + r) 0
+blockOfRank g r = getD g (129 + r) 0
 
 -- the block of rank r is a successor of block b
 abbrev pub isSuccessor : List ℕ → ℕ → ℕ → Bool
-isSuccessor g b r = bit (getD g (8448 + b * 16 + r / 8) 0) (r % 8)
+isSuccessor g b r = bit (getD g (257 + b * 16 + r / 8) 0) (r % 8)
 
 -- the predecessors of a block from number i on
 unfoldable pub predecessorsFrom : List ℕ → ℕ → ℕ → List ℕ
@@ -60,9 +60,15 @@ unfoldable pub graphIn : List ℕ → Graph
 unfolding predecessorsFrom successorsFrom
 graphIn g = record { size = sizeIn g; predecessors = neighbours g false; successors = neighbours g true }
 
--- What reading the graph needs: the numbers stay in their ranges, a neighbour of a block is a
--- block, and no block has a successor of a rank below the last ones, which the blocks have.
+-- There is room for the graph of n blocks.
+abbrev pub RoomFor : ℕ → List ℕ → Type 0
+RoomFor n g = 2305 + n * 64 ≤ length g
+
+-- What reading the graph needs: there is room for the blocks, the numbers stay in their ranges, a
+-- neighbour of a block is a block, and no block has a successor of a rank below the last ones,
+-- which the blocks have.
 pub record GraphFits (g : List ℕ) : Type 0 where
+  pub room : RoomFor (sizeIn g) g
   pub size : sizeIn g ≤ 128
   pub degree : (b : ℕ) → b < sizeIn g → degreeIn g b ≤ 64
   pub predecessor : (b i : ℕ) → b < sizeIn g → i < degreeIn g b → predecessorIn g b i < sizeIn g

@@ -3,6 +3,7 @@ use Prim.Native.Nat.{ℕ, _+_, _≤_, _<_}
 use mathlib.Core.Path.{_≡_, refl, sym, ap, subst, _∙_}
 use mathlib.Core.Bool.{Bool, true, false, not}
 use mathlib.Core.List.{List, [], _∷_, _++_, map, map-append}
+use lib.ListN.{length}
 use Rattle.entries.specs.declared.NodeId.{NodeId}
 use Rattle.entries.specs.declared.HoistableAccessType.the-variants.{NonNull}
 use Rattle.entries.specs.Path.{ReactiveScopeDependency}
@@ -45,6 +46,7 @@ ways-first xs ahead d ds = decide (asSaid ahead (startsOptional (d .path))) (λ 
 
 pub record Entering (ws start set : List ℕ) (ahead : Bool) (hoist : List ℕ) (from : ℕ) : Type 0 where
   pub held : HoldsPositions hoist
+  pub long : length hoist ≡ length start
   pub inside : All (λ k. k .0 < countIn ws) (membersFrom set from)
   pub left : enterAll hoistableKey firstMade (flatOf ws hoist) (waysOf ahead (map (fullPathOf (registryOf ws)) (membersFrom set from)))
       ≡ enterAll hoistableKey firstMade (flatOf ws start) (waysOf ahead (map (fullPathOf (registryOf ws)) (membersOf set)))
@@ -53,6 +55,7 @@ pub entering : (ws set : List ℕ) (ahead : Bool) (hoist : List ℕ) → HoldsPo
     → Entering ws hoist set ahead hoist 0
 entering ws set ahead hoist held members = record {
   held = held;
+  long = refl;
   inside = subst (λ n. All (λ k. k .0 < n) (membersOf set)) (registry-length ws) (members .inside);
   left = refl;
 }
@@ -77,10 +80,11 @@ module _ {ws start set : List ℕ} {ahead : Bool} {hoist : List ℕ} {from : ℕ
     pub entering-place : (from ≤ k .0) × (k .0 < 512)
     entering-place = (there .from, there .below)
 
-    pub entering-more : {after : List ℕ} → EntersPaths ws hoist after ahead (fullPathOf (registryOf ws) k ∷ [])
-        → Entering ws start set ahead after (k .0 + 1)
-    entering-more e = record {
+    pub entering-more : {after : List ℕ} → length after ≡ length hoist
+        → EntersPaths ws hoist after ahead (fullPathOf (registryOf ws) k ∷ []) → Entering ws start set ahead after (k .0 + 1)
+    entering-more long e = record {
       held = e .held;
+      long = long ∙ x .long;
       inside = all .1;
       left = ap (λ xs. enterAll hoistableKey firstMade xs (waysOf ahead (map (fullPathOf (registryOf ws)) (membersFrom set (k .0 + 1))))) (e .flat)
           ∙ sym (ways-first (flatOf ws hoist) ahead (fullPathOf (registryOf ws) k) (map (fullPathOf (registryOf ws)) (membersFrom set (k .0 + 1))))

@@ -88,18 +88,27 @@ module _ {ws hoist : List ℕ} {parent : ℕ} {k : Key} {end j : ℕ} (x : Seeki
   seeking-end done = let e : end - j ≡ 0 = omega arith in
       sym (ap (λ n. seek hoistableKey (run (positionAt ws hoist) j n) j parent k) e) ∙ x .left
 
+-- The number that is stored in the last word.
+count-stored : (hoist : List ℕ) (i v : ℕ) → i + 1 ≡ length hoist → positionsIn (set hoist i v) ≡ v
+count-stored hoist i v last =
+    let place : length (set hoist i v) - 1 ≡ i = omega (arith, length-set hoist i v) in
+    ap (λ n. getD (set hoist i v) n 0) place ∙ getD-set-same hoist i v 0 (omega arith)
+
 -- Words that hold no position.
 
-module _ (hoist : List ℕ) (long : length hoist ≡ 513) where
-  pub cleared-count : positionsIn (set hoist 512 0) ≡ 0
-  cleared-count = getD-set-same hoist 512 0 0 (omega arith)
+module _ (hoist : List ℕ) (some : 0 < length hoist) (short : length hoist ≤ 513) where
+  abbrev empty : List ℕ
+  empty = set hoist (length hoist - 1) 0
 
-  pub cleared-held : HoldsPositions (set hoist 512 0)
+  pub cleared-count : positionsIn empty ≡ 0
+  cleared-count = count-stored hoist (length hoist - 1) 0 (omega arith)
+
+  pub cleared-held : HoldsPositions empty
   cleared-held =
       let none = cleared-count in
       record {
-        long = simp length-set long;
-        room = omega arith;
+        short = rw length-set short;
+        room = rw (cleared-count, length-set) some;
         makers = λ j l. absurd (omega arith);
         parents = λ j l. absurd (omega arith);
       }
@@ -134,29 +143,31 @@ module _ (ws hoist : List ℕ) (held : HoldsPositions hoist) (parent : ℕ) (low
       let one = one-found hoistableKey (flatOf ws hoist) 0 parent s (λ z. omega arith) in
       record { held = held; flat = sym (one .0); number = is ∙ sym same ∙ sym (one .1); within = within }
 
-  module _ (word k : ℕ) (optional : Bool) (is : IsWord word k parent optional) (small : k < 512) (room : positionsIn hoist < 512) where
+  module _ (word k : ℕ) (optional : Bool) (is : IsWord word k parent optional) (small : k < 512)
+      (room : positionsIn hoist < length hoist - 1) where
     abbrev end : ℕ
     end = positionsIn hoist
 
     abbrev after : List ℕ
-    after = set (set hoist end word) 512 (end + 1)
+    after = set (set hoist end word) (length hoist - 1) (end + 1)
 
     counted : positionsIn after ≡ end + 1
     counted =
-        let long = held .long in
-        let l : 512 < length (set hoist end word) = rw length-set (omega arith) in
-        getD-set-same (set hoist end word) 512 (end + 1) 0 l
+        let long = length-set hoist end word in
+        count-stored (set hoist end word) (length hoist - 1) (end + 1) (omega arith)
+
+    long-after : length after ≡ length hoist
+    long-after = simp length-set
 
     new-word : getD after end 0 ≡ word
     new-word =
-        let a : end ≢ 512 = λ e. omega arith in
-        let long = held .long in
+        let a : end ≢ length hoist - 1 = λ e. omega arith in
         let l : end < length hoist = omega arith in
         simp (getD-set-other, getD-set-same)
 
     old-word : (j : ℕ) → j < end → getD after j 0 ≡ getD hoist j 0
     old-word j l =
-        let a : j ≢ 512 = λ e. omega arith in
+        let a : j ≢ length hoist - 1 = λ e. omega arith in
         let b : j ≢ end = λ e. omega arith in
         simp getD-set-other
 
@@ -169,8 +180,8 @@ module _ (ws hoist : List ℕ) (held : HoldsPositions hoist) (parent : ℕ) (low
 
     held-after : HoldsPositions after
     held-after = record {
-      long = simp length-set (held .long);
-      room = let c = counted in omega arith;
+      short = rw long-after (held .short);
+      room = rw (counted, long-after) (omega arith);
       makers = each (λ j w. makerIn w < 512) (rw (is .maker) small) (held .makers);
       parents = each (λ j w. parentIn w ≤ j) (rw (is .above) low) (held .parents);
     }

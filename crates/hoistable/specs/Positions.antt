@@ -61,9 +61,9 @@ nodeOf ws word = record { parent = parentIn word; here = positionOf (keyOf (stor
 abbrev pub positionAt : List ℕ → List ℕ → ℕ → Flat.Node HoistablePosition
 positionAt ws hoist j = nodeOf ws (getD hoist j 0)
 
--- How many positions the words hold.
+-- How many positions the words hold, as the last one says.
 abbrev pub positionsIn : List ℕ → ℕ
-positionsIn hoist = getD hoist 512 0
+positionsIn hoist = getD hoist (length hoist - 1) 0
 
 -- All positions of the words.
 unfoldable pub flatOf : List ℕ → List ℕ → List (Flat.Node HoistablePosition)
@@ -77,11 +77,11 @@ numberBelow ws hoist p k = seek hoistableKey (run (positionAt ws hoist) p (posit
 abbrev pub foundIn : List ℕ → List ℕ → ℕ → Option (Found HoistablePosition)
 foundIn ws hoist number = foundAt hoistableKey (positionAt ws hoist) (positionsIn hoist) number
 
--- Room for the most positions, and no more than these; each was made by a node, and after its
--- parent.
+-- No more words than 512 positions and their number need, and no more positions than there are
+-- words before the last; each was made by a node, and after its parent.
 pub record HoldsPositions (hoist : List ℕ) : Type 0 where
-  pub long : length hoist ≡ 513
-  pub room : positionsIn hoist ≤ 512
+  pub short : length hoist ≤ 513
+  pub room : positionsIn hoist < length hoist
   pub makers : (j : ℕ) → j < positionsIn hoist → makerIn (getD hoist j 0) < 512
   pub parents : (j : ℕ) → j < positionsIn hoist → parentIn (getD hoist j 0) ≤ j
 
@@ -124,6 +124,6 @@ pub record HoldsTree (ws hoist : List ℕ) (t : Forest HoistablePosition) : Type
   pub held : HoldsPositions hoist
   pub tree : Flat.grow (flatOf ws hoist) 0 0 ≡ t
 
--- As many words as a tree needs hold the tree of the set.
+-- More words than one hold the tree of the set.
 abbrev pub MayHoldTree : List ℕ → List ℕ → NodeSet → Type 0
-MayHoldTree ws hoist set = length hoist ≡ 513 → HoldsTree ws hoist (hoistableTree (map (fullPathOf (registryOf ws)) set))
+MayHoldTree ws hoist set = 1 < length hoist → HoldsTree ws hoist (hoistableTree (map (fullPathOf (registryOf ws)) set))

@@ -279,9 +279,6 @@ const PARENT: u64 = 1024;
 
 const OPTIONAL: u64 = 1048576;
 
-// Room for 512 positions, as many as the registry has nodes, and their number.
-const TREE_WORDS: usize = 513;
-
 fn word_of(k: NodeId, parent: usize, optional: bool) -> u64
     requires { ⌜ (k .0 < 512) × (parent ≤ 512) ⌝ }
     ensures { λ r. ⌜ IsWord r (k .0) parent optional ⌝ }
@@ -329,7 +326,7 @@ fn child_by_key(hoist: &[u64], ws: &[u64; 1665], parent: usize, n: Node) -> usiz
     requires { ⌜ HoldsPositions (now hoist) × (parent ≤ positionsIn (now hoist)) ⌝ }
     ensures { λ r. ⌜ (r ≡ numberBelow (now (ws .entry)) (now (hoist .entry)) parent (keyOf n)) × (r ≤ positionsIn (now (hoist .entry))) ⌝ }
 {
-    let end = hoist[512] as usize;
+    let end = hoist[hoist.len() - 1] as usize;
     let mut j = parent;
     while j < end {
         if is_child(ws, hoist[j], parent, n) {
@@ -358,10 +355,11 @@ fn enter_position(
     if 0 < found {
         return found;
     }
-    let end = hoist[512] as usize;
-    if end < 512 {
+    let room = hoist.len() - 1;
+    let end = hoist[room] as usize;
+    if end < room {
         hoist[end] = word_of(k, parent, optional);
-        hoist[512] = (end + 1) as u64;
+        hoist[room] = (end + 1) as u64;
         end + 1
     } else {
         0
@@ -449,11 +447,13 @@ fn enter_members(hoist: &mut [u64], ws: &[u64; 1665], set: NodeBits, ahead: bool
 
 // The hoistable tree of the set, whatever the words were, and whether they have room for it.
 pub fn build_tree(hoist: &mut [u64], ws: &[u64; 1665], set: NodeBits) -> bool
-    requires { ⌜ (length (now hoist) ≡ 513) × HoldsRegistry (now ws) × Members (registryOf (now ws)) (membersOf (set .words)) ⌝ }
+    requires { ⌜ (0 < length (now hoist)) × (length (now hoist) ≤ 513) × HoldsRegistry (now ws)
+        × Members (registryOf (now ws)) (membersOf (set .words)) ⌝ }
     ensures { λ r. ⌜ (r ≡ true → HoldsTree (now (ws .entry)) (now (hoist .exit))
         (hoistableTree (map (fullPathOf (registryOf (now (ws .entry)))) (membersOf (set .words))))) ⌝ }
 {
-    hoist[512] = 0;
+    let room = hoist.len() - 1;
+    hoist[room] = 0;
     if !enter_members(hoist, ws, set, true) {
         return false;
     }
@@ -498,7 +498,7 @@ fn levels_below(
 
 // At which levels of a candidate the hoistable tree of the set is NonNull: bit j for level j. The
 // candidate has the identifier and the `count` entries at `start`. Where the tree's words are
-// given, the levels are read from them.
+// given, and not a single one, the levels are read from them.
 pub fn nonnull_levels(
     hoist: &[u64],
     ws: &[u64; 1665],
@@ -513,7 +513,7 @@ pub fn nonnull_levels(
     ensures { λ r. ⌜ r ≡ numberOf (nonNullLevels (registryOf (now (ws .entry))) (membersOf (set .words)) identifier
         (entriesAt count (now (s .entry)) start)) ⌝ }
 {
-    if hoist.len() == TREE_WORDS {
+    if 1 < hoist.len() {
         let root = child_by_key(hoist, ws, 0, Node::root(identifier, false, 0));
         levels_below(hoist, ws, s, root, start, count)
     } else {

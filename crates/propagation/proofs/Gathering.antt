@@ -17,7 +17,7 @@ use Rattle.model.specs.Visit.{TraversalState, Unmarked, isDone}
 use Rattle.model.specs.Propagation.{setOf, doneNeighbours, intersectionOf}
 use Rattle.model.specs.Strict.{allDone, strictNeighbours}
 use Rattle.model.specs.StrictLaws.{strict-joins, strict-none}
-use Rattle.rows.specs.Rows.{rowOf, rowsOf}
+use Rattle.rows.specs.Rows.{Lent, rowOf, rowsOf}
 use Rattle.rows.proofs.Rows.{row-at}
 use Rattle.graph.specs.Bytes.{sizeIn, neighboursFrom, neighbours, NeighboursOnce, Next}
 use Rattle.propagation.specs.declared.Joining.{Joining}
@@ -172,9 +172,10 @@ module _ {joining : Joining} {g : List ℕ} {backward : Bool} {b : ℕ} {o place
 module _ (joining : Joining) (g : List ℕ) (backward : Bool) (b : ℕ) (o : List ℕ) {count : ℕ} {places : List ℕ}
     (found : Gathers (neighboursToJoin (ruleOf joining) g backward b o) (sizeIn g) count places) where
   -- what the intersection of rows asks
-  pub gathered-rows : sizeIn g ≤ 128 → All (λ k. k < 128) (take count places) × NoRepeats (take count places)
-  gathered-rows few = (
-    all-map (λ k. k < sizeIn g) (λ k. k < 128) (λ k l. omega arith) (take count places) (found .inside),
+  pub gathered-rows : (sets : List ℕ) → Lent (sizeIn g) sets
+      → All (λ k. Lent (k + 1) sets) (take count places) × NoRepeats (take count places)
+  gathered-rows sets lent = (
+    all-map (λ k. k < sizeIn g) (λ k. Lent (k + 1) sets) (λ k l. omega arith) (take count places) (found .inside),
     found .once,
   )
 

@@ -131,7 +131,7 @@ module _ {rule : JoiningRule} {g : List ℕ} {backward : Bool} {b : ℕ} {o sets
         unfolding joinIn join workOf
         join-holds = record {
           stands = record {
-            lent = stored .lent;
+            lent = rw (stored .long) (made .ready .stands .lent);
             held = held .0;
             members = subst (λ (w : Work). All (Members (w .registry)) (w .sets)) became
                 (join-proper (neighboursToJoin rule g backward b o) b (workOf (sizeIn g) sets ws changed) proper .members);

@@ -50,7 +50,7 @@ pub record Gathers (want : List ℕ) (n count : ℕ) (places : List ℕ) : Type 
 
 -- What the lent arrays are between two joins: each of n rows is a set of the registry's nodes.
 pub record RowsStand (n : ℕ) (sets ws os : List ℕ) : Type 0 where
-  pub lent : Lent sets
+  pub lent : Lent n sets
   pub held : Held ws os
   pub members : All (Members (registryOf ws)) (rowsOf sets n)
 

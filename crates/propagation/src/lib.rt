@@ -9,13 +9,13 @@ ghost use mathlib.Core.Path.{_≡_};
 ghost use mathlib.Core.Bool.{true, false, not};
 ghost use mathlib.Core.List.{_∷_};
 ghost use Prim.Native.Nat.{_<_};
-ghost use lib.ListN.{length, getD};
+ghost use lib.ListN.{length, getD, replicate};
 ghost use Rattle.model.specs.Reduction.{reduceMaybeOptionalChains};
 ghost use Rattle.model.specs.Visit.{visit};
 ghost use Rattle.model.specs.Propagation.{intersectionOf, round, propagateNonNull};
 ghost use Rattle.laws.specs.WalkSteps.{noted};
 ghost use Rattle.rows.specs.Members.{membersOf};
-ghost use Rattle.rows.specs.Rows.{rowsOf};
+ghost use Rattle.rows.specs.Rows.{Lent, rowsOf};
 ghost use Rattle.registry.specs.Words.{registryOf};
 ghost use Rattle.graph.specs.Bytes.{sizeIn, neighbours, GraphFits, NeighboursOnce, graphIn};
 ghost use Rattle.propagation.specs.Rules.{ruleOf, asksAll};
@@ -90,7 +90,7 @@ fn asks_all(joining: Joining) -> bool
 // compiled loop has no branch on the mark.
 fn neighbours_to_join(
     joining: Joining,
-    graph: &[u8; 10497],
+    graph: &[u8],
     backward: bool,
     b: usize,
     order: &[u8; 257],
@@ -120,13 +120,13 @@ fn neighbours_to_join(
 // The intersection of the sets of those neighbours of a block that join.
 fn intersection_of_joining(
     joining: Joining,
-    graph: &[u8; 10497],
+    graph: &[u8],
     backward: bool,
     b: usize,
     order: &[u8; 257],
-    sets: &[u64; 1024],
+    sets: &[u64],
 ) -> NodeBits
-    requires { ⌜ GraphFits (now graph) × NeighboursOnce (now graph) × (b < sizeIn (now graph)) ⌝ }
+    requires { ⌜ GraphFits (now graph) × NeighboursOnce (now graph) × (b < sizeIn (now graph)) × Lent (sizeIn (now graph)) (now sets) ⌝ }
     ensures { λ r. ⌜ membersOf (r .words) ≡ intersectionOf
         (setsToJoin (ruleOf joining) (now (graph .entry)) backward b (now (order .entry)) (now (sets .entry))) ⌝ }
 {
@@ -139,11 +139,11 @@ fn intersection_of_joining(
 // was reduced before, so where nothing new joins, it stays.
 fn join(
     joining: Joining,
-    graph: &[u8; 10497],
+    graph: &[u8],
     backward: bool,
     b: usize,
     order: &[u8; 257],
-    sets: &mut [u64; 1024],
+    sets: &mut [u64],
     ws: &mut [u64; 1665],
     optional: &mut [u64; 8],
     later: bool,
@@ -181,7 +181,7 @@ fn join(
 }
 
 // These neighbours of a block are dirty.
-fn mark_neighbours(graph: &[u8; 10497], backward: bool, b: usize, dirty: &mut [u8; 128])
+fn mark_neighbours(graph: &[u8], backward: bool, b: usize, dirty: &mut [u8; 128])
     requires { ⌜ GraphFits (now graph) × (b < sizeIn (now graph)) × (length (now dirty) ≡ 128) ⌝ }
     ensures { λ _. ⌜ MarksDirty (neighbours (now (graph .entry)) backward b) (now (dirty .entry)) (now (dirty .exit)) ⌝ }
 {
@@ -199,7 +199,7 @@ fn mark_neighbours(graph: &[u8; 10497], backward: bool, b: usize, dirty: &mut [u
 // direction those on the other side, and in one of the other direction those on this side and the
 // block itself.
 fn mark_changed(
-    graph: &[u8; 10497],
+    graph: &[u8],
     backward: bool,
     b: usize,
     changed: bool,
@@ -229,13 +229,13 @@ fn dirty_byte(idle: bool) -> u8
 // its set, and is passed over.
 fn step(
     joining: Joining,
-    graph: &[u8; 10497],
+    graph: &[u8],
     backward: bool,
     b: usize,
     order: &[u8; 257],
     dirty: &mut [u8; 128],
     other: &mut [u8; 128],
-    sets: &mut [u64; 1024],
+    sets: &mut [u64],
     ws: &mut [u64; 1665],
     optional: &mut [u64; 8],
     later: bool,
@@ -286,7 +286,7 @@ fn leave(b: usize, order: &mut [u8; 257])
 
 // `recursively_propagate_non_null` of an unmarked block, as far as it marks blocks: it is Active
 // while its unmarked neighbours are visited, and then left.
-fn visit(graph: &[u8; 10497], backward: bool, b: usize, order: &mut [u8; 257])
+fn visit(graph: &[u8], backward: bool, b: usize, order: &mut [u8; 257])
     requires { ⌜ GraphFits (now graph) × (b < sizeIn (now graph)) × Noting (sizeIn (now graph)) (now order) × (getD (now order) b 0 ≡ 0) ⌝ }
     ensures { λ _. ⌜ (let n = sizeIn (now (graph .entry)) in
         Notes (visit (neighbours (now (graph .entry)) backward) noted b (notedOf n (now (order .entry)))) n
@@ -315,12 +315,12 @@ fn in_order(backward: bool, n: usize, i: usize) -> usize
     if backward { n - 1 - i } else { i }
 }
 
-// The order in which a walk leaves the blocks: it visits each unmarked block in turn.
-fn note_order(graph: &[u8; 10497], backward: bool, order: &mut [u8; 257])
-    requires { ⌜ GraphFits (now graph) ⌝ }
+// The order in which a walk leaves the blocks, noted in zeroed bytes: it visits each unmarked block
+// in turn.
+fn note_order(graph: &[u8], backward: bool, order: &mut [u8; 257])
+    requires { ⌜ GraphFits (now graph) × (now order ≡ replicate 257 0) ⌝ }
     ensures { λ _. ⌜ OrderNoted (now (graph .entry)) backward (now (order .exit)) ⌝ }
 {
-    *order = [0; 257];
     let n = graph::size(graph);
     let mut i = 0;
     while i < n {
@@ -335,12 +335,12 @@ fn note_order(graph: &[u8; 10497], backward: bool, order: &mut [u8; 257])
 // The blocks in the order in which they are left, each joined with those that were left before it.
 fn walk(
     joining: Joining,
-    graph: &[u8; 10497],
+    graph: &[u8],
     backward: bool,
     order: &[u8; 257],
     dirty: &mut [u8; 128],
     other: &mut [u8; 128],
-    sets: &mut [u64; 1024],
+    sets: &mut [u64],
     ws: &mut [u64; 1665],
     optional: &mut [u64; 8],
     later: bool,
@@ -386,12 +386,12 @@ fn walk(
 // `true`.
 fn round(
     joining: Joining,
-    graph: &[u8; 10497],
+    graph: &[u8],
     forward: &[u8; 257],
     backward: &[u8; 257],
     dirty: &mut [u8; 128],
     other: &mut [u8; 128],
-    sets: &mut [u64; 1024],
+    sets: &mut [u64],
     ws: &mut [u64; 1665],
     optional: &mut [u64; 8],
     later: bool,
@@ -438,8 +438,8 @@ fn round(
 // At most 100 rounds; the one that changes nothing is the last. All blocks are dirty at first.
 pub fn propagate_non_null(
     joining: Joining,
-    graph: &[u8; 10497],
-    sets: &mut [u64; 1024],
+    graph: &[u8],
+    sets: &mut [u64],
     ws: &mut [u64; 1665],
     optional: &mut [u64; 8],
 ) -> Propagated

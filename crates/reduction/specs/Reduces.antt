@@ -27,8 +27,8 @@ pub record ChildAt (reg : PropertyPathRegistry) (p : NodeId) (e : DependencyPath
 abbrev pub leadsBack : PropertyPathRegistry → NodeSet → NodeId → Bool
 leadsBack reg s k = sameNode (walkPath (reducedMark s) reg (fullPathOf reg k) .node) k
 
--- What a pass over the nodes ks makes of a registry and a set, whether or not it has changed the set
--- before.
+-- What a pass over the nodes ks makes of a registry and a set, whether or not it has changed the
+-- set before.
 abbrev pub passOver : PropertyPathRegistry → NodeSet → Bool → List NodeId → PassState
 passOver reg s changed ks = reduceNodes (record { registry = reg; set = s; changed = changed }) ks
 
@@ -44,7 +44,8 @@ pub record NextIs (ws : List ℕ) (s : NodeSet) (snapshot : List ℕ) (from : �
 -- The next node to reduce; or there is none, and a pass over them changes nothing.
 abbrev pub GoesOn : List ℕ → NodeSet → List ℕ → ℕ → Next → Type 0
 GoesOn ws s snapshot from (At k) = NextIs ws s snapshot from k
-GoesOn ws s snapshot from Nothing = (changed : Bool) → passOver (registryOf ws) s changed (membersFrom snapshot from) ≡ passOver (registryOf ws) s changed []
+GoesOn ws s snapshot from Nothing =
+    (changed : Bool) → passOver (registryOf ws) s changed (membersFrom snapshot from) ≡ passOver (registryOf ws) s changed []
 
 -- A set of the registry's nodes is reduced, where that is known.
 abbrev pub KnownReduced : Bool → PropertyPathRegistry → NodeSet → Type 0

@@ -1,5 +1,5 @@
 -- The intersection of rows: of the rows passed, met word by word, and of those still to come.
-use Prim.Native.Nat.{ℕ, _+_, _*_, _≤_, _<_}
+use Prim.Native.Nat.{ℕ, zero, suc, _+_, _*_, _≤_, _<_}
 use native.Mathlib.Omega.{arith}
 use native.Mathlib.Numerals.{add-one}
 use mathlib.Core.Path.{_≡_, refl, sym, ap, _∙_}
@@ -7,6 +7,7 @@ use mathlib.Core.List.{List, [], _∷_, map, foldl}
 use lib.Bits.{bitAnd}
 use lib.ListN.{length, getD, drop, drop-of-length-le, replicate, getD-replicate}
 use lib.Seq.{drop-cons, getD-drop}
+use Rattle.model.specs.ListLaws.{All}
 use Rattle.model.specs.Sets.{NodeSet, intersection}
 use Rattle.model.specs.Propagation.{intersectionOf}
 use Rattle.rows.specs.Members.{membersOf}
@@ -38,6 +39,12 @@ met-is words ws at =
 pub row-met : (words ws : List ℕ) (b : ℕ) → membersOf (metAt words ws (b * 8)) ≡ intersection (membersOf words) (rowOf ws b)
 unfolding rowOf
 row-met words ws b = ap membersOf (sym (met-is words ws (b * 8))) ∙ intersected words (drop (b * 8) ws)
+
+-- what holds of every place, at one of them
+pub all-at : (P : ℕ → Type 0) (places : List ℕ) (i : ℕ) → All P places → i < length places → P (getD places i 0)
+all-at P [] i a l = absurd (omega arith)
+all-at P (b ∷ bs) zero a l = a .0
+all-at P (b ∷ bs) (suc i) a l = all-at P bs i (a .1) (omega arith)
 
 -- The loop over the places: the rows of those from i on are still to come.
 pub record Met (ws places found : List ℕ) (i : ℕ) : Type 0 where

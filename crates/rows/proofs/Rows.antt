@@ -103,11 +103,11 @@ module _ (ws : List ℕ) (at : ℕ) (l : List ℕ) (n : ℕ) (room : at + n ≤ 
       ∙ getD-drop (at + n) ws (j - (at + n)) 0
       ∙ ap (λ (k : ℕ). getD ws k 0) (omega arith)
 
-pub row-stored : (ws : List ℕ) (b : ℕ) (l : List ℕ) → b < 128 → Lent ws → length l ≡ 8 → RowSet ws (paste ws (b * 8) l 8) b (membersOf l)
+pub row-stored : (ws : List ℕ) (b : ℕ) (l : List ℕ) → Lent (b + 1) ws → length l ≡ 8 → RowSet ws (paste ws (b * 8) l 8) b (membersOf l)
 unfolding rowOf
-row-stored ws b l small lent full =
+row-stored ws b l lent full =
     record {
-      lent = record { long = length-paste ws (b * 8) l 8 room enough ∙ lent .long };
+      long = length-paste ws (b * 8) l 8 room enough;
       rows = one-row ws (paste ws (b * 8) l 8) b (membersOf l) this other;
     }
   where

@@ -1,14 +1,14 @@
 -- The sets that lent words hold, a row of eight words for each.
-use Prim.Native.Nat.{ℕ, zero, suc, _*_}
+use Prim.Native.Nat.{ℕ, zero, suc, _*_, _≤_}
 use mathlib.Core.Path.{_≡_}
 use mathlib.Core.List.{List, [], _∷_}
 use lib.ListN.{length, drop, set}
 use Rattle.model.specs.Sets.{NodeSet}
 use Rattle.rows.specs.Members.{membersOf}
 
--- what a lent array must have
-pub record Lent (ws : List ℕ) : Type 0 where
-  pub long : length ws ≡ 1024
+-- Lent words have room for n rows.
+abbrev pub Lent : ℕ → List ℕ → Type 0
+Lent n ws = n * 8 ≤ length ws
 
 -- Row b: the set in the eight words from b * 8 on.
 unfoldable pub rowOf : List ℕ → ℕ → NodeSet
@@ -25,5 +25,5 @@ rowsOf ws n = rowsFrom ws 0 n
 
 -- what a store of a set in row b leaves, among however many rows
 pub record RowSet (entry exit : List ℕ) (b : ℕ) (s : NodeSet) : Type 0 where
-  pub lent : Lent exit
+  pub long : length exit ≡ length entry
   pub rows : (n : ℕ) → rowsOf exit n ≡ set (rowsOf entry n) b s

@@ -1,9 +1,9 @@
-// Sets of registry nodes as 512 bits, by value, and 128 rows of them in words that the caller
-// lends. The contracts speak of the ascending lists that the words stand for.
+// Sets of registry nodes as 512 bits, by value, and rows of them in words that the caller lends.
+// The contracts speak of the ascending lists that the words stand for.
 use entries::NodeId;
 ghost use mathlib.Core.Path.{_≡_};
 ghost use mathlib.Core.List.{[], map};
-ghost use Prim.Native.Nat.{_<_};
+ghost use Prim.Native.Nat.{_+_, _<_};
 ghost use Rattle.model.specs.ListLaws.{All, NoRepeats};
 ghost use Rattle.model.specs.Sets.{contains, insert, remove, union, intersection, sameSet};
 ghost use Rattle.model.specs.Propagation.{intersectionOf};
@@ -99,8 +99,8 @@ impl NodeBits {
     }
 
     // The intersection with row b, whose words are read where they stand.
-    fn intersection_with_row(self, ws: &[u64; 1024], b: usize) -> NodeBits
-        requires { ⌜ b < 128 ⌝ }
+    fn intersection_with_row(self, ws: &[u64], b: usize) -> NodeBits
+        requires { ⌜ Lent (b + 1) (now ws) ⌝ }
         ensures { λ r. ⌜ membersOf (r .words) ≡ intersection (membersOf (self .words)) (rowOf (now (ws .entry)) b) ⌝ }
     {
         let a = self.words;
@@ -161,8 +161,8 @@ impl NodeBits {
 }
 
 // Row b is the eight words from b * 8 on.
-pub fn row(ws: &[u64; 1024], b: usize) -> NodeBits
-    requires { ⌜ b < 128 ⌝ }
+pub fn row(ws: &[u64], b: usize) -> NodeBits
+    requires { ⌜ Lent (b + 1) (now ws) ⌝ }
     ensures { λ r. ⌜ membersOf (r .words) ≡ rowOf (now (ws .entry)) b ⌝ }
 {
     let start = b * 8;
@@ -177,8 +177,8 @@ pub fn row(ws: &[u64; 1024], b: usize) -> NodeBits
 
 // The intersection of the rows at these places; of none, the empty set. Each place stands once, as
 // document 02's E3 says; the result does not depend on it.
-pub fn intersection_of_rows(ws: &[u64; 1024], places: &[u8]) -> NodeBits
-    requires { ⌜ All (λ b. b < 128) (now places) × NoRepeats (now places) ⌝ }
+pub fn intersection_of_rows(ws: &[u64], places: &[u8]) -> NodeBits
+    requires { ⌜ All (λ b. Lent (b + 1) (now ws)) (now places) × NoRepeats (now places) ⌝ }
     ensures { λ r. ⌜ membersOf (r .words) ≡ intersectionOf (map (rowOf (now (ws .entry))) (now (places .entry))) ⌝ }
 {
     if places.len() == 0 {
@@ -193,8 +193,8 @@ pub fn intersection_of_rows(ws: &[u64; 1024], places: &[u8]) -> NodeBits
     found
 }
 
-pub fn set_row(ws: &mut [u64; 1024], b: usize, s: NodeBits)
-    requires { ⌜ (b < 128) × Lent (now ws) ⌝ }
+pub fn set_row(ws: &mut [u64], b: usize, s: NodeBits)
+    requires { ⌜ Lent (b + 1) (now ws) ⌝ }
     ensures { λ _. ⌜ RowSet (now (ws .entry)) (now (ws .exit)) b (membersOf (s .words)) ⌝ }
 {
     let at = b * 8;

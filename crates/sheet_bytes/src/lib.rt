@@ -7,7 +7,7 @@ ghost use Rattle.model.specs.Registry.{fullPathOf};
 ghost use Rattle.model.specs.RegistryLaws.{nodeAt};
 ghost use Rattle.model.specs.Lists.{concatMap};
 ghost use Rattle.model.specs.Answer.{parentNumber, originBytes, nodeBytes, rowBytes, sheetHead, leastBuffer, spanWidth};
-ghost use Rattle.rows.specs.Rows.{rowOf};
+ghost use Rattle.rows.specs.Rows.{Lent, rowOf};
 ghost use Rattle.registry.specs.Nodes.{originOf};
 ghost use Rattle.registry.specs.Words.{countIn, registryOf, HoldsRegistry};
 ghost use Rattle.writer.specs.Writes.{Writes};
@@ -111,8 +111,8 @@ fn put_nodes(ws: &[u64; 1665], out: &mut [u8], start: usize) -> usize
 }
 
 // Row b: node k is bit k % 64 of word k / 64, so a word's bytes, lowest first, are the row's.
-fn put_row(sets: &[u64; 1024], b: usize, out: &mut [u8], start: usize) -> usize
-    requires { ⌜ (b < 128) × (start + 64 ≤ length (now out)) ⌝ }
+fn put_row(sets: &[u64], b: usize, out: &mut [u8], start: usize) -> usize
+    requires { ⌜ Lent (b + 1) (now sets) × (start + 64 ≤ length (now out)) ⌝ }
     ensures { λ r. ⌜ Writes (now (out .entry)) (now (out .exit)) start (rowBytes (rowOf (now (sets .entry)) b) 0 64) r ⌝ }
 {
     let first = b * 8;
@@ -126,8 +126,8 @@ fn put_row(sets: &[u64; 1024], b: usize, out: &mut [u8], start: usize) -> usize
 }
 
 // Block b: its id and its set.
-fn put_block(sets: &[u64; 1024], b: usize, id: BlockId, out: &mut [u8], at: usize) -> usize
-    requires { ⌜ (b < 128) × (at + 70 ≤ length (now out)) ⌝ }
+fn put_block(sets: &[u64], b: usize, id: BlockId, out: &mut [u8], at: usize) -> usize
+    requires { ⌜ Lent (b + 1) (now sets) × (at + 70 ≤ length (now out)) ⌝ }
     ensures { λ r. ⌜ Writes (now (out .entry)) (now (out .exit)) at (setRecord id (rowOf (now (sets .entry)) b)) r ⌝ }
 {
     let id_at = put_number(out, at, 2, SE);
@@ -136,14 +136,8 @@ fn put_block(sets: &[u64; 1024], b: usize, id: BlockId, out: &mut [u8], at: usiz
 }
 
 // All blocks, in job order.
-fn put_blocks(
-    sets: &[u64; 1024],
-    ids: &[u32; 128],
-    blocks: usize,
-    out: &mut [u8],
-    start: usize,
-) -> usize
-    requires { ⌜ (blocks ≤ 128) × (start + 70 * 128 ≤ length (now out)) ⌝ }
+fn put_blocks(sets: &[u64], ids: &[u32; 128], blocks: usize, out: &mut [u8], start: usize) -> usize
+    requires { ⌜ (blocks ≤ 128) × Lent blocks (now sets) × (start + 70 * 128 ≤ length (now out)) ⌝ }
     ensures { λ r. ⌜ Writes (now (out .entry)) (now (out .exit)) start (setRecords (now (ids .entry)) (now (sets .entry)) 0 blocks) r ⌝ }
 {
     let mut at = start;
@@ -180,7 +174,7 @@ fn put_head(
 // The whole sheet, from the buffer's start on.
 pub fn put_sheet(
     ws: &[u64; 1665],
-    sets: &[u64; 1024],
+    sets: &[u64],
     ids: &[u32; 128],
     blocks: usize,
     rounds: u8,
@@ -188,7 +182,7 @@ pub fn put_sheet(
     nodes_before: usize,
     out: &mut [u8],
 ) -> usize
-    requires { ⌜ HoldsRegistry (now ws) × (blocks ≤ 128) × (leastBuffer ≤ length (now out)) ⌝ }
+    requires { ⌜ HoldsRegistry (now ws) × (blocks ≤ 128) × Lent blocks (now sets) × (leastBuffer ≤ length (now out)) ⌝ }
     ensures { λ r. ⌜ WritesSheet (now (ws .entry)) (now (sets .entry)) (now (ids .entry)) blocks rounds settled «nodes_before»
         (now (out .entry)) (now (out .exit)) r ⌝ }
 {

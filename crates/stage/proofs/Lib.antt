@@ -4,3 +4,4 @@ pub mod Performing
 pub mod Accepting
 pub mod Numbers
 pub mod Thinned
+pub mod Room

@@ -103,8 +103,8 @@ module _ {s ids places : List ℕ} {head : JobHead} (acc : AcceptedJob s ids pla
   place-inside = let l = place-known (job .blocks) (job .scope) member .0 in let c = acc .noted .blocks .count in omega arith
 
   -- the scope block has a row
-  pub scope-inside : (place : ℕ) → place ≡ placeAmong (idsNoted ids n) (head .scope) → place < 128
-  scope-inside place is = let e = is ∙ scope-place in let l = place-inside in let few = acc .noted .few in omega arith
+  pub scope-inside : (place : ℕ) → place ≡ placeAmong (idsNoted ids n) (head .scope) → place < n
+  scope-inside place is = let e = is ∙ scope-place in let l = place-inside in omega arith
 
   module _ (sets ws : List ℕ) (stands : Standing n sets ws) (place : ℕ) (is : place ≡ placeAmong (idsNoted ids n) (head .scope)) where
     place-same : place ≡ placeOf (job .blocks) (job .scope)

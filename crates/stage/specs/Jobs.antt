@@ -14,7 +14,7 @@ use Rattle.model.specs.Rounds.{Rounds}
 use Rattle.model.specs.Propagation.{Work, JoiningRule}
 use Rattle.model.specs.Stage.{Started, propagated}
 use Rattle.model.specs.Answer.{Verdict, writes, turnsBack, onJob, Writing, verdict, spanWidth, answerWriting, sheetBytes, bufferAfter}
-use Rattle.rows.specs.Rows.{rowsOf}
+use Rattle.rows.specs.Rows.{Lent, rowsOf}
 use Rattle.registry.specs.Words.{registryOf, Sized}
 use Rattle.writer.specs.Writes.{Writes}
 use Rattle.job.specs.Kept.{blocksOf, headOf}
@@ -23,7 +23,7 @@ use Rattle.edges.specs.Fills.{NotedJob}
 use Rattle.propagation.specs.Propagates.{roundsOf, Propagates}
 use Rattle.propagation.specs.declared.RoundsRun.{RoundsRun}
 use Rattle.propagation.specs.declared.Propagated.{Propagated}
-use Rattle.answer_bytes.specs.Answers.{CandidatesAt}
+use Rattle.answer_bytes.specs.Answers.{CandidatesAt, TreeRoom}
 use Rattle.stage.specs.declared.Operation.{Operation}
 use Rattle.stage.specs.declared.Operation.the-variants as operation
 use Rattle.stage.specs.declared.Outcome.{Outcome}
@@ -71,6 +71,12 @@ pub record AcceptedJob (s ids places : List ℕ) (head : JobHead) : Type 0 where
   pub keeps : head ≡ headOf s (noted .job)
   pub listed : map blockId (take (head .blocks) ids) ≡ idsOf (noted .job .blocks)
   pub candidates : CandidatesAt s (head .«candidates_at») (head .candidates)
+
+-- The words have room for the sets of a job's blocks, and for the dependency tree of its
+-- candidates.
+pub record WorkRoom (head : JobHead) (work : List ℕ) : Type 0 where
+  pub rows : Lent (head .blocks) work
+  pub tree : TreeRoom work (head .candidates)
 
 -- The words hold a registry, and each of the first n rows a set of its nodes.
 pub record Standing (n : ℕ) (sets ws : List ℕ) : Type 0 where

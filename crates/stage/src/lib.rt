@@ -9,10 +9,11 @@ ghost use Rattle.model.specs.Strict.{strictAnswerOf, strictSheetOf};
 ghost use Rattle.model.specs.Stage.{startOf};
 ghost use Rattle.job.specs.Kept.{blocksOf};
 ghost use Rattle.assumed.specs.Start.{StartHeld};
-ghost use Rattle.edges.specs.Fills.{NotedJob};
+ghost use Rattle.edges.specs.Fills.{NotedJob, Blank};
 ghost use Rattle.propagation.specs.Rules.{ruleOf};
 ghost use Rattle.stage.specs.Jobs.{
   AcceptedJob,
+  WorkRoom,
   Standing,
   PropagatesJob,
   PutsAnswer,
@@ -43,7 +44,33 @@ pub enum Outcome {
     Refused(Refusal),
 }
 
-// Fills the graph and propagates, from the assumed paths that were entered.
+// Fills the graph, in bytes that are 0, and propagates, from the assumed paths that were entered.
+fn propagate_in(
+    joining: Joining,
+    s: &[u8],
+    ids: &[u32; 128],
+    places: &[usize; 128],
+    blocks: usize,
+    graph: &mut [u8],
+    ws: &mut [u64; 1665],
+    optional: &mut [u64; 8],
+    sets: &mut [u64],
+) -> Propagated
+    requires { ⌜ NotedJob (now s) (now ids) (now places) blocks × Blank blocks (now graph)
+        × StartHeld (startOf (blocksOf (now s))) blocks (now ws) (now optional) (now sets) ⌝ }
+    ensures { λ r. ⌜ PropagatesJob (ruleOf joining) (now (s .entry)) blocks r (now (sets .exit)) (now (ws .exit)) (now (optional .exit)) ⌝ }
+{
+    edges::fill_graph(s, ids, places, blocks, graph);
+    propagation::propagate_non_null(joining, graph, sets, ws, optional)
+}
+
+// For so many blocks and candidates there are smaller arrays, since clearing those for the most
+// would take longer than all else that is done for a small job.
+const FEW_BLOCKS: usize = 16;
+
+const FEW_CANDIDATES: usize = 16;
+
+// The same in bytes of its own, fewer for few blocks.
 fn propagate(
     joining: Joining,
     s: &[u8],
@@ -52,30 +79,54 @@ fn propagate(
     blocks: usize,
     ws: &mut [u64; 1665],
     optional: &mut [u64; 8],
-    sets: &mut [u64; 1024],
+    sets: &mut [u64],
 ) -> Propagated
     requires { ⌜ NotedJob (now s) (now ids) (now places) blocks
         × StartHeld (startOf (blocksOf (now s))) blocks (now ws) (now optional) (now sets) ⌝ }
     ensures { λ r. ⌜ PropagatesJob (ruleOf joining) (now (s .entry)) blocks r (now (sets .exit)) (now (ws .exit)) (now (optional .exit)) ⌝ }
 {
+    if blocks <= FEW_BLOCKS {
+        let mut few = [0u8; 3329];
+        return propagate_in(
+            joining,
+            s,
+            ids,
+            places,
+            blocks,
+            &mut few,
+            ws,
+            optional,
+            sets,
+        );
+    }
     let mut graph = [0u8; 10497];
-    edges::fill_graph(s, ids, places, blocks, &mut graph);
-    propagation::propagate_non_null(joining, &graph, sets, ws, optional)
+    propagate_in(
+        joining,
+        s,
+        ids,
+        places,
+        blocks,
+        &mut graph,
+        ws,
+        optional,
+        sets,
+    )
 }
 
-// The answer of a job that was propagated: the scope block's set is found by the block's place.
+// The answer of a job that was propagated: the scope block's set is found by the block's place. The
+// other sets are of no use then, and their words are lent for the dependency tree.
 fn put_answer(
     s: &[u8],
     ids: &[u32; 128],
     places: &[usize; 128],
     head: JobHead,
     ws: &[u64; 1665],
-    sets: &[u64; 1024],
+    sets: &mut [u64],
     run: RoundsRun,
     out: &mut [u8],
 ) -> usize
     requires { ⌜ AcceptedJob (now s) (now ids) (now places) head × Standing (head .blocks) (now sets) (now ws) × (run .rounds < 256)
-        × (leastBuffer ≤ length (now out)) ⌝ }
+        × (leastBuffer ≤ length (now out)) × WorkRoom head (now sets) ⌝ }
     ensures { λ r. ⌜ PutsAnswer (now (s .entry)) head (now (sets .entry)) (now (ws .entry)) run (now (out .entry))
         (now (out .exit)) r ⌝ }
 {
@@ -83,6 +134,7 @@ fn put_answer(
     let place = edges::place_of(ids, head.blocks, scope);
     let set = rows::row(sets, place);
     answer_bytes::put_answer(
+        sets,
         s,
         ws,
         set,
@@ -94,7 +146,7 @@ fn put_answer(
     )
 }
 
-// The bytes of the operation, from the buffer's start on.
+// The bytes of the operation, from the buffer's start on. What becomes of the sets is not said.
 fn put(
     operation: Operation,
     s: &[u8],
@@ -102,13 +154,13 @@ fn put(
     places: &[usize; 128],
     head: JobHead,
     ws: &[u64; 1665],
-    sets: &[u64; 1024],
+    sets: &mut [u64],
     nodes_before: usize,
     run: RoundsRun,
     out: &mut [u8],
 ) -> usize
     requires { ⌜ AcceptedJob (now s) (now ids) (now places) head × Standing (head .blocks) (now sets) (now ws) × (run .rounds < 256)
-        × (leastBuffer ≤ length (now out)) ⌝ }
+        × (leastBuffer ≤ length (now out)) × WorkRoom head (now sets) ⌝ }
     ensures { λ r. ⌜ PutsJob operation (now (s .entry)) head (now (sets .entry)) (now (ws .entry)) «nodes_before» run (now (out .entry))
         (now (out .exit)) r ⌝ }
 {
@@ -128,7 +180,45 @@ fn put(
 }
 
 // The operation on a job that was read: its assumed paths are entered and its blocks propagated;
-// refusal 9, or its bytes.
+// refusal 9, or its bytes. `work` is for the blocks' sets, and then for the dependency tree.
+fn perform_in(
+    joining: Joining,
+    operation: Operation,
+    s: &[u8],
+    ids: &[u32; 128],
+    places: &[usize; 128],
+    head: JobHead,
+    work: &mut [u64],
+    out: &mut [u8],
+) -> Outcome
+    requires { ⌜ AcceptedJob (now s) (now ids) (now places) head × (leastBuffer ≤ length (now out)) × WorkRoom head (now work) ⌝ }
+    ensures { λ r. ⌜ Meets (jobVerdict (ruleOf joining) operation (now (s .entry))) r (now (out .entry)) (now (out .exit)) ⌝ }
+{
+    let full = Outcome::Refused(Refusal::ManyNodes);
+    let mut ws = [0u64; 1665];
+    let mut optional = [0u64; 8];
+    let entered = assumed::enter_blocks(s, places, head.blocks, &mut ws, &mut optional, work);
+    let BlocksEntered::All(made) = entered else {
+        return full;
+    };
+    let propagated = propagate(
+        joining,
+        s,
+        ids,
+        places,
+        head.blocks,
+        &mut ws,
+        &mut optional,
+        work,
+    );
+    let Propagated::Ran(run) = propagated else {
+        return full;
+    };
+    let written = put(operation, s, ids, places, head, &ws, work, made, run, out);
+    Outcome::Written(written)
+}
+
+// The same in words of its own, fewer for few blocks and candidates.
 fn perform_read(
     joining: Joining,
     operation: Operation,
@@ -141,29 +231,14 @@ fn perform_read(
     requires { ⌜ AcceptedJob (now s) (now ids) (now places) head × (leastBuffer ≤ length (now out)) ⌝ }
     ensures { λ r. ⌜ Meets (jobVerdict (ruleOf joining) operation (now (s .entry))) r (now (out .entry)) (now (out .exit)) ⌝ }
 {
-    let full = Outcome::Refused(Refusal::ManyNodes);
-    let mut ws = [0u64; 1665];
-    let mut optional = [0u64; 8];
-    let mut sets = [0u64; 1024];
-    let entered = assumed::enter_blocks(s, places, head.blocks, &mut ws, &mut optional, &mut sets);
-    let BlocksEntered::All(made) = entered else {
-        return full;
-    };
-    let propagated = propagate(
-        joining,
-        s,
-        ids,
-        places,
-        head.blocks,
-        &mut ws,
-        &mut optional,
-        &mut sets,
-    );
-    let Propagated::Ran(run) = propagated else {
-        return full;
-    };
-    let written = put(operation, s, ids, places, head, &ws, &sets, made, run, out);
-    Outcome::Written(written)
+    if head.blocks <= FEW_BLOCKS {
+        if head.candidates <= FEW_CANDIDATES {
+            let mut few = [0u64; 273];
+            return perform_in(joining, operation, s, ids, places, head, &mut few, out);
+        }
+    }
+    let mut work = [0u64; 1089];
+    perform_in(joining, operation, s, ids, places, head, &mut work, out)
 }
 
 // The operation on any bytes and any buffer, by the propagation of a joining rule.

@@ -1,13 +1,12 @@
 -- A candidate whose walk is entered is added to the forest; no way down becomes longer than the
 -- longest walk.
-use Prim.Native.Nat.{ℕ, zero, suc, _≤_, _<_}
+use Prim.Native.Nat.{ℕ, zero, suc, _-_, _≤_, _<_}
 use native.Mathlib.Omega.{arith}
 use mathlib.Core.Path.{_≡_, sym, ap, subst, _∙_}
 use mathlib.Core.Bool.{cond}
 use mathlib.Core.List.{List, [], _∷_}
 use borrow.Author.Tests.{leb-true, leb-false}
 use lib.ListN.{length, set, length-set}
-use lib.Seq.{getD-set-same}
 use lib.Dec.{leb}
 use Rattle.model.specs.Tests.{by-cond, decide}
 use Rattle.model.specs.Forest.{Key, sameKey, Forest, empty, position, chain, add}
@@ -19,6 +18,7 @@ use Rattle.laws.specs.Flat.{grow}
 use Rattle.laws.specs.FlatLaws.{grow-enter}
 use Rattle.tree.specs.Words.{positionAs}
 use Rattle.tree.specs.Tree.{countIn, nodesOf, forestOf, height, Linked, Sized, Held, entered, Enters, Adds}
+use Rattle.tree.proofs.Entering.{count-stored}
 use Rattle.tree.proofs.Walking.{walkOf, walk-few, Walking, walking-over}
 
 -- The height.
@@ -53,17 +53,20 @@ module _ {P : Type 0} (key : P → Key) (merge : P → P → P) where
 none-linked : {ws : List ℕ} → countIn ws ≡ 0 → Linked ws
 none-linked e = record { parents = λ j l. absurd (omega arith); children = λ j l. absurd (omega arith); siblings = λ j l. absurd (omega arith) }
 
-module _ (ws : List ℕ) (long : length ws ≡ 1089) where
-  pub cleared-count : countIn (set ws 1088 0) ≡ 0
-  cleared-count = getD-set-same ws 1088 0 0 (omega arith)
+module _ (ws : List ℕ) (some : 0 < length ws) (short : length ws ≤ 2048) where
+  abbrev none : List ℕ
+  none = set ws (length ws - 1) 0
 
-  pub cleared : (s : List ℕ) → forestOf s (set ws 1088 0) ≡ empty
+  pub cleared-count : countIn none ≡ 0
+  cleared-count = count-stored ws (length ws - 1) 0 (omega arith)
+
+  pub cleared : (s : List ℕ) → forestOf s none ≡ empty
   unfolding forestOf nodesOf
   cleared s = rw cleared-count
 
-  pub cleared-held : (s : List ℕ) → Held s (set ws 1088 0)
+  pub cleared-held : (s : List ℕ) → Held s none
   cleared-held s = record {
-    sized = record { long = length-set ws 1088 0 ∙ long; room = rw cleared-count (omega arith); linked = none-linked cleared-count };
+    sized = record { short = rw length-set short; room = rw (cleared-count, length-set) some; linked = none-linked cleared-count };
     low = rw (cleared s) (omega arith);
   }
 

@@ -13,7 +13,7 @@ use Rattle.tree.specs.Words.{parentIn, childIn, siblingIn, positionOf, n
 use Rattle.tree.specs.Tree.{countIn, Linked, Sized, enteredFrom, linkedWords, Appendable}
 use Rattle.tree.proofs.Linking.{no-child, no-sibling, linked-more}
 use Rattle.tree.proofs.Packed.{linked-node, child-set, sibling-beside, sibling-set, child-beside}
-use Rattle.tree.proofs.Entering.{entered-made}
+use Rattle.tree.proofs.Entering.{count-stored, entered-made}
 
 module _ (ws : List ℕ) (l step : ℕ) (a : Appendable ws l step) where
   abbrev end : ℕ
@@ -26,16 +26,15 @@ module _ (ws : List ℕ) (l step : ℕ) (a : Appendable ws l step) where
   us = linkedWords ws p l (end + 1)
 
   abbrev vs : List ℕ
-  vs = set (set us end step) 1088 (end + 1)
+  vs = set (set us end step) (length ws - 1) (end + 1)
 
-  us-long : length us ≡ 1089
+  us-long : length us ≡ length ws
   unfolding linkedWords
-  us-long = decide (eqb l 0) (λ t. rw t (a .sized .long)) (λ t. rw t (length-set ws (l - 1) _ ∙ a .sized .long))
+  us-long = decide (eqb l 0) (λ t. rw t) (λ t. rw t (length-set ws (l - 1) _))
 
   us-at : (j : ℕ) → j + 1 ≡ l → getD us j 0 ≡ linkedWord (eqb l p) (getD ws j 0) (end + 1)
   unfolding linkedWords
   us-at j e =
-      let long = a .sized .long in
       let room = a .room in
       let within = a .last .within in
       let place : l - 1 ≡ j = omega arith in
@@ -50,16 +49,22 @@ module _ (ws : List ℕ) (l step : ℕ) (a : Appendable ws l step) where
   vs-old : (j : ℕ) → j < end → getD vs j 0 ≡ getD us j 0
   vs-old j h =
       let room = a .room in
-      getD-set-other (set us end step) 1088 j (end + 1) 0 (λ e. omega arith) ∙ getD-set-other us end j step 0 (λ e. omega arith)
+      getD-set-other (set us end step) (length ws - 1) j (end + 1) 0 (λ e. omega arith) ∙ getD-set-other us end j step 0 (λ e. omega arith)
 
   vs-new : getD vs end 0 ≡ step
   vs-new =
       let room = a .room in
       let long = us-long in
-      getD-set-other (set us end step) 1088 end (end + 1) 0 (λ e. omega arith) ∙ getD-set-same us end step 0 (omega arith)
+      getD-set-other (set us end step) (length ws - 1) end (end + 1) 0 (λ e. omega arith) ∙ getD-set-same us end step 0 (omega arith)
 
   pub vs-count : countIn vs ≡ end + 1
-  vs-count = let long = length-set us end step ∙ us-long in getD-set-same (set us end step) 1088 (end + 1) 0 (omega arith)
+  vs-count =
+      let room = a .room in
+      let long = length-set us end step ∙ us-long in
+      count-stored (set us end step) (length ws - 1) (end + 1) (omega arith)
+
+  vs-long : length vs ≡ length ws
+  vs-long = length-set (set us end step) (length ws - 1) (end + 1) ∙ length-set us end step ∙ us-long
 
   node-old : (s : List ℕ) (j : ℕ) → j < end → nodeOf s (getD vs j 0) ≡ nodeOf s (getD ws j 0)
   node-old s j h =
@@ -98,6 +103,7 @@ module _ (ws : List ℕ) (l step : ℕ) (a : Appendable ws l step) where
   vs-linked : Linked vs
   vs-linked =
       let room = a .room in
+      let short = a .sized .short in
       let low = a .low in
       linked-more ws vs (a .sized .linked) p l (a .last) vs-count parent-old (ap parentIn vs-new)
       (ap childIn vs-new ∙ omega arith) (ap siblingIn vs-new ∙ omega arith)
@@ -112,8 +118,8 @@ module _ (ws : List ℕ) (l step : ℕ) (a : Appendable ws l step) where
   appended-sized =
       let room = a .room in
       record {
-        long = length-set (set us end step) 1088 (end + 1) ∙ length-set us end step ∙ us-long;
-        room = rw vs-count (omega arith);
+        short = rw vs-long (a .sized .short);
+        room = rw (vs-count, vs-long) room;
         linked = vs-linked;
       }
 

@@ -7,12 +7,23 @@ use native.Mathlib.Nat.{add-zero, zero-add, suc-add}
 use mathlib.Core.Path.{_≡_, refl, sym, ap, _∙_}
 use mathlib.Core.Bool.{true, false, cond}
 use mathlib.Core.List.{List, [], _∷_, _++_, append-assoc}
-use lib.ListN.{length, getD, set}
+use lib.ListN.{length, getD, set, length-set}
 use lib.Seq.{getD-set-same, getD-set-other}
 use Rattle.model.specs.Tree.{DependencyPosition, mergePosition}
 use Rattle.laws.specs.Flat.{Node}
 use Rattle.tree.specs.Words.{parentIn, positionOf, nodeOf, nodesFrom}
 use Rattle.tree.specs.Tree.{countIn, nodesOf, entered, matches, nodesAfter, enteredFrom}
+
+-- The count, in the last word.
+
+pub count-stored : (ws : List ℕ) (i v : ℕ) → i + 1 ≡ length ws → countIn (set ws i v) ≡ v
+count-stored ws i v last =
+    let place : length (set ws i v) - 1 ≡ i = omega (arith, length-set ws i v) in
+    ap (λ n. getD (set ws i v) n 0) place ∙ getD-set-same ws i v 0 (omega arith)
+
+pub count-kept : (ws : List ℕ) (i v : ℕ) → i + 1 < length ws → countIn (set ws i v) ≡ countIn ws
+count-kept ws i v before =
+    ap (λ n. getD (set ws i v) (n - 1) 0) (length-set ws i v) ∙ getD-set-other ws i (length ws - 1) v 0 (λ e. omega arith)
 
 -- Nodes in words.
 
@@ -78,16 +89,13 @@ module _ (s ws : List ℕ) (i p : ℕ) (q : DependencyPosition) (h : i < countIn
       ∙ ap (λ (l : List (Node DependencyPosition)). l ++ entered (nodesAfter s ws (i + 1)) (i + 1) p (q ∷ ss)) (sym (nodes-snoc s ws i)))
 
   -- it is merged
-  module _ (long : length ws ≡ 1089) (room : countIn ws ≤ 1088) (v : ℕ)
+  module _ (room : countIn ws < length ws) (v : ℕ)
       (is : nodeOf s v ≡ record { parent = parentIn word; here = mergePosition (positionOf s word) q }) where
-    count-kept : countIn (set ws i v) ≡ countIn ws
-    count-kept = getD-set-other ws i 1088 v 0 (λ e. omega arith)
-
     pub entered-merged : matches (nodeOf s word) p q ≡ true → (ss : List DependencyPosition) → enteredFrom s ws i p (q ∷ ss) ≡ enteredFrom s (set ws i v)
         (i + 1) (i + 1) ss
     entered-merged t ss =
         at-position ss
-        ∙ rw (t, ← is, count-kept, nodes-above s ws i v (i + 1) (countIn ws - (i + 1)) (omega arith))
+        ∙ rw (t, ← is, count-kept ws i v (omega arith), nodes-above s ws i v (i + 1) (countIn ws - (i + 1)) (omega arith))
         (sym (append-assoc (nodesFrom s ws 0 i) (nodeOf s v ∷ []) _)
         ∙ ap (λ (l : List (Node DependencyPosition)). l ++ entered (nodesAfter s ws (i + 1)) (i + 1) (i + 1) ss)
         (sym (nodes-stored s ws i v (omega arith))))

@@ -4,7 +4,7 @@ use native.Mathlib.Omega.{arith}
 use mathlib.Core.Path.{_≡_, refl, sym, ap, subst, _∙_}
 use mathlib.Core.Bool.{true, false}
 use mathlib.Core.List.{List, [], _∷_}
-use lib.ListN.{getD, set, length-set}
+use lib.ListN.{length, getD, set, length-set}
 use lib.Seq.{getD-set-same, getD-set-other}
 use lib.Dec.{eqb}
 use Rattle.entries.specs.declared.PropertyAccessType.{PropertyAccessType}
@@ -25,7 +25,7 @@ use Rattle.tree.proofs.Packed.{
   merged-sibling,
   other-parent,
 }
-use Rattle.tree.proofs.Entering.{entered-past, entered-merged}
+use Rattle.tree.proofs.Entering.{count-kept, entered-past, entered-merged}
 use Rattle.tree.proofs.Appending.{vs-count, appended-sized, entered-appended}
 
 -- The number is that of the first child behind `last`, which is the child passed last, or the
@@ -137,13 +137,12 @@ module _ {s ws : List ℕ} (parent place : ℕ) (access : PropertyAccessType) (s
     inside = let w = x .within in omega arith
 
     merged-count : countIn merged ≡ countIn ws
-    merged-count = let h = inside in let r = sized .room in getD-set-other ws i 1088 _ 0 (λ e. omega arith)
+    merged-count = let h = inside in let r = sized .room in count-kept ws i _ (omega arith)
 
     -- a field that merging keeps
     field-kept : (f : ℕ → ℕ) → f (mergedWord (getD ws i 0) access) ≡ f (getD ws i 0) → (j : ℕ) → j < countIn ws → f (getD merged j 0) ≡ f (getD ws j 0)
     field-kept f e j h =
         let r = sized .room in
-        let l = sized .long in
         decide (eqb i j)
         (λ t.
         let same = eqb-true i j t in
@@ -154,8 +153,8 @@ module _ {s ws : List ℕ} (parent place : ℕ) (access : PropertyAccessType) (s
     merged-sized =
         let w = getD ws i 0 in
         record {
-          long = length-set ws i _ ∙ sized .long;
-          room = rw merged-count (sized .room);
+          short = rw length-set (sized .short);
+          room = rw (merged-count, length-set) (sized .room);
           linked = linked-same ws merged merged-count
               (field-kept parentIn (ap (λ (y : Node DependencyPosition). y .parent) (merged-node w access [])))
               (field-kept childIn (merged-child w access)) (field-kept siblingIn (merged-sibling w access)) (sized .linked);
@@ -182,10 +181,10 @@ module _ {s ws : List ℕ} (parent place : ℕ) (access : PropertyAccessType) (s
           is = λ ss. x .there some ss
               ∙ subst (λ k. enteredFrom s ws i (parentIn step) (here′ ∷ ss) ≡ enteredFrom s vs k k ss) next
               (subst (λ us. enteredFrom s ws i (parentIn step) (here′ ∷ ss) ≡ enteredFrom s us (i + 1) (i + 1) ss) (sym stored)
-              (entered-merged s ws i (parentIn step) here′ inside (sized .long) (sized .room) (mergedWord (getD ws i 0) access) is (x .found some) ss));
+              (entered-merged s ws i (parentIn step) here′ inside (sized .room) (mergedWord (getD ws i 0) access) is (x .found some) ss));
         })
 
-  module _ (room : countIn ws < 1088) (none : number ≤ 0) where
+  module _ (room : countIn ws + 1 < length ws) (none : number ≤ 0) where
     pub appendable : Appendable ws (sought .last) step
     appendable = record { sized = sized; room = room; last = x .last none; low = rw packed (pack-low parent place access p< q<) }
 

@@ -80,15 +80,16 @@ pub record Walking (s before ws : List ℕ) (whole : List DependencyPosition) (p
     (next left flags : ℕ) : Type 0 where
   pub sized : Sized ws
   pub few : countIn ws + (left + 1) ≤ countIn before + 17
-  pub room : countIn before + 17 ≤ 1088
+  pub room : countIn before + 17 < length before
+  pub long : length ws ≡ length before
   pub lies : parent ≤ countIn ws
   pub near : place < 65536
   pub ahead : next + 14 * left < 65536
   pub is : entered (nodesOf s before) 0 0 whole ≡ enteredFrom s ws parent parent
       (walkBits flags (positionAs s parent place a) (entriesFrom s next left))
 
-pub walking-start : (s ws : List ℕ) (at levels : ℕ) (head : PathHead) → Sized ws → countIn ws + 17 ≤ 1088 → at ≤ 32768 → head ≡ headAt s at
-    → Walking s ws ws (walkOf s at levels) 0 at UnconditionalAccess (at + 10) (head .entries) levels
+pub walking-start : (s ws : List ℕ) (at levels : ℕ) (head : PathHead) → Sized ws → countIn ws + 17 < length ws
+    → at ≤ 32768 → head ≡ headAt s at → Walking s ws ws (walkOf s at levels) 0 at UnconditionalAccess (at + 10) (head .entries) levels
 unfolding pathAt positionAs
 walking-start s ws at levels head sized room h e =
     let few = head-few s at in
@@ -96,6 +97,7 @@ walking-start s ws at levels head sized room h e =
       sized = sized;
       few = omega arith;
       room = room;
+      long = refl;
       lies = omega arith;
       near = omega arith;
       ahead = omega arith;
@@ -104,8 +106,8 @@ walking-start s ws at levels head sized room h e =
 
 module _ {s before ws : List ℕ} {whole : List DependencyPosition} {parent place : ℕ} {a : PropertyAccessType} {next left flags : ℕ}
     (w : Walking s before ws whole parent place a next left flags) where
-  pub walking-room : countIn ws < 1088
-  walking-room = let f = w .few in let r = w .room in omega arith
+  pub walking-room : countIn ws + 1 < length ws
+  walking-room = let f = w .few in let r = w .room in let l = w .long in omega arith
 
   -- the last position is entered, and with it the whole walk
   pub walking-over : left ≤ 0 → (vs : List ℕ) (number : ℕ) → Enters s ws vs parent (positionAs s parent place (mergeAccess a OptionalDependency)) number
@@ -129,16 +131,18 @@ module _ {s before ws : List ℕ} {whole : List DependencyPosition} {parent plac
           sized = w .sized;
           few = omega arith;
           room = w .room;
+          long = w .long;
           lies = w .lies;
           near = w .near;
           ahead = omega arith;
           is = w .is ∙ rw (one-more, t);
         }
 
-    pub walking-more : eqb (flags % 2) 1 || e .optional ≡ true → (vs : List ℕ) (number : ℕ) → Enters s ws vs parent (positionAs s parent place a) number
+    pub walking-more : eqb (flags % 2) 1 || e .optional ≡ true → (vs : List ℕ) (number : ℕ) → length vs ≡ length ws
+        → Enters s ws vs parent (positionAs s parent place a) number
         → Walking s before vs whole number next (stepAccess (eqb (flags % 2) 1)) (next + 14) (left - 1) (flags / 2)
     unfolding positionAs
-    walking-more t vs number x =
+    walking-more t vs number long x =
         let f = w .few in
         let n = w .ahead in
         let more = x .few in
@@ -148,6 +152,7 @@ module _ {s before ws : List ℕ} {whole : List DependencyPosition} {parent plac
           sized = x .sized;
           few = omega arith;
           room = w .room;
+          long = long ∙ w .long;
           lies = x .within;
           near = omega arith;
           ahead = omega arith;

@@ -27,9 +27,9 @@ use Rattle.laws.specs.Flat.{Node, grow, enter, flatFirsts}
 use Rattle.tree.specs.Words.{parentIn, childIn, siblingIn, positionOf, nodeOf, nodesFrom, wayPositions, linkedWord}
 use Rattle.tree.specs.Walk.{walkBy, bitsOf, pathAt}
 
--- how many positions there are
+-- how many positions there are, as the last word says
 abbrev pub countIn : List ℕ → ℕ
-countIn ws = getD ws 1088 0
+countIn ws = getD ws (length ws - 1) 0
 
 -- all positions, with their parents
 unfoldable pub nodesOf : List ℕ → List ℕ → List (Node DependencyPosition)
@@ -63,10 +63,11 @@ pub record Linked (ws : List ℕ) : Type 0 where
   pub children : (j : ℕ) → j < countIn ws → Next ws (j + 1) (j + 1) (childIn (getD ws j 0))
   pub siblings : (j : ℕ) → j < countIn ws → Next ws (j + 1) (parentIn (getD ws j 0)) (siblingIn (getD ws j 0))
 
--- room for the most positions, no more than these, and their links
+-- no more words than links have numbers for, no more positions than there are words before the
+-- last, and their links
 pub record Sized (ws : List ℕ) : Type 0 where
-  pub long : length ws ≡ 1089
-  pub room : countIn ws ≤ 1088
+  pub short : length ws ≤ 2048
+  pub room : countIn ws < length ws
   pub linked : Linked ws
 
 -- The words hold a tree in which no way down is longer than a candidate's.
@@ -119,14 +120,15 @@ linkedWords ws p l number = cond (eqb l 0) ws (set ws (l - 1) (linkedWord (eqb l
 -- links.
 pub record Appendable (ws : List ℕ) (l step : ℕ) : Type 0 where
   pub sized : Sized ws
-  pub room : countIn ws < 1088
+  pub room : countIn ws + 1 < length ws
   pub last : LastChild ws (parentIn step) l
   pub low : step < 17179869184
 
 -- The step's word stands behind the positions that were there, and is linked.
 pub record Appends (before after : List ℕ) (l step number : ℕ) : Type 0 where
   pub last : number ≡ countIn before + 1
-  pub is : after ≡ set (set (linkedWords before (parentIn step) l (countIn before + 1)) (countIn before) step) 1088 (countIn before + 1)
+  pub is : after ≡ set (set (linkedWords before (parentIn step) l (countIn before + 1)) (countIn before) step) (length before - 1)
+      (countIn before + 1)
 
 -- A way down goes on below number p with the position q: that stands at this number now, merged or
 -- made, and the rest of the way is to be entered below it.

@@ -1,7 +1,8 @@
 // The dependency tree: positions in words that the caller lends, in the order of making, each with
 // its parent's number; and the returned paths, derived from it. Position k's number is k + 1, and 0
-// stands above the roots. Keys and spans stay in the job's bytes: a position keeps their place. It
-// also has links to its first child and to its next sibling, by which children are found.
+// stands above the roots. The last word says how many positions there are. Keys and spans stay in
+// the job's bytes: a position keeps their place. It also has links to its first child and to its
+// next sibling, by which children are found.
 ghost use mathlib.Core.Path.{_≡_};
 ghost use Prim.Native.Nat.{ℕ, _+_, _-_, _≤_, _<_};
 ghost use mathlib.Core.Bool.{_||_};
@@ -200,22 +201,23 @@ fn step_access(nonnull: bool) -> PropertyAccessType
 
 // The tree.
 
-// A tree of no positions.
-pub fn clear(tree: &mut [u64; 1089])
-    requires { ⌜ length (now tree) ≡ 1089 ⌝ }
+// A tree of no positions, whatever the words were.
+pub fn clear(tree: &mut [u64])
+    requires { ⌜ (0 < length (now tree)) × (length (now tree) ≤ 2048) ⌝ }
     ensures { λ _. ⌜ ((s : List ℕ) → Held s (now (tree .exit)) × (forestOf s (now (tree .exit)) ≡ empty)) ×
         (countIn (now (tree .exit)) ≡ 0) ⌝ }
 {
-    tree[1088] = 0;
+    let room = tree.len() - 1;
+    tree[room] = 0;
 }
 
 // The number of a parent's first child, 0 for none. The first position is the first root.
-fn first_child(tree: &[u64; 1089], parent: usize) -> usize
+fn first_child(tree: &[u64], parent: usize) -> usize
     requires { ⌜ Sized (now tree) × (parent ≤ countIn (now tree)) ⌝ }
     ensures { λ r. ⌜ Next (now (tree .entry)) parent parent r ⌝ }
 {
     if parent == 0 {
-        if tree[1088] == 0 {
+        if tree[tree.len() - 1] == 0 {
             return 0;
         }
         return 1;
@@ -231,7 +233,7 @@ struct Sought {
 }
 
 // The search for the position that has the step's parent and key.
-fn seek(tree: &[u64; 1089], s: &[u8], key: Key, step: u64) -> Sought
+fn seek(tree: &[u64], s: &[u8], key: Key, step: u64) -> Sought
     requires { ⌜ Sized (now tree) × (parentIn step ≤ countIn (now tree)) × (keyOf key ≡ keyAt (now s) (parentIn step) (placeIn step)) ⌝ }
     ensures { λ r. ⌜ Seeks (now (s .entry)) (now (tree .entry)) step r ⌝ }
 {
@@ -251,8 +253,8 @@ fn seek(tree: &[u64; 1089], s: &[u8], key: Key, step: u64) -> Sought
 }
 
 // Merges an access into position i.
-fn merge_at(tree: &mut [u64; 1089], i: usize, with: PropertyAccessType)
-    requires { ⌜ i < 1088 ⌝ }
+fn merge_at(tree: &mut [u64], i: usize, with: PropertyAccessType)
+    requires { ⌜ i < length (now tree) ⌝ }
     ensures { λ _. ⌜ now (tree .exit) ≡ set (now (tree .entry)) i (mergedWord (getD (now (tree .entry)) i 0) with) ⌝ }
 {
     tree[i] = merged_word(tree[i], with);
@@ -260,8 +262,8 @@ fn merge_at(tree: &mut [u64; 1089], i: usize, with: PropertyAccessType)
 
 // Links a position behind the last child of a parent, or as its first child where `last` is the
 // parent itself.
-fn link(tree: &mut [u64; 1089], parent: usize, last: usize, number: usize)
-    requires { ⌜ (last ≤ 1088) × (number < 2048) ×
+fn link(tree: &mut [u64], parent: usize, last: usize, number: usize)
+    requires { ⌜ (last ≤ length (now tree)) × (number < 2048) ×
         (0 < last → linkIn (eqb last parent) (getD (now tree) (last - 1) 0) ≡ 0) ⌝ }
     ensures { λ _. ⌜ now (tree .exit) ≡ linkedWords (now (tree .entry)) parent last number ⌝ }
 {
@@ -272,29 +274,30 @@ fn link(tree: &mut [u64; 1089], parent: usize, last: usize, number: usize)
 }
 
 // Makes the step's position, the last, behind the last child of its parent, and says its number.
-fn append(tree: &mut [u64; 1089], last: usize, step: u64) -> usize
+fn append(tree: &mut [u64], last: usize, step: u64) -> usize
     requires { ⌜ Appendable (now tree) last step ⌝ }
     ensures { λ r. ⌜ Appends (now (tree .entry)) (now (tree .exit)) last step r ⌝ }
 {
-    let end = tree[1088] as usize;
+    let room = tree.len() - 1;
+    let end = tree[room] as usize;
     let number = end + 1;
     link(tree, parent_in(step), last, number);
     tree[end] = step;
-    tree[1088] = number as u64;
+    tree[room] = number as u64;
     number
 }
 
 // Finds the position below a parent that has the key, which stands at a place, and merges the
 // access, or makes it. Says its number.
 fn make_or_merge(
-    tree: &mut [u64; 1089],
+    tree: &mut [u64],
     s: &[u8],
     parent: usize,
     key: Key,
     place: usize,
     access: PropertyAccessType,
 ) -> usize
-    requires { ⌜ Sized (now tree) × (parent ≤ countIn (now tree)) × (countIn (now tree) < 1088) × (place < 65536)
+    requires { ⌜ Sized (now tree) × (parent ≤ countIn (now tree)) × (countIn (now tree) + 1 < length (now tree)) × (place < 65536)
         × (keyOf key ≡ keyAt (now s) parent place) ⌝ }
     ensures { λ r. ⌜ Enters (now (s .entry)) (now (tree .entry)) (now (tree .exit)) parent
         (positionAs (now (s .entry)) parent place access) r ⌝ }
@@ -311,8 +314,8 @@ fn make_or_merge(
 
 // Adds the candidate whose fields stand at a place, after the mark (`add_dependency` of the Rust).
 // Bit j of `levels` says that the hoistable tree is NonNull at level j.
-pub fn add_candidate(tree: &mut [u64; 1089], s: &[u8], at: usize, levels: u32)
-    requires { ⌜ Held (now s) (now tree) × (countIn (now tree) + 17 ≤ 1088) × (at ≤ 32768) ⌝ }
+pub fn add_candidate(tree: &mut [u64], s: &[u8], at: usize, levels: u32)
+    requires { ⌜ Held (now s) (now tree) × (countIn (now tree) + 17 < length (now tree)) × (at ≤ 32768) ⌝ }
     ensures { λ _. ⌜ Adds (now (s .entry)) (now (tree .entry)) (now (tree .exit)) at levels ⌝ }
 {
     let head = head_at(s, at);
@@ -457,7 +460,7 @@ fn put_next(out: &mut [u8], done: Written, s: &[u8], way: &[u64; 17], depth: usi
 // The records of the first dependencies on each way down below a parent, to which the way down is
 // `way`, of this depth.
 fn collect_minimal_deps_in_subtree(
-    tree: &[u64; 1089],
+    tree: &[u64],
     s: &[u8],
     parent: usize,
     way: &mut [u64; 17],
@@ -486,12 +489,7 @@ fn collect_minimal_deps_in_subtree(
 }
 
 // The returned paths' records, from a place on.
-pub fn derive_minimal_dependencies(
-    tree: &[u64; 1089],
-    s: &[u8],
-    out: &mut [u8],
-    at: usize,
-) -> Written
+pub fn derive_minimal_dependencies(tree: &[u64], s: &[u8], out: &mut [u8], at: usize) -> Written
     requires { ⌜ Held (now s) (now tree) ×
         (at + length (concatMap (pathBytes spanWidth DE) (returnedOf (now s) (now tree))) ≤ length (now out)) ⌝ }
     ensures { λ r. ⌜ Derives (returnedOf (now (s .entry)) (now (tree .entry))) (now (out .entry)) (now (out .exit))

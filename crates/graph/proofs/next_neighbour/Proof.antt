@@ -8,12 +8,12 @@ use Rattle.graph.proofs.next_neighbour.Tie as tie
 
 returns : tie.Need-returns
 returns c =
-    let a = c .before .before .args in
+    let a = c .before .before .before .args in
     subst (λ t. Finds (a .graph .now) t (a .b) (a .from) (c .next-successor .result)) (sym (c .before .if1 .taken)) (c .next-successor .ensures)
 
 returns-2 : tie.Need-returns-2
 returns-2 c =
-    let a = c .before .before .args in
+    let a = c .before .before .before .args in
     subst (λ t. Finds (a .graph .now) t (a .b) (a .from) (c .next-predecessor .result)) (sym (c .before .if1 .left)) (c .next-predecessor .ensures)
 
 pub next-neighbour-spec : {M : Type 1} → statement M

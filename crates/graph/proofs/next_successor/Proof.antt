@@ -21,7 +21,7 @@ abbrev μ-loop : tie.MeasureT-loop
 
 loop-holds : tie.Need-loop-holds Inv-loop μ-loop
 loop-holds c =
-    let s = c .before .before in
+    let s = c .before .before .before in
     let first = c .before .size .ensures in
     ⊎-elim
     (λ w. rw (w .1) (let low = w .0 .taken in (omega arith, none-low (s .pre .0) (s .pre .1) (s .args .from) _ (omega arith) (omega arith))))
@@ -33,7 +33,7 @@ returns c =
     let t = c .before .before in
     let w = t .before .before in
     let l = w .before .before .before in
-    let s = l .before .before .before in
+    let s = l .before .before .before .before in
     successor-next (s .pre .0) (s .pre .1) (l .loop .r) (w .successor-bits .result) (t .before .lowest-bit .result) (w .before .before .loop-test .taken)
     (w .successor-bits .ensures) (t .before .lowest-bit .ensures)
     (s .args .from) _ (l .loop .inv .0) (l .loop .inv .1) (t .if2 .taken) (c .as-number .ensures)
@@ -43,7 +43,7 @@ loop-again c =
     let m = c .before .lowest-bit in
     let w = c .before .before in
     let l = w .before .before .before in
-    let s = l .before .before .before in
+    let s = l .before .before .before .before in
     let a = m .ensures .above in (
       omega arith,
       l .loop .inv .1 ∙ passed (s .pre .0) (s .pre .1) (l .loop .r) (w .successor-bits .result) (m .result) (w .before .before .loop-test .taken)
@@ -53,7 +53,7 @@ loop-again c =
 returns-2 : tie.Need-returns-2 Inv-loop μ-loop
 returns-2 c =
     let l = c .before in
-    let s = l .before .before .before in
+    let s = l .before .before .before .before in
     l .loop .inv .1 ∙ no-successor (s .args .graph .now) (s .args .b) (l .loop .r) (c .loop-test .left)
 
 pub next-successor-spec : {M : Type 1} → statement M

@@ -69,7 +69,6 @@ slice-read t c =
     let s = c .before .before .before .before in
     let low = s .pre .1 .1 in
     let room = s .pre .1 .0 .room in
-    let long = s .pre .1 .0 .long in
     omega arith
 
 returns-2 : (t : ℕ) → lts.Need-returns-2 (claims t) (at t) levels-below.Post

@@ -4,6 +4,7 @@ use Prim.Native.Nat.{_-_}
 use native.Mathlib.Omega.{arith}
 use mathlib.Core.Path.{refl, sym, _∙_}
 use denote.Ref.{now}
+use borrow.Author.Needs.{needs}
 use Rattle.hoistable.specs.Positions.{keyOf}
 use Rattle.hoistable.proofs.Positions.{Seeking, seeking, seeking-hit, seeking-miss, seeking-end}
 use Rattle.hoistable.proofs.child_by_key.Statement.{statement}
@@ -16,7 +17,7 @@ abbrev μ-loop : tie.MeasureT-loop
 μ-loop hoist ws parent n end j₀ j = end - j
 
 shared-slice-read-end : tie.Need-shared-slice-read-end Inv-loop μ-loop
-shared-slice-read-end c = let long = c .before .before .pre .0 .long in omega arith
+shared-slice-read-end c = let room = c .before .before .pre .0 .room in omega arith
 
 loop-holds : tie.Need-loop-holds Inv-loop μ-loop
 loop-holds c = let s = c .before .before in seeking (now (s .args .ws)) (now (s .args .hoist)) (s .args .parent) (keyOf (s .args .n)) _ refl (s .pre .1)
@@ -35,7 +36,6 @@ shared-slice-read-is-child c =
     let l = c .before .before in
     let held = l .before .before .before .pre .0 in
     let room = held .room in
-    let long = held .long in
     let counted = l .loop .inv .counted in
     let below = c .before .loop-test .taken in
     omega arith
@@ -87,6 +87,8 @@ child-by-key-spec =
     (tie.spec
     Inv-loop
     μ-loop
+    (λ c. search needs)
+    (λ c. search needs)
     shared-slice-read-end
     loop-holds
     mul-is-child

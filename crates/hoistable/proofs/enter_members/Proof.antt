@@ -22,9 +22,7 @@ loop-holds : tie.Need-loop-holds Inv-loop μ-loop
 loop-holds c = let s = c .before in entering (now (s .args .ws)) (s .args .set .words) (s .args .ahead) (now (s .args .hoist)) (s .pre .0) (s .pre .2)
 
 same-length : tie.Need-same-length Inv-loop μ-loop
-same-length c =
-    let l = c .before .before .before .before in
-    l .loop .inv .held .long ∙ sym (l .before .before .pre .0 .long)
+same-length c = c .before .before .before .before .loop .inv .long
 
 returns : tie.Need-returns Inv-loop μ-loop
 returns c room =
@@ -42,10 +40,7 @@ enter-member-requires c κs =
 same-length-2 : tie.Need-same-length-2 Inv-loop μ-loop
 same-length-2 c =
     let m = c .before .before .before in
-    let l = m .before .before .before .before .before .before .before in
-    let now-long = l .loop .inv .held .long in
-    let was-long = l .before .before .pre .0 .long in
-    search needs
+    m .enter-member .kept .0 ∙ m .before .before .before .before .before .before .before .loop .inv .long
 
 returns-2 : tie.Need-returns-2 Inv-loop μ-loop
 returns-2 c room = absurd (false≢true room)
@@ -70,10 +65,10 @@ loop-again c =
     let k = m .before .before .before in
     let n = k .before .before in
     entering-more (n .before .before .loop .inv) _ (sym (n .next .ensures) ∙ k .k .given .1)
-    (m .enter-member .ensures (turned-test _ false (c .before .if1 .left)))
+    (m .enter-member .kept .0) (m .enter-member .ensures (turned-test _ false (c .before .if1 .left)))
 
 same-length-3 : tie.Need-same-length-3 Inv-loop μ-loop
-same-length-3 c = c .before .loop .inv .held .long ∙ sym (c .before .before .before .pre .0 .long)
+same-length-3 c = c .before .loop .inv .long
 
 returns-3 : tie.Need-returns-3 Inv-loop μ-loop
 returns-3 c room =

@@ -1,6 +1,7 @@
 -- Where the position is found, nothing changes. Else its word is stored behind the last one.
 use native.Mathlib.Omega.{arith}
 use mathlib.Core.Path.{_≡_, refl, ap, _∙_}
+use lib.ListN.{length-set}
 use denote.Ref.{now}
 use Rattle.registry.specs.declared.Node.{Node}
 use Rattle.hoistable.specs.Positions.{keyOf, numberBelow}
@@ -16,6 +17,9 @@ returns c some =
     (c .before .child-by-key .ensures .0
     ∙ ap (λ (m : Node). numberBelow (now (s .args .ws)) (now (s .args .hoist)) (s .args .parent) (keyOf m)) (c .before .before .before .load .ensures))
     (c .before .child-by-key .ensures .1) some
+
+write-count : tie.Need-slice-write-hoist-2
+write-count c = let room = c .before .if2 .taken in simp length-set (omega arith)
 
 returns-2 : tie.Need-returns-2
 returns-2 c some =
@@ -40,11 +44,14 @@ enter-position-spec =
     (λ c. search needs)
     returns
     (λ c. search needs)
+    (λ c. search needs)
+    (λ c. search needs)
     (λ c κs. search needs)
     (λ c. search needs)
     (λ c. search needs)
     (λ c. search needs)
     (λ c. search needs)
+    write-count
     (λ c. search needs)
     (λ c. search needs)
     returns-2

@@ -58,7 +58,7 @@ abbrev μ-loop : lts.MeasureT-loop
 -- The ways back.
 
 abbrev entry : (t : ℕ) → lts.At-loop (claims t) (at t) visit.Post Inv-loop μ-loop → lts.Start (claims t) (at t) visit.Post Inv-loop μ-loop
-entry t l = l .before
+entry t l = l .before .before
 
 abbrev loop-at : (t : ℕ) → lts.After-k (claims t) (at t) visit.Post Inv-loop μ-loop → lts.At-loop (claims t) (at t) visit.Post Inv-loop μ-loop
 loop-at t k = k .before .before .before .before
@@ -79,10 +79,10 @@ further t k =
     omega arith
 
 element-write-order : (t : ℕ) → lts.Need-element-write-order (claims t) (at t) visit.Post Inv-loop μ-loop
-element-write-order t c = block-inside (enters t c)
+element-write-order t c = block-inside (enters t (c .before))
 
 loop-holds : (t : ℕ) → lts.Need-loop-holds (claims t) (at t) visit.Post Inv-loop μ-loop
-loop-holds t c = neighbours-start (enters t c) (c .args .backward)
+loop-holds t c = let s = c .before in neighbours-start (enters t s) (s .args .backward)
 
 next-neighbour-requires : (t : ℕ) → lts.Need-next-neighbour-requires (claims t) (at t) visit.Post Inv-loop μ-loop
 next-neighbour-requires t c κs = let s = entry t (c .before) in (s .pre .1 .0, s .pre .1 .1)

@@ -17,14 +17,15 @@ slice-aggregate-intersection-of-rows c =
 
 intersection-of-rows-requires : tie.Need-intersection-of-rows-requires
 intersection-of-rows-requires c κs =
-    let s = c .before .before .before in
+    let s = c .before .before .before .before .before in
     let a = s .args in
-    gathered-rows (a .joining) (a .graph .now) (a .backward) (a .b) (a .order .now) (c .before .neighbours-to-join .ensures) (s .pre .0 .size)
+    gathered-rows (a .joining) (a .graph .now) (a .backward) (a .b) (a .order .now) (c .before .neighbours-to-join .ensures) (a .sets .now)
+    (s .pre .3)
 
 returns : tie.Need-returns
 returns c =
     let n = c .before .before in
-    let a = n .before .before .args in
+    let a = n .before .before .before .before .args in
     c .intersection-of-rows .ensures
     ∙ gathered-sets (a .joining) (a .graph .now) (a .backward) (a .b) (a .order .now) (n .neighbours-to-join .ensures) (a .sets .now)
 

@@ -13,7 +13,7 @@ use Rattle.propagation.proofs.join.Statement.{statement}
 use Rattle.propagation.proofs.join.Tie as tie
 
 abbrev entry : tie.After-union → tie.Start
-entry u = u .before .before .before .before .before
+entry u = u .before .before .before .before .before .before .before
 
 abbrev reduced : tie.After-reduce-maybe-optional-chains → tie.After-union
 reduced r = r .before .before .before .before
@@ -30,10 +30,16 @@ made u = record {
 }
 
 row-requires : tie.Need-row-requires
-row-requires c κs = let s = c .before .before .before in let few = s .pre .0 .fits .size in let inside = s .pre .2 in omega arith
+row-requires c κs =
+    let s = c .before .before .before .before .before in
+    let lent = s .pre .0 .stands .lent in
+    let inside = s .pre .2 in
+    omega arith
 
 intersection-of-joining-requires : tie.Need-intersection-of-joining-requires
-intersection-of-joining-requires c κs = let s = c .before in (s .pre .0 .fits, s .pre .0 .once, s .pre .2)
+intersection-of-joining-requires c κs =
+    let s = c .before .before .before in
+    (s .pre .0 .fits, s .pre .0 .once, s .pre .2, s .pre .0 .stands .lent)
 
 reduce-maybe-optional-chains-requires : tie.Need-reduce-maybe-optional-chains-requires
 reduce-maybe-optional-chains-requires c κs = let u = c .before .before .before in
@@ -53,13 +59,13 @@ returns-2 c =
 set-row-requires : tie.Need-set-row-requires
 set-row-requires c κs =
     let s = entry (reduced (c .before .before .before)) in
-    let few = s .pre .0 .fits .size in
+    let lent = s .pre .0 .stands .lent in
     let inside = s .pre .2 in
-    (omega arith, s .pre .0 .stands .lent)
+    omega arith
 
 returns-3 : tie.Need-returns-3
 returns-3 c =
-    let row = c .before .before in
+    let row = c .before .before .before .before in
     let room = row .before .before .before in
     let r = room .before in
     joined-set (made (reduced r)) (r .reduce-maybe-optional-chains .result) _ _ (r .reduce-maybe-optional-chains .ensures) (room .if3 .left)
@@ -74,10 +80,13 @@ join-spec =
     row-requires
     (λ c κs. search needs)
     (λ c κs. search needs)
+    (λ c. search needs)
     returns
     reduce-maybe-optional-chains-requires
+    (λ c. search needs)
     returns-2
     set-row-requires
     (λ c κs. search needs)
     (λ c κs. search needs)
+    (λ c. search needs)
     returns-3)

@@ -16,13 +16,14 @@ abbrev μ-loop : tie.MeasureT-loop
 μ-loop graph backward b dirty₀ from₀ dirty from = 128 - from
 
 loop-holds : tie.Need-loop-holds Inv-loop μ-loop
-loop-holds c = let a = c .args in marking-start (a .graph .now) (a .backward) (a .b) (a .dirty .now) (c .pre .2)
+loop-holds c = let s = c .before in let a = s .args in marking-start (a .graph .now) (a .backward) (a .b) (a .dirty .now) (s .pre .2)
 
 next-neighbour-requires : tie.Need-next-neighbour-requires Inv-loop μ-loop
-next-neighbour-requires c κs = let s = c .before .before in (s .pre .0, s .pre .1)
+next-neighbour-requires c κs = let s = c .before .before .before in (s .pre .0, s .pre .1)
 
 -- the neighbour that is found
-next : (t : tie.After-known-told Inv-loop μ-loop) → let k = t .before in let l = k .before .before .before .before in let a = l .before .args in
+next : (t : tie.After-known-told Inv-loop μ-loop) →
+    let k = t .before in let l = k .before .before .before .before in let a = l .before .before .args in
     Next (a .graph .now) (a .backward) (a .b) (l .loop .from) (k .k .given .0 .0) (k .k .given .0 .1 .0)
 next t =
     let k = t .before in
@@ -31,7 +32,7 @@ next t =
 
 -- it is one of 128 blocks
 inside : (t : tie.After-known-told Inv-loop μ-loop) → t .before .k .given .0 .0 < 128
-inside t = let few = t .before .before .before .before .before .before .pre .0 .size in let here = next t .inside in omega arith
+inside t = let few = t .before .before .before .before .before .before .before .pre .0 .size in let here = next t .inside in omega arith
 
 returns : tie.Need-returns Inv-loop μ-loop
 returns c =
@@ -50,7 +51,7 @@ loop-again c = marking-more (c .before .before .before .before .before .loop .in
 returns-2 : tie.Need-returns-2 Inv-loop μ-loop
 returns-2 c =
     let l = c .before in
-    let s = l .before in
+    let s = l .before .before in
     marking-ends (l .loop .inv) (none-past (s .pre .0) (s .pre .1) (s .args .backward) (l .loop .from) (c .loop-test .left))
 
 pub mark-neighbours-spec : {M : Type 1} → statement M

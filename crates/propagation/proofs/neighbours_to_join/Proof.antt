@@ -29,19 +29,20 @@ abbrev μ-loop : tie.MeasureT-loop
 μ-loop joining graph backward b order places₀ mark count₀ start₀ places count start = 129 - start
 
 element-copy-out-mark : tie.Need-element-copy-out-mark Inv-loop μ-loop
-element-copy-out-mark c = let few = c .pre .0 .size in let inside = c .pre .2 in omega arith
+element-copy-out-mark c = let s = c .before in let few = s .pre .0 .size in let inside = s .pre .2 in omega arith
 
 loop-holds : tie.Need-loop-holds Inv-loop μ-loop
 loop-holds c =
-    let s = c .before in
+    let s = c .before .before in
     let a = s .args in
     gathering-start (a .joining) (a .graph .now) (a .backward) (a .b) (a .order .now) (a .places .now) (s .pre .3)
 
 next-neighbour-requires : tie.Need-next-neighbour-requires Inv-loop μ-loop
-next-neighbour-requires c κs = let s = c .before .before in (s .pre .0, s .pre .2)
+next-neighbour-requires c κs = let s = c .before .before .before in (s .pre .0, s .pre .2)
 
 -- the neighbour that is found
-next : (t : tie.After-known-told Inv-loop μ-loop) → let k = t .before in let l = k .before .before .before in let a = l .before .before .args in
+next : (t : tie.After-known-told Inv-loop μ-loop) →
+    let k = t .before in let l = k .before .before .before in let a = l .before .before .before .args in
     Next (a .graph .now) (a .backward) (a .b) (l .loop .start) (k .k .given .0 .0) (k .k .given .0 .1 .0)
 next t =
     let k = t .before in
@@ -50,12 +51,12 @@ next t =
 
 -- it is one of 128 blocks
 inside : (t : tie.After-known-told Inv-loop μ-loop) → t .before .k .given .0 .0 < 128
-inside t = let few = t .before .before .before .before .before .before .pre .0 .size in let here = next t .inside in omega arith
+inside t = let few = t .before .before .before .before .before .before .before .pre .0 .size in let here = next t .inside in omega arith
 
 returns : tie.Need-returns Inv-loop μ-loop
 returns c =
     let n = c .before .before in
-    let s = n .before .before .before in
+    let s = n .before .before .before .before in
     gathered-all (n .before .loop .inv) (s .pre .1) (s .pre .2)
     (found-nothing _ _ _ _ (n .next-neighbour .result) (n .next-neighbour .ensures) (c .enum-told .given .1))
 
@@ -79,9 +80,10 @@ returns-2 c =
     let e = c .before .before in
     let t = e .before .before in
     let l = t .before .before .before .before in
+    let s = l .before .before .before in
     let low = e .if1 .left in
     let long = l .loop .inv .long in
-    gathered-none (l .loop .inv) (l .before .before .pre .1) (l .before .before .pre .2) (next t) (sym (c .before .asks-all .ensures) ∙ c .if2 .taken)
+    gathered-none (l .loop .inv) (s .pre .1) (s .pre .2) (next t) (sym (c .before .asks-all .ensures) ∙ c .if2 .taken)
     (ltb-not-less _ _ low) _
     (simp length-set long)
 

@@ -5,7 +5,6 @@ use Prim.Native.Nat.{ℕ, _+_, _-_, _<_}
 use native.Mathlib.Omega.{arith}
 use mathlib.Core.Path.{sym, ap, _∙_}
 use mathlib.Core.List.{_∷_}
-use lib.ListN.{replicate}
 use borrow.Author.Needs.{needs}
 use Rattle.graph.specs.Bytes.{sizeIn}
 use Rattle.propagation.proofs.Visiting.{Along, along-by, along-marked, along-more}
@@ -23,12 +22,14 @@ abbrev entry : tie.At-loop Inv-loop μ-loop → tie.Start Inv-loop μ-loop
 entry l = l .before .before .before
 
 loop-holds : tie.Need-loop-holds Inv-loop μ-loop
-loop-holds c = let s = c .before .before in order-begun (s .args .graph .now) (s .pre) (s .args .backward) (c .size .result) (c .size .ensures)
+loop-holds c =
+    let s = c .before .before in
+    rw (s .pre .1) (order-begun (s .args .graph .now) (s .pre .0) (s .args .backward) (c .size .result) (c .size .ensures))
 
 -- the block that is visited next is the first of those to come
 next : (o : tie.After-in-order Inv-loop μ-loop) → let l = o .before .before in let a = entry l .args in
     Along (a .graph .now) (a .backward) (o .in-order .result ∷ orderFrom (a .backward) (l .before .size .result) (l .loop .i + 1))
-    (walkEnd (a .graph .now) (a .backward)) (replicate 257 0) (l .loop .order)
+    (walkEnd (a .graph .now) (a .backward)) (a .order .now) (l .loop .order)
 next o =
     let l = o .before .before in
     let n = l .before .size .result in
@@ -40,13 +41,13 @@ inside : (o : tie.After-in-order Inv-loop μ-loop) → o .in-order .result < siz
 inside o = let below = o .in-order .ensures .1 in let n = o .before .before .before .size .ensures in omega arith
 
 element-copy-out-if1 : tie.Need-element-copy-out-if1 Inv-loop μ-loop
-element-copy-out-if1 c = let few = entry (c .before .before) .pre .size in let here = inside c in omega arith
+element-copy-out-if1 c = let few = entry (c .before .before) .pre .0 .size in let here = inside c in omega arith
 
 visit-requires : tie.Need-visit-requires Inv-loop μ-loop
 visit-requires c κs =
     let o = c .before .before .before in
     let l = o .before .before in
-    (entry l .pre, inside o, l .loop .inv .noting, c .before .if1 .taken)
+    (entry l .pre .0, inside o, l .loop .inv .noting, c .before .if1 .taken)
 
 loop-again : tie.Need-loop-again Inv-loop μ-loop
 loop-again c = let o = c .before .before .before .before in along-more (next o) (inside o) (c .visit .ensures)
@@ -66,7 +67,7 @@ note-order-spec =
     (tie.spec
     Inv-loop
     μ-loop
-    (λ c κs. search needs)
+    (λ c κs. let room = c .before .pre .0 .room in omega arith)
     loop-holds
     (λ c κs. search needs)
     (λ c. search needs)

@@ -10,32 +10,32 @@ use Rattle.propagation.proofs.step.Statement.{statement}
 use Rattle.propagation.proofs.step.Tie as tie
 
 abbrev entry : tie.After-join → tie.Start
-entry j = j .before .before .before .before .before
+entry j = j .before .before .before .before .before .before .before
 
 element-copy-out-if2 : tie.Need-element-copy-out-if2
-element-copy-out-if2 c = let s = c .before in let few = s .pre .0 .fits .size in let inside = s .pre .2 in omega arith
+element-copy-out-if2 c = let s = c .before .before .before in let few = s .pre .0 .fits .size in let inside = s .pre .2 in omega arith
 
 returns : tie.Need-returns
 returns c =
-    let s = c .before .before .before in
+    let s = c .before .before .before .before .before in
     let a = s .args in
     step-passed (a .joining) (a .backward) (a .b) (a .order .now) (a .changed) (s .pre .0) (s .pre .1 (c .before .before .if1 .taken)) (s .pre .2) (s .pre .3)
     (eqb-true _ _ (c .if2 .taken))
 
 join-requires : tie.Need-join-requires
-join-requires c κs = let s = c .before .before .before .before in (s .pre .0, s .pre .1, s .pre .2)
+join-requires c κs = let s = c .before .before .before .before .before .before in (s .pre .0, s .pre .1, s .pre .2)
 
 returns-2 : tie.Need-returns-2
-returns-2 c = let j = c .before in j .join .ensures .full (c .if3 .taken) (entry j .args .changed)
+returns-2 c = let j = c .before .before .before in j .join .ensures .full (c .if3 .taken) (entry j .args .changed)
 
 mark-changed-requires : tie.Need-mark-changed-requires
 mark-changed-requires c κs =
-    let s = entry (c .before .before .before) in
+    let s = entry (c .before .before .before .before .before) in
     (s .pre .0 .fits, s .pre .2, s .pre .3 .long, s .pre .3 .other-long)
 
 element-write-dirty : tie.Need-element-write-dirty
 element-write-dirty c =
-    let s = entry (c .before .before .before .before .before) in
+    let s = entry (c .before .before .before .before .before .before .before) in
     let few = s .pre .0 .fits .size in
     let inside = s .pre .2 in
     omega arith
@@ -45,7 +45,7 @@ returns-3 c =
     let d = c .before in
     let m = d .before in
     let room = m .before .before .before in
-    let j = room .before in
+    let j = room .before .before .before in
     let s = entry j in
     let a = s .args in
     step-joined (a .joining) (a .backward) (a .b) (a .order .now) (s .pre .0) (s .pre .2) (s .pre .3) (j .join .ensures .to (room .if3 .left))
@@ -58,8 +58,10 @@ step-spec =
     element-copy-out-if2
     returns
     join-requires
+    (λ c. search needs)
     returns-2
     mark-changed-requires
     (λ c κs. search needs)
     element-write-dirty
+    (λ c. search needs)
     returns-3)

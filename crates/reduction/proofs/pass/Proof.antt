@@ -36,7 +36,8 @@ returns c =
     let n = c .before .before in
     let l = n .before .before .before .before .before .before in
     along-end (l .loop .inv)
-    (subst (GoesOn (l .loop .ws) (membersOf (l .loop .r .set .words)) (l .before .intersection .result .words) (l .loop .from)) (c .enum-told .given .1) (n .next-to-reduce .ensures))
+    (subst (GoesOn (l .loop .ws) (membersOf (l .loop .r .set .words)) (l .before .intersection .result .words) (l .loop .from))
+    (c .enum-told .given .1) (n .next-to-reduce .ensures))
 
 -- the next node to reduce
 next : (c : tie.After-known-told Inv-loop μ-loop) → let n = c .before .before .before in let l = n .before .before .before .before .before .before in
@@ -44,7 +45,8 @@ next : (c : tie.After-known-told Inv-loop μ-loop) → let n = c .before .before
 next c =
     let n = c .before .before .before in
     let l = n .before .before .before .before .before .before in
-    subst (GoesOn (l .loop .ws) (membersOf (l .loop .r .set .words)) (l .before .intersection .result .words) (l .loop .from)) (c .before .k .given .1) (n .next-to-reduce .ensures)
+    subst (GoesOn (l .loop .ws) (membersOf (l .loop .r .set .words)) (l .before .intersection .result .words) (l .loop .from))
+    (c .before .k .given .1) (n .next-to-reduce .ensures)
 
 reduce-node-requires : tie.Need-reduce-node-requires Inv-loop μ-loop
 reduce-node-requires c κs =

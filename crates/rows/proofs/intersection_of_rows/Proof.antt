@@ -1,13 +1,13 @@
 -- `intersection_of_rows` meets its contract. The loop's invariant, `Met`: what is found, with the
 -- rows of the places still to come, makes the whole intersection. That no place stands twice is not
 -- used; it is what the callers are held to.
-use Prim.Native.Nat.{_-_, _<_}
+use Prim.Native.Nat.{_+_, _-_}
 use native.Mathlib.Omega.{arith}
 use mathlib.Core.Path.{_≡_, sym, _∙_}
 use lib.ListN.{length, getD}
 use borrow.Author.Needs.{needs}
-use Rattle.model.specs.ListLaws.{all-getD}
-use Rattle.rows.proofs.Intersections.{Met, none-met, met-first, met-more, met-end}
+use Rattle.rows.specs.Rows.{Lent}
+use Rattle.rows.proofs.Intersections.{all-at, Met, none-met, met-first, met-more, met-end}
 use Rattle.rows.proofs.intersection_of_rows.Statement.{statement}
 use Rattle.rows.proofs.intersection_of_rows.Tie as tie
 
@@ -18,29 +18,29 @@ abbrev μ-loop : tie.MeasureT-loop
 μ-loop ws places found₀ i₀ found i = length places - i
 
 returns : tie.Need-returns Inv-loop μ-loop
-returns c = let s = c .before .before in none-met (s .args .ws .now) (s .args .places .now) (omega arith)
+returns c = let s = c .before .before .before in none-met (s .args .ws .now) (s .args .places .now) (omega arith)
 
 cast-row : tie.Need-cast-row Inv-loop μ-loop
-cast-row c = omega (arith, c .shared-slice-known2 .given 0)
+cast-row c = omega (arith, c .shared-slice-known3 .given 0)
 
 row-requires : tie.Need-row-requires Inv-loop μ-loop
 row-requires c κs =
-    let s = c .before .before .before in
-    all-getD (λ b. b < 128) (s .args .places .now) 0 0 (s .pre .0) (omega arith)
+    let s = c .before .before .before .before in
+    all-at (λ b. Lent (b + 1) (s .args .ws .now)) (s .args .places .now) 0 (s .pre .0) (omega arith)
 
 loop-holds : tie.Need-loop-holds Inv-loop μ-loop
 loop-holds c =
-    let s = c .before .before .before .before in
+    let s = c .before .before .before .before .before in
     met-first (s .args .ws .now) (s .args .places .now) (c .row .result .words) (omega arith) (c .row .ensures)
 
 cast-intersection-with-row : tie.Need-cast-intersection-with-row Inv-loop μ-loop
-cast-intersection-with-row c = omega (arith, c .shared-slice-known3 .given (c .before .before .loop .i))
+cast-intersection-with-row c = omega (arith, c .shared-slice-known4 .given (c .before .before .loop .i))
 
 intersection-with-row-requires : tie.Need-intersection-with-row-requires Inv-loop μ-loop
 intersection-with-row-requires c κs =
     let l = c .before .before in
-    let s = l .before .before .before .before .before in
-    all-getD (λ b. b < 128) (s .args .places .now) (l .loop .i) 0 (s .pre .0) (omega arith)
+    let s = l .before .before .before .before .before .before in
+    all-at (λ b. Lent (b + 1) (s .args .ws .now)) (s .args .places .now) (l .loop .i) (s .pre .0) (omega arith)
 
 loop-again : tie.Need-loop-again Inv-loop μ-loop
 loop-again c =

@@ -3,9 +3,9 @@
 use Prim.Native.Nat.{ℕ, _+_, _*_, _≤_, _-_}
 use native.Mathlib.Omega.{arith}
 use native.Mathlib.Numerals.{add-one}
-use mathlib.Core.Path.{_≡_, sym, _∙_, ap}
+use mathlib.Core.Path.{_≡_, refl, sym, _∙_, ap}
 use mathlib.Core.List.{List}
-use lib.ListN.{length, getD, set}
+use lib.ListN.{length, getD, set, length-set}
 use lib.Seq.{paste, paste-zero, paste-suc}
 use Rattle.rows.proofs.Rows.{row-stored}
 use borrow.Author.Needs.{needs}
@@ -13,7 +13,7 @@ use Rattle.rows.proofs.set_row.Statement.{statement}
 use Rattle.rows.proofs.set_row.Tie as tie
 
 abbrev Inv-loop : tie.InvT-loop
-Inv-loop ws₀ b at words i₀ ws i = (i ≤ 8) × (ws ≡ paste ws₀ at words i)
+Inv-loop ws₀ b at words i₀ ws i = (i ≤ 8) × (length ws ≡ length ws₀) × (ws ≡ paste ws₀ at words i)
 
 abbrev μ-loop : tie.MeasureT-loop
 μ-loop ws₀ b at words i₀ ws i = 8 - i
@@ -25,7 +25,8 @@ loop-again c =
     let long : length (s .args .s .words) ≡ 8 = search needs in
     let i = l .loop .i in (
       search needs,
-      ap (λ (ws : List ℕ). set ws (s .args .b * 8 + i) (getD (s .args .s .words) i 0)) (l .loop .inv .1)
+      simp length-set (l .loop .inv .1),
+      ap (λ (ws : List ℕ). set ws (s .args .b * 8 + i) (getD (s .args .s .words) i 0)) (l .loop .inv .2)
           ∙ paste-suc (s .args .ws .now) (s .args .b * 8) (s .args .s .words) i 0 (omega arith) (omega arith)
           ∙ ap (paste (s .args .ws .now) (s .args .b * 8) (s .args .s .words)) (sym (add-one i)),
     )
@@ -35,7 +36,7 @@ returns c =
     let l = c .before in
     let s = l .before .before in
     let all : l .loop .i ≡ 8 = omega arith in
-    rw (l .loop .inv .1, all) (row-stored (s .args .ws .now) (s .args .b) (s .args .s .words) (s .pre .0) (s .pre .1) (search needs))
+    rw (l .loop .inv .2, all) (row-stored (s .args .ws .now) (s .args .b) (s .args .s .words) (s .pre) (search needs))
 
 pub set-row-spec : {M : Type 1} → statement M
 set-row-spec =
@@ -44,7 +45,7 @@ set-row-spec =
     Inv-loop
     μ-loop
     (λ c. search needs)
-    (λ c. (search needs, let s = c .before in paste-zero (s .args .ws .now) (s .args .b * 8) (s .args .s .words)))
+    (λ c. (search needs, refl, let s = c .before in paste-zero (s .args .ws .now) (s .args .b * 8) (s .args .s .words)))
     (λ c. search needs)
     (λ c. search needs)
     (λ c. search needs)
@@ -53,4 +54,5 @@ set-row-spec =
     (λ c. search needs)
     (λ c. search needs)
     loop-again
+    (λ c. search needs)
     returns)

@@ -22,13 +22,13 @@ abbrev μ-loop : tie.MeasureT-loop
 μ-loop sets ids blocks out₀ start at₀ b₀ out at b = blocks - b
 
 loop-holds : tie.Need-loop-holds Inv-loop μ-loop
-loop-holds c = (search needs, search needs, coming-start (ap (setRecords _ _ 0) (sub-zero (c .before .args .blocks))))
+loop-holds c = (search needs, search needs, coming-start (ap (setRecords _ _ 0) (sub-zero (c .before .before .args .blocks))))
 
 loop-again : tie.Need-loop-again Inv-loop μ-loop
 loop-again c =
     let call = c .before .before in
     let l = call .before .before .before .before in
-    let a = l .before .before .args in (
+    let a = l .before .before .before .args in (
       search needs,
       room-after 70 (70 * (128 - (l .loop .b + 1))) (call .put-block .ensures) (block-length _ _) (search needs),
       coming-more (l .loop .inv .2) (blocks-more (now (a .ids)) (now (a .sets)) (l .loop .b) (a .blocks) (search needs)) (call .put-block .ensures),
@@ -37,7 +37,7 @@ loop-again c =
 returns : tie.Need-returns Inv-loop μ-loop
 returns c =
     let l = c .before in
-    let a = l .before .before .args in
+    let a = l .before .before .before .args in
     coming-end (l .loop .inv .2) (blocks-over (now (a .ids)) (now (a .sets)) (l .loop .b) (a .blocks) (search needs))
 
 same-length : tie.Need-same-length Inv-loop μ-loop

@@ -25,7 +25,7 @@ loop-again : tie.Need-loop-again Inv-loop μ-loop
 loop-again c =
     let call = c .before .before in
     let l = call .before .before .before .before in
-    let a = l .before .before .args in (
+    let a = l .before .before .before .args in (
       search needs,
       room-after 8 (8 * (8 - (l .loop .i + 1))) (call .put-number .ensures) (number-length _ _) (search needs),
       coming-more (l .loop .inv .2) (row-more (now (a .sets)) (a .b) (l .loop .i) (search needs)) (call .put-number .ensures),

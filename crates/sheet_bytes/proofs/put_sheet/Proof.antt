@@ -32,12 +32,14 @@ claims = (
 )
 
 room-1 : (l : lts.After-put-head claims reads.Pre reads.Post) → l .put-head .result + 24566 ≤ length (l .put-head .last .0)
-room-1 l = room-after 10 24566 (l .put-head .ensures) (head-length _ _ _ (l .before .before .before .before .args .settled) _) (search needs)
+room-1 l =
+    let s = l .before .before .before .before .before in
+    room-after 10 24566 (l .put-head .ensures) (head-length _ _ _ (s .args .settled) _) (search needs)
 
 room-2 : (l : lts.After-put-nodes claims reads.Pre reads.Post) → l .put-nodes .result + 12790 ≤ length (l .put-nodes .last .1 .0)
 room-2 l =
     let head = l .before .before .before .before in
-    let s = head .before .before .before .before in
+    let s = head .before .before .before .before .before in
     let reg = registryOf (now (s .args .ws)) in
     let few = s .pre .0 .sized .room in
     let size = registry-length (now (s .args .ws)) in
@@ -57,7 +59,7 @@ put-sheet-spec =
     (tie.spec
     (λ c κs. search needs)
     (λ c κs. search needs)
-    (λ c κs. (c .before .before .before .before .before .before .before .pre .0, omega (arith, room-1 (c .before .before .before))))
-    (λ c κs. (search needs, omega (arith, room-2 (c .before .before .before))))
+    (λ c κs. (c .before .before .before .before .before .before .before .before .pre .0, omega (arith, room-1 (c .before .before .before))))
+    (λ c κs. (search needs, search needs, omega (arith, room-2 (c .before .before .before))))
     (λ c. search needs)
     returns)

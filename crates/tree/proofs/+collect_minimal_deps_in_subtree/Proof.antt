@@ -73,16 +73,28 @@ abbrev μ-loop : lts.MeasureT-loop
 
 -- The ways back from a place to the loop and to the entry.
 abbrev entry : (t : ℕ) → lts.At-loop (claims t) (at t) reads.Post Inv-loop μ-loop → lts.Start (claims t) (at t) reads.Post Inv-loop μ-loop
-entry t l = l .before .before .before .before
+entry t l = l .before .before .before .before .before
 
 abbrev to-loop : (t : ℕ) → lts.After-is-dependency (claims t) (at t) reads.Post Inv-loop μ-loop → lts.In-loop (claims t) (at t) reads.Post Inv-loop μ-loop
 to-loop t d = d .before .before .before
 
 loop-holds : (t : ℕ) → lts.Need-loop-holds (claims t) (at t) reads.Post Inv-loop μ-loop
-loop-holds t c = at-child (deriving-start (c .before .before .before .pre .1)) (c .first-child .result) (c .first-child .ensures)
+loop-holds t c = at-child (deriving-start (c .before .before .before .before .pre .1)) (c .first-child .result) (c .first-child .ensures)
 
-inside : (t : ℕ) → lts.Need-element-copy-out-w (claims t) (at t) reads.Post Inv-loop μ-loop
-inside t c = let x = c .before .loop .inv in let h = child-inside x (c .loop-test .taken) in let r = x .rest .sized .room in omega arith
+inside-fits : (t : ℕ) → lts.Need-mul-w (claims t) (at t) reads.Post Inv-loop μ-loop
+inside-fits t c =
+    let x = c .before .loop .inv in
+    let h = child-inside x (c .loop-test .taken) in
+    let r = x .rest .sized .room in
+    record { fits = omega arith }
+
+inside : (t : ℕ) → lts.Need-shared-slice-read-w (claims t) (at t) reads.Post Inv-loop μ-loop
+inside t c =
+    let i = c .before in
+    let x = i .before .loop .inv in
+    let h = child-inside x (i .loop-test .taken) in
+    let r = x .rest .sized .room in
+    omega arith
 
 -- a child finds its place on the way
 write-way : (t : ℕ) → lts.Need-element-write-way (claims t) (at t) reads.Post Inv-loop μ-loop
@@ -138,10 +150,10 @@ pub +collect-minimal-deps-in-subtree-spec : {M : Type 1} → statement M
     reads.Post
     Inv-loop
     μ-loop
-    (λ c κs. let p = c .before .before .pre .1 in (p .sized, p .within))
+    (λ c κs. let p = c .before .before .before .pre .1 in (p .sized, p .within))
     (loop-holds t)
     (λ c. search needs)
-    (λ c. let l = inside t c in record { fits = omega arith })
+    (inside-fits t)
     (inside t)
     (λ c. let l = write-way t c in record { fits = omega arith })
     (write-way t)

@@ -22,7 +22,7 @@ abbrev μ-loop : tie.MeasureT-loop
 loop-holds : tie.Need-loop-holds Inv-loop μ-loop
 loop-holds c =
     let head = c .before in
-    let start = head .before .before in
+    let start = head .before .before .before in
     let a = start .args in (
       walking-start (now (a .s)) (now (a .tree)) (a .at) (a .levels) (head .head-at .result) (start .pre .0 .sized) (start .pre .1) (start .pre .2)
           (head .head-at .ensures),
@@ -33,21 +33,23 @@ make-or-merge-requires : tie.Need-make-or-merge-requires Inv-loop μ-loop
 make-or-merge-requires c κs = let x = c .before .before .before .before .before .loop .inv in let w = x .0 in (w .sized, w .lies, walking-room w, w .near, x .1)
 
 add-next-2 : tie.Need-add-next-2 Inv-loop μ-loop
-add-next-2 c = let w = c .before .before .before .before .before .before .before .loop .inv .0 in record { fits = omega (arith, w .ahead) }
+add-next-2 c =
+    let w = c .before .before .before .before .before .before .before .before .before .loop .inv .0 in
+    record { fits = omega (arith, w .ahead) }
 
 loop-again : tie.Need-loop-again Inv-loop μ-loop
 loop-again c =
-    let made = c .before in
+    let made = c .before .before .before in
     let test = made .before .before in
     let entry = test .before .before in
     let i = entry .before in
     let l = i .before .loop in
-    let s = now (i .before .before .before .before .before .args .s) in
+    let s = now (i .before .before .before .before .before .before .args .s) in
     let number = made .make-or-merge .result in
     let some = made .make-or-merge .ensures .some in (
       rw (c .step-access .ensures)
           (walking-more (l .inv .0) (i .loop-test .taken) (entry .entry-at .result) (entry .entry-at .ensures)
-          (sym (test .before .goes-on .ensures) ∙ test .if1 .taken) _ number (made .make-or-merge .ensures)),
+          (sym (test .before .goes-on .ensures) ∙ test .if1 .taken) _ number (made .make-or-merge .kept .0) (made .make-or-merge .ensures)),
       child-key s number (l .next) (entry .entry-at .result) (λ z. omega arith) (entry .entry-at .ensures),
     )
 
@@ -61,13 +63,19 @@ loop-again-2 c =
 make-or-merge-requires-2 : tie.Need-make-or-merge-requires-2 Inv-loop μ-loop
 make-or-merge-requires-2 c κs = let x = c .before .before .before .loop .inv in let w = x .0 in (w .sized, w .lies, walking-room w, w .near, x .1)
 
+same-length : tie.Need-same-length Inv-loop μ-loop
+same-length c =
+    let made = c .before .before in
+    made .make-or-merge2 .kept .0 ∙ made .before .before .before .before .loop .inv .0 .long
+
 returns : tie.Need-returns Inv-loop μ-loop
 returns c =
-    let m = c .before in
+    let made = c .before .before in
+    let m = made .before in
     let i = m .before .before in
-    let start = i .before .before .before .before .before in
-    added (start .pre .0) (i .before .loop .inv .0) (i .loop-test .left) (m .merge .result) (m .merge .ensures) _ (c .make-or-merge2 .result)
-    (c .make-or-merge2 .ensures)
+    let start = i .before .before .before .before .before .before in
+    added (start .pre .0) (i .before .loop .inv .0) (i .loop-test .left) (m .merge .result) (m .merge .ensures) _
+    (made .make-or-merge2 .result) (made .make-or-merge2 .ensures)
 
 pub add-candidate-spec : {M : Type 1} → statement M
 add-candidate-spec =
@@ -90,4 +98,5 @@ add-candidate-spec =
     loop-again-2
     (λ c κs. search needs)
     make-or-merge-requires-2
+    same-length
     returns)

@@ -6,7 +6,17 @@ use Rattle.tree.proofs.clear.Statement.{statement}
 use Rattle.tree.proofs.clear.Tie as tie
 
 returns : tie.Need-returns
-returns c = let ws = now (c .args .tree) in ((λ s. (cleared-held ws (c .pre) s, cleared ws (c .pre) s)), cleared-count ws (c .pre))
+returns c =
+    let ws = now (c .args .tree) in
+    let some = c .pre .0 in
+    let short = c .pre .1 in
+    ((λ s. (cleared-held ws some short s, cleared ws some short s)), cleared-count ws some short)
 
 pub clear-spec : {M : Type 1} → statement M
-clear-spec = tie.close (tie.spec (λ c. search needs) returns)
+clear-spec = tie.close
+    (tie.spec
+    (λ c. search needs)
+    (λ c. search needs)
+    (λ c. search needs)
+    (λ c. search needs)
+    returns)

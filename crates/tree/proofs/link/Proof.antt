@@ -11,19 +11,19 @@ use Rattle.tree.proofs.link.Statement.{statement}
 use Rattle.tree.proofs.link.Tie as tie
 
 with-link-requires : tie.Need-with-link-requires
-with-link-requires c κs = let test = c .before in let start = test .before in (start .pre .2 (test .if1 .taken), start .pre .1)
+with-link-requires c κs = let test = c .before in let start = test .before .before in (start .pre .2 (test .if1 .taken), start .pre .1)
 
 returns : tie.Need-returns
 unfolding linkedWords
 returns c =
     let test = c .before .before in
-    let a = test .before .args in
+    let a = test .before .before .args in
     let some = test .if1 .taken in
     rw (eqb-apart (a .last) 0 (λ z. omega arith)) (ap (set (now (a .tree)) (a .last - 1)) (c .with-link .ensures))
 
 returns-2 : tie.Need-returns-2
 unfolding linkedWords
-returns-2 c = let none = c .if1 .left in rw (eqb-equal (c .before .args .last) 0 (omega arith))
+returns-2 c = let none = c .if1 .left in rw (eqb-equal (c .before .before .args .last) 0 (omega arith))
 
 pub link-spec : {M : Type 1} → statement M
 link-spec =
@@ -33,6 +33,7 @@ link-spec =
     (λ c. search needs)
     (λ c. search needs)
     with-link-requires
+    (λ c. search needs)
     (λ c. search needs)
     (λ c. search needs)
     returns

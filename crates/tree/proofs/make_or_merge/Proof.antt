@@ -14,9 +14,10 @@ use Rattle.tree.proofs.make_or_merge.Tie as tie
 seek-requires : tie.Need-seek-requires
 seek-requires c κs =
     let p = c .before in
-    let start = p .before .before in
+    let start = p .before .before .before in
     let a = start .args in
     let room = start .pre .2 in
+    let short = start .pre .0 .short in
     let lies = start .pre .1 in
     let p< : a .parent < 65536 = omega arith in (
       start .pre .0,
@@ -27,39 +28,44 @@ seek-requires c κs =
 
 returns : tie.Need-returns
 returns c =
-    let test = c .before .before in
+    let m = c .before .before in
+    let test = m .before .before in
     let found = test .before in
     let p = found .before .before in
-    let start = p .before .before in
+    let start = p .before .before .before in
     let a = start .args in
     let room = start .pre .2 in
+    let short = start .pre .0 .short in
     let lies = start .pre .1 in
     enters-merged (a .parent) (a .place) (a .access) (p .pack .result) (found .seek .result) (start .pre .0) (omega arith) (start .pre .3)
-    (p .pack .ensures .0) (found .seek .ensures) (test .if1 .taken) _ (c .merge-at .ensures)
+    (p .pack .ensures .0) (found .seek .ensures) (test .if1 .taken) _ (m .merge-at .ensures)
 
 append-requires : tie.Need-append-requires
 append-requires c κs =
     let test = c .before in
     let found = test .before in
     let p = found .before .before in
-    let start = p .before .before in
+    let start = p .before .before .before in
     let a = start .args in
     let room = start .pre .2 in
+    let short = start .pre .0 .short in
     let lies = start .pre .1 in
     appendable (a .parent) (a .place) (a .access) (p .pack .result) (found .seek .result) (start .pre .0) (omega arith) (start .pre .3)
     (p .pack .ensures .0) (found .seek .ensures) room (test .if1 .left)
 
 returns-2 : tie.Need-returns-2
 returns-2 c =
-    let test = c .before .before in
+    let m = c .before .before in
+    let test = m .before .before in
     let found = test .before in
     let p = found .before .before in
-    let start = p .before .before in
+    let start = p .before .before .before in
     let a = start .args in
     let room = start .pre .2 in
+    let short = start .pre .0 .short in
     let lies = start .pre .1 in
     enters-made (a .parent) (a .place) (a .access) (p .pack .result) (found .seek .result) (start .pre .0) (omega arith) (start .pre .3)
-    (p .pack .ensures .0) (found .seek .ensures) room (test .if1 .left) _ (c .append .result) (c .append .ensures)
+    (p .pack .ensures .0) (found .seek .ensures) room (test .if1 .left) _ (m .append .result) (m .append .ensures)
 
 pub make-or-merge-spec : {M : Type 1} → statement M
 make-or-merge-spec =
@@ -69,6 +75,8 @@ make-or-merge-spec =
     seek-requires
     (λ c. search needs)
     (λ c κs. search needs)
+    (λ c. search needs)
     returns
     append-requires
+    (λ c. search needs)
     returns-2)

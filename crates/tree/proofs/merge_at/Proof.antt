@@ -7,7 +7,7 @@ use Rattle.tree.proofs.merge_at.Statement.{statement}
 use Rattle.tree.proofs.merge_at.Tie as tie
 
 returns : tie.Need-returns
-returns c = let a = c .before .before .args in ap (set (now (a .tree)) (a .i)) (c .merged-word .ensures)
+returns c = let a = c .before .before .before .args in ap (set (now (a .tree)) (a .i)) (c .merged-word .ensures)
 
 pub merge-at-spec : {M : Type 1} → statement M
 merge-at-spec =
@@ -16,6 +16,7 @@ merge-at-spec =
     (λ c. search needs)
     (λ c. search needs)
     (λ c κs. search needs)
+    (λ c. search needs)
     (λ c. search needs)
     (λ c. search needs)
     returns)

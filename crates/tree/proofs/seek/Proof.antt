@@ -21,22 +21,27 @@ abbrev μ-loop : tie.MeasureT-loop
 
 first-child-requires : tie.Need-first-child-requires Inv-loop μ-loop
 first-child-requires c κs =
-    let start = c .before .before in
+    let start = c .before .before .before in
     let is = c .parent-in .ensures .0 in
     let h = start .pre .1 in
     (start .pre .0, omega arith)
 
 loop-holds : tie.Need-loop-holds Inv-loop μ-loop
 loop-holds c =
-    let start = c .before .before .before in
+    let start = c .before .before .before .before in
     let a = start .args in
     let is = c .before .parent-in .ensures .0 in
     subst (λ n. Seeking (now (a .s)) (now (a .tree)) (a .step) n (c .first-child .result)) (sym is)
     (seeking-start (now (a .s)) (now (a .tree)) (a .step) (c .first-child .result) (start .pre .0) (start .pre .1)
     (subst (λ n. Next (now (a .tree)) n n (c .first-child .result)) is (c .first-child .ensures)))
 
-element-copy-out-w : tie.Need-element-copy-out-w Inv-loop μ-loop
-element-copy-out-w c = let x = c .before .loop .inv in let h = x .next .within in let r = x .sized .room in omega (arith, c .loop-test .taken)
+read-w : tie.Need-shared-slice-read-w Inv-loop μ-loop
+read-w c =
+    let i = c .before in
+    let x = i .before .loop .inv in
+    let h = x .next .within in
+    let r = x .sized .room in
+    omega (arith, i .loop-test .taken)
 
 returns : tie.Need-returns Inv-loop μ-loop
 returns c =
@@ -46,7 +51,7 @@ returns c =
     let i = here .before .before in
     let l = i .before .loop in
     let parent = i .before .before .before in
-    let start = parent .before .before in
+    let start = parent .before .before .before in
     let a = start .args in
     let s = now (a .s) in
     let w = getD (now (a .tree)) (l .number - 1) 0 in
@@ -68,7 +73,7 @@ loop-again c =
     let i = here .before .before in
     let l = i .before .loop in
     let parent = i .before .before .before in
-    let start = parent .before .before in
+    let start = parent .before .before .before in
     let a = start .args in
     let s = now (a .s) in
     let w = getD (now (a .tree)) (l .number - 1) 0 in
@@ -93,7 +98,7 @@ seek-spec =
     loop-holds
     (λ c. search needs)
     (λ c. let x = c .before .loop .inv in let h = x .next .within in let r = x .sized .room in record { fits = omega arith })
-    element-copy-out-w
+    read-w
     (λ c κs. search needs)
     (λ c κs. search needs)
     (λ c κs. search needs)
