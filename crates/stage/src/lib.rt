@@ -66,9 +66,9 @@ fn propagate_in(
 
 // For so many blocks and candidates there are smaller arrays, since clearing those for the most
 // would take longer than all else that is done for a small job.
-const FEW_BLOCKS: usize = 16;
+const FEW_BLOCKS: usize = 12;
 
-const FEW_CANDIDATES: usize = 16;
+const FEW_CANDIDATES: usize = 12;
 
 // The same in bytes of its own, fewer for few blocks.
 fn propagate(
@@ -86,7 +86,7 @@ fn propagate(
     ensures { λ r. ⌜ PropagatesJob (ruleOf joining) (now (s .entry)) blocks r (now (sets .exit)) (now (ws .exit)) (now (optional .exit)) ⌝ }
 {
     if blocks <= FEW_BLOCKS {
-        let mut few = [0u8; 3329];
+        let mut few = [0u8; 3073];
         return propagate_in(
             joining,
             s,
@@ -233,7 +233,7 @@ fn perform_read(
 {
     if head.blocks <= FEW_BLOCKS {
         if head.candidates <= FEW_CANDIDATES {
-            let mut few = [0u64; 273];
+            let mut few = [0u64; 205];
             return perform_in(joining, operation, s, ids, places, head, &mut few, out);
         }
     }

@@ -13,7 +13,7 @@ perform-in-requires c κs =
     let a = u .before .before .before .before in
     let candidates = t .if2 .taken in
     let blocks = u .if1 .taken in
-    (a .pre .0, a .pre .1, zeros-room (a .args .head) 273 (omega arith) (omega arith) (omega arith))
+    (a .pre .0, a .pre .1, zeros-room (a .args .head) 205 (omega arith) (omega arith) (omega arith))
 
 perform-in-requires-2 : tie.Need-perform-in-requires-2
 perform-in-requires-2 c κs =

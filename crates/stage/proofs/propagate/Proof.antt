@@ -11,7 +11,7 @@ propagate-in-requires c κs =
     let t = c .before .before .before .before in
     let a = t .before .before .before in
     let few = t .if1 .taken in
-    (a .pre .0, zeros-blank (a .args .blocks) 3329 (omega arith), a .pre .1)
+    (a .pre .0, zeros-blank (a .args .blocks) 3073 (omega arith), a .pre .1)
 
 propagate-in-requires-2 : tie.Need-propagate-in-requires-2
 propagate-in-requires-2 c κs =
