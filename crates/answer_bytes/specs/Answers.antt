@@ -15,7 +15,8 @@ use Rattle.model.specs.Answer.{u8, u16, flag, AN, DE, pathBytes, spanWidth, lon
 use Rattle.writer.specs.Writes.{Writes}
 use Rattle.tree.specs.Tree.{Held, forestOf}
 
--- These many candidates are read from a place on, and end within the longest length of a job.
+-- So many candidates, at most 64, are read from a place on, and end within the longest length of a
+-- job.
 pub record CandidatesAt (s : List ℕ) (start count : ℕ) : Type 0 where
   pub candidates : List ReactiveScopeDependency
   pub end : ℕ
@@ -23,8 +24,8 @@ pub record CandidatesAt (s : List ℕ) (start count : ℕ) : Type 0 where
   pub few : count ≤ 64
   pub short : end ≤ longestJob
 
--- The words have room for the dependency tree of these many candidates: 17 positions for each, and
--- their number.
+-- The words have room for the dependency tree of so many candidates: 17 positions for each, and how
+-- many positions there are. There are no more words than a link has numbers for.
 pub record TreeRoom (tree : List ℕ) (count : ℕ) : Type 0 where
   pub long : 17 * count < length tree
   pub short : length tree ≤ 2048

@@ -19,10 +19,11 @@ use writer::put_number;
 // The mark of an answer.
 pub const AN: u64 = 0x4E41;
 
-// For so many candidates the hoistable tree is built. For fewer that takes longer than it saves.
+// From so many candidates on the hoistable tree is built. For fewer that takes longer than it
+// saves.
 const SEVERAL: usize = 3;
 
-// For so few nodes it is built in fewer words, which are sooner cleared.
+// Up to so many nodes it is built in fewer words, which take less time to clear.
 const FEW_NODES: usize = 64;
 
 // Each candidate from a place on walks, and is added to the dependency tree, whatever its words
@@ -66,7 +67,7 @@ fn walk_candidates(
     }
 }
 
-// They walk with a single word, which is no tree.
+// The candidates walk without the hoistable tree: one word is lent in its place, which is no tree.
 fn walk_without_tree(
     tree: &mut [u64],
     s: &[u8],
@@ -84,8 +85,9 @@ fn walk_without_tree(
     walk_candidates(tree, &none, s, ws, set, start, count);
 }
 
-// They walk with the hoistable tree, built in words that are lent, or without it where these have
-// no room for it. They have, since each position has a node of its own, but no proof needs that.
+// The candidates walk with the hoistable tree, built in words that are lent, or without it where
+// there is no room. `add_candidates` lends enough, since each position has a node of its own, but
+// no proof needs that.
 fn walk_with_tree(
     tree: &mut [u64],
     hoist: &mut [u64],

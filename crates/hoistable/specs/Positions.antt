@@ -61,7 +61,7 @@ nodeOf ws word = record { parent = parentIn word; here = positionOf (keyOf (stor
 abbrev pub positionAt : List ℕ → List ℕ → ℕ → Flat.Node HoistablePosition
 positionAt ws hoist j = nodeOf ws (getD hoist j 0)
 
--- How many positions the words hold, as the last one says.
+-- How many positions the words hold, as the last word says.
 abbrev pub positionsIn : List ℕ → ℕ
 positionsIn hoist = getD hoist (length hoist - 1) 0
 
@@ -78,7 +78,7 @@ abbrev pub foundIn : List ℕ → List ℕ → ℕ → Option (Found HoistablePo
 foundIn ws hoist number = foundAt hoistableKey (positionAt ws hoist) (positionsIn hoist) number
 
 -- No more words than 512 positions and their number need, and no more positions than there are
--- words before the last; each was made by a node, and after its parent.
+-- words before the last; each has a maker's number below 512, and stands behind its parent.
 pub record HoldsPositions (hoist : List ℕ) : Type 0 where
   pub short : length hoist ≤ 513
   pub room : positionsIn hoist < length hoist
@@ -96,7 +96,7 @@ pub record Entered (ws before after : List ℕ) (p : ℕ) (way : List HoistableP
 abbrev pub Enters : List ℕ → List ℕ → List ℕ → ℕ → List HoistablePosition → ℕ → Type 0
 Enters ws before after p way r = 0 < r → Entered ws before after p way r
 
--- The positions of a path after one with a key, with the access of the last.
+-- The position with a key and those of the entries after it, with the access of the last.
 abbrev pub positionsFrom : Key → List DependencyPathEntry → HoistableAccessType → List HoistablePosition
 positionsFrom k [] a = positionOf k a ∷ []
 positionsFrom k (e ∷ es) a = positionOf k (accessOf (e .optional)) ∷ positionsFrom (propertyKey (e .property)) es a
@@ -124,6 +124,6 @@ pub record HoldsTree (ws hoist : List ℕ) (t : Forest HoistablePosition) : Type
   pub held : HoldsPositions hoist
   pub tree : Flat.grow (flatOf ws hoist) 0 0 ≡ t
 
--- More words than one hold the tree of the set.
+-- Where there are more words than one, they hold the tree of the set; of one alone nothing is said.
 abbrev pub MayHoldTree : List ℕ → List ℕ → NodeSet → Type 0
 MayHoldTree ws hoist set = 1 < length hoist → HoldsTree ws hoist (hoistableTree (map (fullPathOf (registryOf ws)) set))

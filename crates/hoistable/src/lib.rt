@@ -497,8 +497,8 @@ fn levels_below(
 }
 
 // At which levels of a candidate the hoistable tree of the set is NonNull: bit j for level j. The
-// candidate has the identifier and the `count` entries at `start`. Where the tree's words are
-// given, and not a single one, the levels are read from them.
+// candidate has the identifier and the `count` entries at `start`. Where there are more words than
+// one, they hold the tree, and the levels are read from them.
 pub fn nonnull_levels(
     hoist: &[u64],
     ws: &[u64; 1665],

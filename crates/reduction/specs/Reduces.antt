@@ -32,8 +32,8 @@ leadsBack reg s k = sameNode (walkPath (reducedMark s) reg (fullPathOf reg k) .n
 abbrev pub passOver : PropertyPathRegistry → NodeSet → Bool → List NodeId → PassState
 passOver reg s changed ks = reduceNodes (record { registry = reg; set = s; changed = changed }) ks
 
--- The next node to reduce of the snapshot's nodes from a place on is k: a pass over all of them is
--- one over k and those behind it.
+-- A pass over the snapshot's nodes from a place on is one over k, a node at that place or behind
+-- it, and those behind k. That k's path leads elsewhere is not said.
 pub record NextIs (ws : List ℕ) (s : NodeSet) (snapshot : List ℕ) (from : ℕ) (k : NodeId) : Type 0 where
   pub ahead : from ≤ k .0
   pub below : k .0 < 512
@@ -41,7 +41,8 @@ pub record NextIs (ws : List ℕ) (s : NodeSet) (snapshot : List ℕ) (from : �
   pub on : (changed : Bool) → passOver (registryOf ws) s changed (membersFrom snapshot from)
       ≡ passOver (registryOf ws) s changed (k ∷ membersFrom snapshot (k .0 + 1))
 
--- The next node to reduce; or there is none, and a pass over them changes nothing.
+-- That, for the node found; or, where none is found, a pass over the snapshot's nodes from the
+-- place on changes nothing.
 abbrev pub GoesOn : List ℕ → NodeSet → List ℕ → ℕ → Next → Type 0
 GoesOn ws s snapshot from (At k) = NextIs ws s snapshot from k
 GoesOn ws s snapshot from Nothing =

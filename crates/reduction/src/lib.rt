@@ -194,7 +194,8 @@ fn next_to_reduce(ws: &[u64; 1665], set: &[u64; 8], snapshot: NodeBits, from: us
     Next::Nothing
 }
 
-// The set's nodes with an optional entry, ascending, as they are at the start.
+// A pass over the set's nodes with an optional entry, ascending, as they are at its start: each
+// that `next_to_reduce` finds is reduced.
 fn pass(ws: &mut [u64; 1665], optional: &mut [u64; 8], set: NodeBits) -> PassSet
     requires { ⌜ Held (now ws) (now optional) × Members (registryOf (now ws)) (membersOf (set .words)) ⌝ }
     ensures { λ r. ⌜ Passes (pass (registryOf (now (ws .entry))) (membersOf (set .words))) r (now (ws .exit)) (now (optional .exit)) ⌝ }

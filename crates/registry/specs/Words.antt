@@ -91,7 +91,7 @@ storedNode ws k = unpack (getD ws (k * 3) 0) (getD ws (k * 3 + 1) 0) (getD ws (k
 abbrev pub countIn : List ℕ → ℕ
 countIn ws = getD ws 1536 0
 
--- Three words are as a node is packed: what unpacking passes over is 0, the link and, of a root,
+-- Three words are as a node is packed: what unpacking passes over is 0, the link and, of a child,
 -- the reactive mark excepted.
 pub record Packed (head value span : ℕ) : Type 0 where
   pub key : head % reactiveUnit ≡ keyIn (unpack head value span)

@@ -72,8 +72,8 @@ pub record AcceptedJob (s ids places : List ℕ) (head : JobHead) : Type 0 where
   pub listed : map blockId (take (head .blocks) ids) ≡ idsOf (noted .job .blocks)
   pub candidates : CandidatesAt s (head .«candidates_at») (head .candidates)
 
--- The words have room for the sets of a job's blocks, and for the dependency tree of its
--- candidates.
+-- The words have room for the sets of a job's blocks (`Lent`), and for the dependency tree of its
+-- candidates (`TreeRoom`).
 pub record WorkRoom (head : JobHead) (work : List ℕ) : Type 0 where
   pub rows : Lent (head .blocks) work
   pub tree : TreeRoom work (head .candidates)

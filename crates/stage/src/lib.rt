@@ -64,13 +64,13 @@ fn propagate_in(
     propagation::propagate_non_null(joining, graph, sets, ws, optional)
 }
 
-// For so many blocks and candidates there are smaller arrays, since clearing those for the most
-// would take longer than all else that is done for a small job.
+// Up to so many blocks and candidates shorter arrays are lent, since clearing those for the most
+// took a large part of a small job's time (docs/DECISIONS.md).
 const FEW_BLOCKS: usize = 12;
 
 const FEW_CANDIDATES: usize = 12;
 
-// The same in bytes of its own, fewer for few blocks.
+// `propagate_in` with bytes of its own, fewer for few blocks.
 fn propagate(
     joining: Joining,
     s: &[u8],
@@ -113,8 +113,8 @@ fn propagate(
     )
 }
 
-// The answer of a job that was propagated: the scope block's set is found by the block's place. The
-// other sets are of no use then, and their words are lent for the dependency tree.
+// The answer of a job that was propagated: the scope block's set is found by the block's place. It
+// is copied, and the words of all sets are then lent for the dependency tree.
 fn put_answer(
     s: &[u8],
     ids: &[u32; 128],
@@ -218,7 +218,7 @@ fn perform_in(
     Outcome::Written(written)
 }
 
-// The same in words of its own, fewer for few blocks and candidates.
+// `perform_in` with words of its own, fewer for few blocks and candidates.
 fn perform_read(
     joining: Joining,
     operation: Operation,
