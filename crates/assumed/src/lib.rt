@@ -1,5 +1,6 @@
 // All assumed paths of a job entered into the registry, straight from its bytes, and each block's
 // set of them stored in its row: of the raw reads those that are kept, and then the ready paths.
+#![tactic(auto)]
 ghost use Rattle.std.specs.Prelude.{◌≡◌, true, false, ◌≤◌};
 ghost use Rattle.rows.specs.Rows.{Lent};
 ghost use Rattle.registry.specs.Words.{registry_of, Held, HoldsNone};
@@ -20,7 +21,7 @@ mod immutable;
 
 // The nodes of the paths entered, how many nodes were made for them, and the place after them; or
 // that the registry had no room.
-#[derive(Drop)]
+#[derive(Clone, Copy)]
 pub struct EnteredSet {
     pub set: NodeBits,
     pub made: usize,
@@ -69,7 +70,7 @@ fn enter_fields(
 
 // Where the fields of the path stand that the record at a place brings; or that it brings none, and
 // the place after it. A field that was read before is never refused.
-#[derive(Drop)]
+#[derive(Clone, Copy)]
 enum Brought {
     Fields(usize),
     Nothing(usize),
@@ -190,7 +191,7 @@ fn enter_block(s: &[u8], at: usize, ws: &mut [u64; 1665], optional: &mut [u64; 8
 
 // How many nodes were made in all, once every assumed path was entered; or the registry had no
 // room.
-#[derive(Drop)]
+#[derive(Clone, Copy)]
 pub enum BlocksEntered {
     All(usize),
     Full,

@@ -1,5 +1,7 @@
 // The types that all crates share. A number is kept in a struct of its own where the Rust keeps it
 // apart from other numbers.
+#![tactic(auto)]
+
 ghost use Rattle.std.specs.Prelude.{◌≡◌};
 ghost use Rattle.entries.specs.Path.{same_property, same_entry, are_equal_paths};
 ghost use Rattle.entries.specs.Property.{property_of, is_number, value_of};
@@ -7,19 +9,19 @@ ghost use Rattle.entries.specs.Access.{is_optional_access, is_dependency_access,
 ghost use Rattle.entries.specs.Refusals.{refusal_number};
 
 // A variable of the compiled function (`IdentifierId` of the Rust).
-#[derive(Drop)]
+#[derive(Clone, Copy)]
 pub struct IdentifierId(pub u32);
 
 // A block of the compiled function (`BlockId` of the Rust).
-#[derive(Drop)]
+#[derive(Clone, Copy)]
 pub struct BlockId(pub u32);
 
 // A node of the registry: its place in the order of making.
-#[derive(Drop)]
+#[derive(Clone, Copy)]
 pub struct NodeId(pub usize);
 
 // A property: the host's number for a name, or the stored bits of a number.
-#[derive(Drop)]
+#[derive(Clone, Copy)]
 pub enum PropertyLiteral {
     String(u64),
     Number(u64),
@@ -74,7 +76,7 @@ impl PropertyLiteral {
 
 // One step of a path: `.property`, or `?.property` where `optional`. The span is the host's number
 // for a place in its source; 0 is none. A job's spans have 32 bits; 64 leave room for wider ones.
-#[derive(Drop)]
+#[derive(Clone, Copy)]
 pub struct DependencyPathEntry {
     pub property: PropertyLiteral,
     pub optional: bool,
@@ -111,7 +113,7 @@ pub fn are_equal_paths(a: &[DependencyPathEntry], b: &[DependencyPathEntry]) -> 
 }
 
 // How a position of the dependency tree is reached, and whether a dependency ends there.
-#[derive(Drop)]
+#[derive(Clone, Copy)]
 pub enum PropertyAccessType {
     OptionalAccess,
     UnconditionalAccess,
@@ -180,7 +182,7 @@ impl PropertyAccessType {
 }
 
 // What is known of the value at a position of the hoistable tree.
-#[derive(Drop)]
+#[derive(Clone, Copy)]
 pub enum HoistableAccessType {
     Optional,
     NonNull,
@@ -188,7 +190,7 @@ pub enum HoistableAccessType {
 
 // Why a job is turned back, in the order of the numbers: document 01's 1 to 9, and document 02's
 // 10.
-#[derive(Drop)]
+#[derive(Clone, Copy)]
 pub enum Refusal {
     ShortBuffer,
     LongJob,

@@ -1,5 +1,6 @@
 // The fields of a job: numbers of one to eight bytes, starts of ranges, flags and marks, each read
 // as a value and the place after it, or a refusal.
+#![tactic(auto)]
 ghost use Rattle.std.specs.Prelude.{◌≡◌, ◌+◌, ◌≤◌, leb, length};
 ghost use Rattle.model.specs.ReadingBytes.{read_number, read_mark, read_within, read_flag};
 ghost use Rattle.model.specs.Job.{read_range_start};
@@ -9,38 +10,38 @@ ghost use Rattle.fields.specs.Answer.{got_u8, got_u16, got_u32, got_u64, got_fla
 use entries::Refusal;
 
 // A field's value and the place after it, or the refusal.
-#[derive(Drop)]
+#[derive(Clone, Copy)]
 pub enum ReadU8 {
     Value(u8, usize),
     Refused(Refusal),
 }
 
-#[derive(Drop)]
+#[derive(Clone, Copy)]
 pub enum ReadU16 {
     Value(u16, usize),
     Refused(Refusal),
 }
 
-#[derive(Drop)]
+#[derive(Clone, Copy)]
 pub enum ReadU32 {
     Value(u32, usize),
     Refused(Refusal),
 }
 
-#[derive(Drop)]
+#[derive(Clone, Copy)]
 pub enum ReadU64 {
     Value(u64, usize),
     Refused(Refusal),
 }
 
-#[derive(Drop)]
+#[derive(Clone, Copy)]
 pub enum ReadFlag {
     Value(bool, usize),
     Refused(Refusal),
 }
 
 // The place after a part of the job of which no value is kept, or the refusal.
-#[derive(Drop)]
+#[derive(Clone, Copy)]
 pub enum Passed {
     To(usize),
     Refused(Refusal),

@@ -4,11 +4,12 @@
 // bit r % 8 of byte r / 8 says that the block of rank r is a successor of block b. Of the 64 bytes
 // from 2305 + b * 64 on, byte i is the place of predecessor i of block b. The graph of n blocks
 // takes 2305 + n * 64 bytes.
+#![tactic(auto)]
 ghost use Rattle.std.specs.Prelude.{◌≡◌, true, false, ◌≤◌, ◌<◌, length};
 ghost use Rattle.graph.specs.Bytes.{size_in, GraphFits, Finds, HoldsBits, Lowest};
 
 // The next neighbour of a block, and from where on the one after it is looked for.
-#[derive(Drop)]
+#[derive(Clone, Copy)]
 pub enum Neighbour {
     At(usize, usize),
     Nothing,

@@ -2,6 +2,7 @@
 // built once, in words that the caller lends, and each of them walks down it. For few it is not
 // built: a level is decided by the first path of the set, in the tree's order, whose names agree
 // with the candidate's that far, and the registry has the set's paths.
+#![tactic(auto)]
 ghost use Rattle.std.specs.Prelude.{◌≡◌, ℕ, ◌+◌, ◌/◌, ◌≤◌, ◌<◌, Bool, true, ◌&&◌, not, cond, List, [], ◌∷◌, map, length, eqb};
 ghost use Rattle.entries.specs.declared.IdentifierId.{IdentifierId};
 ghost use Rattle.entries.specs.declared.DependencyPathEntry.{DependencyPathEntry};
@@ -44,7 +45,7 @@ use rows::{Next, NodeBits};
 
 // What is known of the first levels: bit j of `optional` is 1 where the position at level j is
 // Optional, and `end` is what the bit after them is worth.
-#[derive(Drop)]
+#[derive(Clone, Copy)]
 struct Levels {
     pub end: u32,
     pub optional: u32,
@@ -52,7 +53,7 @@ struct Levels {
 
 // How far a path agrees with a candidate: the levels that it decides; whether the candidate has all
 // its names; and if so, the place of the candidate's next entry and how many are left.
-#[derive(Drop)]
+#[derive(Clone, Copy)]
 struct Agreement {
     pub levels: Levels,
     pub whole: bool,
@@ -117,7 +118,7 @@ impl Levels {
 
 // Whether the candidate's next entry has a path's next name; then the place after it and how many
 // are left there.
-#[derive(Drop)]
+#[derive(Clone, Copy)]
 enum NextName {
     Same(usize, u8),
     Other,

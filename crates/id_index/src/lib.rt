@@ -2,6 +2,7 @@
 // of the last block whose id is h modulo 128, and byte 128 + k is what that byte was before block k
 // was entered. A byte that is no block's place says that there is none. No fact about an index is
 // needed: what it leads to is looked at.
+#![tactic(auto)]
 ghost use Rattle.std.specs.Prelude.{◌≡◌, ◌≤◌, length};
 ghost use Rattle.id_index.specs.Index.{place_by};
 

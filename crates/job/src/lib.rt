@@ -1,6 +1,7 @@
 // Reads the records of a job field by field, refusals 3 to 5 and 10: the header, the heads of
 // blocks, raw reads and paths, entries, and what is passed over. What is kept of a whole job is
 // declared here too, for those who read its records again.
+#![tactic(auto)]
 ghost use Rattle.std.specs.Prelude.{◌≡◌};
 ghost use Rattle.model.specs.ReadingBytes.{read_many};
 ghost use Rattle.model.specs.Job.{HD, read_block_id, read_entry, read_path_fields, read_path, read_raw_read, read_header};
@@ -30,14 +31,14 @@ pub const HD: u16 = 0x4448;
 pub const ENTRY_SIZE: usize = 14;
 
 // A record's value and the place after it, or the refusal.
-#[derive(Drop)]
+#[derive(Clone, Copy)]
 pub enum ReadEntry {
     Value(DependencyPathEntry, usize),
     Refused(Refusal),
 }
 
 // What stands before a path's entries, and how many there are.
-#[derive(Drop)]
+#[derive(Clone, Copy)]
 pub struct PathHead {
     pub identifier: IdentifierId,
     pub reactive: bool,
@@ -45,7 +46,7 @@ pub struct PathHead {
     pub entries: u8,
 }
 
-#[derive(Drop)]
+#[derive(Clone, Copy)]
 pub enum ReadPathHead {
     Value(PathHead, usize),
     Refused(Refusal),
@@ -53,21 +54,21 @@ pub enum ReadPathHead {
 
 // Of a raw read, the instruction at which the path is read, and the mutable range of its
 // identifier.
-#[derive(Drop)]
+#[derive(Clone, Copy)]
 pub struct InstructionAndRange {
     pub instruction: u32,
     pub start: u32,
     pub end: u32,
 }
 
-#[derive(Drop)]
+#[derive(Clone, Copy)]
 pub enum ReadInstructionAndRange {
     Value(InstructionAndRange, usize),
     Refused(Refusal),
 }
 
 // Of a raw read, the identifier's scope, and whether the identifier is known to be immutable.
-#[derive(Drop)]
+#[derive(Clone, Copy)]
 pub struct ScopeAndKnown {
     pub has_scope: bool,
     pub start: u32,
@@ -75,20 +76,20 @@ pub struct ScopeAndKnown {
     pub known_immutable: bool,
 }
 
-#[derive(Drop)]
+#[derive(Clone, Copy)]
 pub enum ReadScopeAndKnown {
     Value(ScopeAndKnown, usize),
     Refused(Refusal),
 }
 
 // What stands before the path of a raw read.
-#[derive(Drop)]
+#[derive(Clone, Copy)]
 pub struct RawHead {
     pub range: InstructionAndRange,
     pub scope: ScopeAndKnown,
 }
 
-#[derive(Drop)]
+#[derive(Clone, Copy)]
 pub enum ReadRawHead {
     Value(RawHead, usize),
     Refused(Refusal),
@@ -96,7 +97,7 @@ pub enum ReadRawHead {
 
 // What stands before a block's predecessors, and how many predecessors, paths and raw reads there
 // are.
-#[derive(Drop)]
+#[derive(Clone, Copy)]
 pub struct BlockHead {
     pub id: BlockId,
     pub predecessors: u8,
@@ -104,27 +105,27 @@ pub struct BlockHead {
     pub raw: u8,
 }
 
-#[derive(Drop)]
+#[derive(Clone, Copy)]
 pub enum ReadBlockHead {
     Value(BlockHead, usize),
     Refused(Refusal),
 }
 
-#[derive(Drop)]
+#[derive(Clone, Copy)]
 pub struct Header {
     pub blocks: u16,
     pub candidates: u16,
     pub scope: BlockId,
 }
 
-#[derive(Drop)]
+#[derive(Clone, Copy)]
 pub enum ReadHeader {
     Value(Header, usize),
     Refused(Refusal),
 }
 
 // What is kept of a job that was read, beside the places of its blocks.
-#[derive(Drop)]
+#[derive(Clone, Copy)]
 pub struct JobHead {
     pub blocks: usize,
     pub candidates: usize,
@@ -132,7 +133,7 @@ pub struct JobHead {
     pub candidates_at: usize,
 }
 
-#[derive(Drop)]
+#[derive(Clone, Copy)]
 pub enum ReadJob {
     Value(JobHead),
     Refused(Refusal),

@@ -1,6 +1,7 @@
 // Enters a path of a job into the registry, straight from its bytes: the fields that a ready path
 // and a raw read have in common. The path was read before, with the whole job, so that no field is
 // refused here.
+#![tactic(auto)]
 ghost use Rattle.std.specs.Prelude.{◌≤◌, ◌<◌};
 ghost use Rattle.model.specs.ReadingBytes.{read_many};
 ghost use Rattle.model.specs.Job.{read_entry, read_path_fields};
@@ -17,7 +18,7 @@ use registry::NodeEntered;
 // The path's node, how many nodes were made on the way to it, and the place after the record; or
 // that the registry has no room. The code has to answer for a field that is refused, too; that
 // never happens, and it says `Full`.
-#[derive(Drop)]
+#[derive(Clone, Copy)]
 pub enum EnteredPath {
     At(NodeId, usize, usize),
     Full,

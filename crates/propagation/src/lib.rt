@@ -5,6 +5,7 @@
 // unmarked block, 1 an Active one, and 255 - i a Done one that was left after i others, so that of
 // two blocks the one with the greater mark was left first. A block is dirty, with 1 for its byte,
 // where its join in a walk of that direction may have an effect.
+#![tactic(auto)]
 ghost use Rattle.std.specs.Prelude.{◌≡◌, true, false, not, ◌∷◌, ◌<◌, length, get_or, replicate};
 ghost use Rattle.model.specs.Reduction.{reduce_maybe_optional_chains};
 ghost use Rattle.model.specs.Visit.{visit};
@@ -37,14 +38,14 @@ use rows::NodeBits;
 
 // Which neighbours of a block join: those that are Done; or all, where every one is Done, and else
 // none.
-#[derive(Drop)]
+#[derive(Clone, Copy)]
 pub enum Joining {
     DoneNeighbours,
     StrictNeighbours,
 }
 
 // Whether a join of this round changed its set; or the registry has no room.
-#[derive(Drop)]
+#[derive(Clone, Copy)]
 enum Progress {
     Changed(bool),
     Full,
@@ -52,7 +53,7 @@ enum Progress {
 
 // What a join made of a block's set: whether that is another one, and whether the same join would
 // leave it; or the registry has no room.
-#[derive(Drop)]
+#[derive(Clone, Copy)]
 struct Joined {
     changed: bool,
     idle: bool,
@@ -60,14 +61,14 @@ struct Joined {
 }
 
 // How many rounds were run, and whether the last one changed nothing.
-#[derive(Drop)]
+#[derive(Clone, Copy)]
 pub struct RoundsRun {
     pub rounds: usize,
     pub settled: bool,
 }
 
 // The rounds that were run; or the registry has no room.
-#[derive(Drop)]
+#[derive(Clone, Copy)]
 pub enum Propagated {
     Ran(RoundsRun),
     Full,

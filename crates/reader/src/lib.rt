@@ -2,6 +2,7 @@
 // over the structs are thin: each takes its struct apart and leaves the work to functions of `job`
 // and `whole_job`, which have the slice and the place as parameters. `read_job`, whose parameters
 // are plain, is the one that others call.
+#![tactic(auto)]
 ghost use Rattle.std.specs.Prelude.{◌≡◌};
 ghost use Rattle.job.specs.Kept.{BehindHeader};
 ghost use Rattle.whole_job.specs.Reads.{ReadsJob};
@@ -10,14 +11,14 @@ ghost use Rattle.reader.specs.Reads.{ReadsHeader};
 use job::{ReadHeader, ReadJob};
 
 // The job's bytes, and the position from which the next record is read.
-#[derive(Drop)]
+#[derive(Clone, Copy)]
 pub struct Reader<'a> {
     pub job: &'a [u8],
     pub at: usize,
 }
 
 // A reader that has moved behind the header, and what it read there.
-#[derive(Drop)]
+#[derive(Clone, Copy)]
 pub struct AfterHeader<'a> {
     pub job: &'a [u8],
     pub at: usize,

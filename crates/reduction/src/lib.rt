@@ -1,5 +1,6 @@
 // `reduce_maybe_optional_chains`: passes over a set's nodes with an optional entry until one
 // changes nothing.
+#![tactic(auto)]
 ghost use Rattle.std.specs.Prelude.{◌≡◌, ◌≤◌, ◌<◌};
 ghost use Rattle.entries.specs.declared.NodeId.{NodeId};
 ghost use Rattle.rows.specs.Members.{members_of, members_from};
@@ -16,7 +17,7 @@ use rows::{Next, NodeBits};
 
 // A set as a pass has it so far, whether the pass has changed it, and whether the registry had no
 // room on the way.
-#[derive(Drop)]
+#[derive(Clone, Copy)]
 struct PassSet {
     set: NodeBits,
     changed: bool,
@@ -24,7 +25,7 @@ struct PassSet {
 }
 
 // A reduced set, and whether the registry had no room on the way.
-#[derive(Drop)]
+#[derive(Clone, Copy)]
 pub struct ReducedSet {
     pub set: NodeBits,
     pub full: bool,

@@ -3,6 +3,7 @@
 // bucket, of which there are 512. 128 more words say where each bucket's last node is, and a node's
 // first word where the one before it is. Eight words of their own are the set of the nodes with an
 // optional entry, so that a reduction finds them at once.
+#![tactic(auto)]
 ghost use Rattle.std.specs.Prelude.{◌≡◌, ◌<◌, ◌+◌, ◌*◌, ◌%◌, ◌^◌, ◌++◌, ◌∷◌, [], length, eqb, ◌&&◌};
 ghost use Rattle.model.specs.Registry.{get_or_create_identifier, get_or_create_property_entry};
 ghost use Rattle.registry.specs.declared.Node.TheVariants.{Root, Child};
@@ -34,7 +35,7 @@ use entries::{DependencyPathEntry, IdentifierId, NodeId, PropertyLiteral};
 use writer::flag;
 
 // A node: a root with its identifier, reactive mark and span, or the child of a node by an entry.
-#[derive(Drop)]
+#[derive(Clone, Copy)]
 pub enum Node {
     Root(IdentifierId, bool, u64),
     Child(NodeId, DependencyPathEntry),
@@ -233,7 +234,7 @@ fn find(ws: &[u64; 1665], b: usize, key: u64, value: u64) -> usize
 
 // The node reached, and how many nodes were made on the way to it, 1 or 0 where a single one was to
 // be found or made; or that the words have no room.
-#[derive(Drop)]
+#[derive(Clone, Copy)]
 pub enum NodeEntered {
     At(NodeId, usize),
     Full,

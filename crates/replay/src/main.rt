@@ -1,6 +1,7 @@
 // Replays the stored list of jobs (compare/stored), which comes on standard input, through all
 // operations: what they write, or by which number they refuse, is to be what the Rust's harness
 // stored, and the rest of the buffer is to be as it was.
+#![tactic(auto)]
 ghost use Rattle.std.specs.Prelude.{◌≡◌, ◌≤◌, true, length};
 ghost use Rattle.replay.specs.Parts.{Fits};
 
@@ -8,7 +9,7 @@ use fields::ReadU32;
 use run::Program;
 use stage::Outcome;
 
-#[derive(Drop)]
+#[derive(Clone, Copy)]
 enum Length {
     Of(usize),
     End,
@@ -16,7 +17,7 @@ enum Length {
 
 // Whether an operation did what the list says, and by which number it refused, 0 for none. An end
 // of the list is no comparison.
-#[derive(Drop)]
+#[derive(Clone, Copy)]
 enum Compared {
     Of(bool, u8),
     End,
@@ -24,7 +25,7 @@ enum Compared {
 
 // Whether the answer, the sheet, the thin job, and by the strict propagation the answer and the
 // sheet agreed; and the refusals of both answers and of the thin job, 0 for none.
-#[derive(Drop)]
+#[derive(Clone, Copy)]
 struct Agreement {
     answer: bool,
     sheet: bool,
@@ -37,7 +38,7 @@ struct Agreement {
 }
 
 // An end of the list is no record.
-#[derive(Drop)]
+#[derive(Clone, Copy)]
 enum Record {
     Of(Agreement),
     End,
@@ -215,7 +216,7 @@ fn counted_by(counts: [u64; 16], number: u8, holds: bool) -> [u64; 16] {
 
 // How many of each operation agreed, how many records had one that did not, and of the others how
 // many answers, thin jobs and strict answers were refused by each number, 0 for none.
-#[derive(Drop)]
+#[derive(Clone, Copy)]
 struct Tally {
     answers: u64,
     sheets: u64,

@@ -1,5 +1,6 @@
 // Sets of registry nodes as 512 bits, by value, and rows of them in words that the caller lends.
 // The contracts speak of the ascending lists that the words stand for.
+#![tactic(auto)]
 ghost use Rattle.std.specs.Prelude.{◌≡◌, [], map, ◌+◌, ◌<◌};
 ghost use Rattle.model.specs.ListLaws.{All, NoRepeats};
 ghost use Rattle.model.specs.Sets.{contains, insert, remove, union, intersection, same_set};
@@ -10,13 +11,13 @@ ghost use Rattle.rows.specs.Rows.{Lent, RowSet, row_of};
 use entries::NodeId;
 
 // Node k is bit k % 64 of word k / 64.
-#[derive(Drop)]
+#[derive(Clone, Copy)]
 pub struct NodeBits {
     pub words: [u64; 8],
 }
 
 // The next member of a set, where there is one.
-#[derive(Drop)]
+#[derive(Clone, Copy)]
 pub enum Next {
     At(NodeId),
     Nothing,

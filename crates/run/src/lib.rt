@@ -1,6 +1,7 @@
 // The programs `answer`, `sheet`, `strict_answer`, `strict_sheet` and `thin`, which differ in the
 // operation only: a job on standard input, and on standard output what the operation writes, or RF
 // and the number of the refusal.
+#![tactic(auto)]
 ghost use Rattle.std.specs.Prelude.{◌≡◌, ◌≤◌, length, take};
 ghost use Rattle.stage.specs.Jobs.{Meets};
 ghost use Rattle.run.specs.Programs.{operation_of, bytes_read, bytes_lent, Responds, GivesToWrite};
@@ -8,7 +9,7 @@ ghost use Rattle.run.specs.Programs.{operation_of, bytes_read, bytes_lent, Respo
 use stage::Outcome;
 
 // A program, by its operation.
-#[derive(Drop)]
+#[derive(Clone, Copy)]
 pub enum Program {
     Answer,
     Sheet,

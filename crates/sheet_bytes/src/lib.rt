@@ -1,5 +1,6 @@
 // The bytes of a sheet: its head, each node of the registry with its root's identifier and reactive
 // mark, and each block's set as a row of bits.
+#![tactic(auto)]
 ghost use Rattle.std.specs.Prelude.{◌+◌, ◌*◌, ◌≤◌, ◌<◌, ◌≡◌, length};
 ghost use Rattle.model.specs.Registry.{full_path_of};
 ghost use Rattle.model.specs.RegistryLaws.{node_at};
@@ -23,7 +24,7 @@ const NO: u64 = 0x4F4E;
 const SE: u64 = 0x4553;
 
 // What a path has of its root.
-#[derive(Drop)]
+#[derive(Clone, Copy)]
 pub struct PathRoot {
     pub identifier: IdentifierId,
     pub reactive: bool,

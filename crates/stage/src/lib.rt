@@ -1,5 +1,6 @@
 // The operations on a job's bytes: its answer and its sheet, by the existing propagation or by the
 // strict one, and its thin job, written into an out buffer, or the refusal.
+#![tactic(auto)]
 ghost use Rattle.std.specs.Prelude.{◌≡◌, ◌≤◌, ◌<◌, length};
 ghost use Rattle.model.specs.Answer.{least_buffer, answer_of, sheet_of, buffer_after, number_returned};
 ghost use Rattle.model.specs.Thin.{thin_of};
@@ -29,14 +30,14 @@ use job::{JobHead, ReadJob};
 use propagation::{Joining, Propagated, RoundsRun};
 
 // What is written of a job that is propagated.
-#[derive(Drop)]
+#[derive(Clone, Copy)]
 pub enum Operation {
     Answer,
     Sheet,
 }
 
 // How many bytes were written, or why none.
-#[derive(Drop)]
+#[derive(Clone, Copy)]
 pub enum Outcome {
     Written(usize),
     Refused(Refusal),

@@ -1,4 +1,5 @@
 // Program `thin`: a job on standard input, its thin job on standard output.
+#![tactic(auto)]
 use run::Program;
 
 fn main() {

@@ -1,6 +1,7 @@
 // The thin job written straight from the job's bytes: a record that stays is copied, a path that an
 // earlier one of its list equals is passed over, and a count is written once its list is. The job
 // was read before, so that no record is refused here.
+#![tactic(auto)]
 ghost use Rattle.writer.specs.Writes.{Writes};
 ghost use Rattle.thin_bytes.specs.Thins.{
   SameEntries,
@@ -26,14 +27,14 @@ use job::{JobHead, PathHead, ReadBlockHead, ReadEntry, ReadPathHead};
 use writer::{put_bytes, put_number};
 
 // A place in the job, and one in the buffer.
-#[derive(Drop)]
+#[derive(Clone, Copy)]
 pub struct Places {
     pub from: usize,
     pub to: usize,
 }
 
 // The places after a list of paths, and how many of them stayed.
-#[derive(Drop)]
+#[derive(Clone, Copy)]
 pub struct PathsDone {
     pub from: usize,
     pub to: usize,

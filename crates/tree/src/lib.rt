@@ -3,6 +3,7 @@
 // stands above the roots. The last word says how many positions there are. Keys and spans stay in
 // the job's bytes: a position keeps their place. It also has links to its first child and to its
 // next sibling, by which children are found.
+#![tactic(auto)]
 ghost use Rattle.std.specs.Prelude.{◌≡◌, ℕ, ◌+◌, ◌-◌, ◌≤◌, ◌<◌, ◌||◌, List, [], ◌∷◌, map, length, get_or, set, eqb};
 ghost use Rattle.model.specs.Forest.{empty, same_key};
 ghost use Rattle.model.specs.Lists.{concat_map};
@@ -134,7 +135,7 @@ fn with_link(w: u64, child: bool, number: usize) -> u64
 }
 
 // A root's key is its identifier, a child's its property.
-#[derive(Drop)]
+#[derive(Clone, Copy)]
 enum Key {
     Identifier(IdentifierId),
     Property(PropertyLiteral),
@@ -219,7 +220,7 @@ fn first_child(tree: &[u64], parent: usize) -> usize
 
 // Where a search among the children of a parent ends: at the number found, 0 for none, behind the
 // last child passed, or behind the parent where it passed none.
-#[derive(Drop)]
+#[derive(Clone, Copy)]
 struct Sought {
     number: usize,
     last: usize,
@@ -352,7 +353,7 @@ pub fn add_candidate(tree: &mut [u64], s: &[u8], at: usize, levels: u32)
 pub const DE: u16 = 0x4544;
 
 // The place after what was written, and how many records it is.
-#[derive(Drop)]
+#[derive(Clone, Copy)]
 pub struct Written {
     pub at: usize,
     pub count: usize,
@@ -360,7 +361,7 @@ pub struct Written {
 
 // What a path takes of a position: as its root, identifier and reactive; as one of its entries, the
 // entry.
-#[derive(Drop)]
+#[derive(Clone, Copy)]
 struct Position {
     identifier: IdentifierId,
     reactive: bool,

@@ -1,6 +1,7 @@
 // Reads the whole job behind its header: the blocks, whose ids and places are noted, and the
 // candidates, refusals 3 to 6 and 10 in one pass over the bytes; then 7 and 8, by the blocks' ids,
 // and by their predecessors, read again at the blocks' places.
+#![tactic(auto)]
 ghost use Rattle.std.specs.Prelude.{◌≡◌, ◌≤◌};
 ghost use Rattle.std.proofs.lemmas.List.Edits.{sets};
 ghost use Rattle.model.specs.ReadingBytes.{read_many, mapped};
