@@ -214,7 +214,8 @@ entries_alike {h} {g} there p q k a (e ∷ es) (f ∷ fs) same =
     let step = ap (λ (o : Option (Found HoistablePosition)). step_access (at_non_null o)) there in
     either_related AlikeWalks (at_non_null h || e.optional) (at_non_null g || f.optional) (λ i. at_non_null (there i) || optional i) (
       positions_alike p q k a,
-      entries_alike (λ i. child_by_key hoistable_key (there i) (property_key (property i)))
+      entries_alike {h = child_by_key hoistable_key h (property_key e.property)} {g = child_by_key hoistable_key g (property_key f.property)}
+          (λ i. child_by_key hoistable_key (there i) (property_key (property i)))
           (step_to e (step_access (at_non_null h))) (step_to f (step_access (at_non_null g))) (ap property_key property) step es fs
           (and_second (same_entry e f) _ same),
     )

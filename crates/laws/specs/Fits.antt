@@ -399,6 +399,7 @@ prefix_shorter (d ∷ ds) (c ∷ cs) h = let rest = prefix_shorter ds cs
 
 some_few : (w : ℕ) (d : ReactiveScopeDependency) (cs : List ReactiveScopeDependency) → All (PathFits w) cs → Some
     (λ c. prefix_of d c ≡ true) cs → length d.path ≤ 16
+some_few w d [] a x'' = elim x'' [ ]
 some_few w d (c ∷ cs) a (inl h) = let few = a.0.few in le_trans
     (prefix_shorter d.path c.path (and_second (eqb d.identifier.0 c.identifier.0) _ h)) few
 some_few w d (c ∷ cs) a (inr s) = some_few w d cs a.1 s

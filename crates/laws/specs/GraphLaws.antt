@@ -79,6 +79,7 @@ place_own (c ∷ cs) (suc k) d h =
 
 -- a block has a place
 member_place : (b : Block) (bs : List Block) → Member b bs → (k : ℕ) × (k < length bs) × (block_at bs k ≡ b)
+member_place b [] x' = elim x' [ ]
 member_place b (c ∷ cs) (inl e) = (zero, omega arith, e)
 member_place b (c ∷ cs) (inr m) = let (k, h, e) = member_place b cs m in (suc k, omega arith, e)
 
@@ -92,6 +93,7 @@ place_member b bs d m =
 
 -- the place of a known id
 pub place_known : (bs : List Block) (i : BlockId) → Member i (ids_of bs) → (place_of bs i < length bs) × ((block_at bs (place_of bs i)).id ≡ i)
+place_known [] i x' = elim x' [ ]
 place_known (c ∷ cs) i (inl h) = rw (ap (λ k. same_block k i) h ∙ eqb_same i.0) (omega arith, h)
 place_known (c ∷ cs) i (inr m) =
     let rest = place_known cs i m in
@@ -100,6 +102,7 @@ place_known (c ∷ cs) i (inr m) =
 
 -- a block with a predecessor is a block of the job
 names_inside : (bs : List Block) (k : ℕ) (P : BlockId → Type 0) → Some P (block_at bs k).predecessors → k < length bs
+names_inside [] k P s = elim s [ ]
 names_inside (c ∷ cs) zero P s = omega arith
 names_inside (c ∷ cs) (suc k) P s = let rest = names_inside cs k P s in omega arith
 
@@ -124,6 +127,7 @@ module _ (P : ℕ → Type 0) (bs : List Block) where
       (λ t. inr (insert_some k js (inr s)))
 
   sort_some : (ks : List ℕ) → Some P ks → Some P (sort_by_id bs ks)
+  sort_some [] x' = elim x' [ ]
   sort_some (k ∷ ks) (inl p) = insert_some k (sort_by_id bs ks) (inl p)
   sort_some (k ∷ ks) (inr s) = insert_some k (sort_by_id bs ks) (inr (sort_some ks s))
 

@@ -24,14 +24,17 @@ module _ {A : Type 0} where
   all_of P (x ∷ xs) f = (f x (inl refl), all_of P xs (λ y m. f y (inr m)))
 
   pub all_at : (P : A → Type 0) (xs : List A) (a : A) → All P xs → Member a xs → P a
+  all_at P [] a h x'' = elim x'' [ ]
   all_at P (x ∷ xs) a h (inl e) = subst P e h.0
   all_at P (x ∷ xs) a h (inr m) = all_at P xs a h.1 m
 
   pub some_map : (P Q : A → Type 0) → ((x : A) → P x → Q x) → (xs : List A) → Some P xs → Some Q xs
+  some_map P Q f [] x' = elim x' [ ]
   some_map P Q f (x ∷ xs) (inl p) = inl (f x p)
   some_map P Q f (x ∷ xs) (inr s) = inr (some_map P Q f xs s)
 
   pub some_both : (P Q : A → Type 0) (xs : List A) → All P xs → Some Q xs → Some (λ x. P x × Q x) xs
+  some_both P Q [] a x'' = elim x'' [ ]
   some_both P Q (x ∷ xs) a (inl q) = inl (a.0, q)
   some_both P Q (x ∷ xs) a (inr s) = inr (some_both P Q xs a.1 s)
 
@@ -39,6 +42,7 @@ module _ {A : Type 0} where
   some_of P xs a p m = some_map (λ x. x ≡ a) P (λ x e. subst P (sym e) p) xs m
 
   pub some_select : (P : A → Type 0) (test : A → Bool) (xs : List A) → Some (λ x. (test x ≡ true) × P x) xs → Some P (select test xs)
+  some_select P test [] x' = elim x' [ ]
   some_select P test (x ∷ xs) (inl h) = by_cond (Some P) (test x) (λ t. inl h.1) (λ t. never h.0 t)
   some_select P test (x ∷ xs) (inr s) = by_cond (Some P) (test x) (λ t. inr (some_select P test xs s)) (λ t. some_select P test xs s)
 
@@ -56,6 +60,7 @@ module _ {A : Type 0} where
   any_some test (x ∷ xs) h = or_cases (test x) (any_of test xs) h (λ t. inl t) (λ t. inr (any_some test xs t))
 
   pub some_any : (test : A → Bool) (xs : List A) → Some (λ x. test x ≡ true) xs → any_of test xs ≡ true
+  some_any test [] x' = elim x' [ ]
   some_any test (x ∷ xs) (inl t) = rw t
   some_any test (x ∷ xs) (inr s) = or_second (test x) _ (some_any test xs s)
 
@@ -84,9 +89,11 @@ all_unmap P f [] a = tt
 all_unmap P f (x ∷ xs) a = (a.0, all_unmap P f xs a.1)
 
 pub some_of_map : {A B : Type 0} (P : B → Type 0) (f : A → B) (xs : List A) → Some (λ x. P (f x)) xs → Some P (map f xs)
+some_of_map {A = A} {B = B} P f [] x' = elim x' [ ]
 some_of_map P f (x ∷ xs) (inl p) = inl p
 some_of_map P f (x ∷ xs) (inr s) = inr (some_of_map P f xs s)
 
 pub some_unmap : {A B : Type 0} (P : B → Type 0) (f : A → B) (xs : List A) → Some P (map f xs) → Some (λ x. P (f x)) xs
+some_unmap {A = A} {B = B} P f [] x' = elim x' [ ]
 some_unmap P f (x ∷ xs) (inl p) = inl p
 some_unmap P f (x ∷ xs) (inr s) = inr (some_unmap P f xs s)

@@ -16,6 +16,7 @@ use Rattle.entries.specs.Path.{ReactiveScopeDependency}
 use Rattle.model.specs.Lists.{select, count_of, sum_of}
 use Rattle.model.specs.Sets.{NodeSet, same_node, contains, insert, remove}
 use Rattle.model.specs.Registry.{
+  step_from,
   PropertyPathRegistry,
   Reached,
   full_path_of,
@@ -131,7 +132,7 @@ unfolding walk_from optional_marks
 walk_lowers mark low at [] h = record { fewer = omega arith; kept = λ e. refl }
 walk_lowers mark low at (e ∷ es) h =
     let o = mark at.node e in
-    go o e.optional refl refl (walk_lowers mark low _ es (step_proper mark at e h)) (child_marks at (with_optional e o) h)
+    go o e.optional refl refl (walk_lowers mark low (step_from mark at e) es (step_proper mark at e h)) (child_marks at (with_optional e o) h)
   where
     next : Bool → Reached
     next o = after_making at.made (get_or_create_property_entry at.registry at.node (with_optional e o))

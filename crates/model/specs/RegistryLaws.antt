@@ -366,14 +366,14 @@ pub walk_proper : (mark : NodeId → DependencyPathEntry → Bool) (at : Reached
     (walk_from mark at es)
 unfolding walk_from
 walk_proper mark at [] h = h
-walk_proper mark at (e ∷ es) h = walk_proper mark _ es (step_proper mark at e h)
+walk_proper mark at (e ∷ es) h = walk_proper mark (step_from mark at e) es (step_proper mark at e h)
 
 pub walk_extends : (mark : NodeId → DependencyPathEntry → Bool) (at : Reached) (es : List DependencyPathEntry) → Extends
     at.registry (walk_from mark at es).registry
 unfolding walk_from
 walk_extends mark at [] = extends_refl at.registry
 walk_extends mark at (e ∷ es) = extends_trans
-    (ensure_extends (is_child_by at.node (with_optional e (mark at.node e))) _ at.registry) (walk_extends mark _ es)
+    (ensure_extends (is_child_by at.node (with_optional e (mark at.node e))) _ at.registry) (walk_extends mark (step_from mark at e) es)
 
 pub path_proper : (mark : NodeId → DependencyPathEntry → Bool) (reg : PropertyPathRegistry) (d : ReactiveScopeDependency)
     → Sound reg → Proper (walk_path mark reg d)
@@ -415,7 +415,7 @@ walk_append : (mark : NodeId → DependencyPathEntry → Bool) (at : Reached) (x
     (xs ++ ys) ≡ walk_from mark (walk_from mark at xs) ys
 unfolding walk_from
 walk_append mark at [] ys = refl
-walk_append mark at (x ∷ xs) ys = walk_append mark _ xs ys
+walk_append mark at (x ∷ xs) ys = walk_append mark (step_from mark at x) xs ys
 
 -- what is found is reached, and nothing is made
 pub found : (test : PropertyPathNode → Bool) (new : PropertyPathNode) (reg : PropertyPathRegistry) (k : NodeId) → k.0 < length reg

@@ -27,6 +27,7 @@ module _ (P : NodeId → Type 0) where
       (all_of (λ x. contains t x ≡ mathlib.Core.Bool.true → P x) s (λ x m h. contains_all P t x a h))
 
   fold_all : (s : NodeSet) (ss : List NodeSet) → All P s ⊎ Some (All P) ss → All P (foldl intersection s ss)
+  fold_all s [] (inr x'') = elim x'' [ ]
   fold_all s [] (inl a) = a
   fold_all s (t ∷ ts) (inl a) = fold_all (intersection s t) ts (inl (all_select P (contains t) s a))
   fold_all s (t ∷ ts) (inr (inl a)) = fold_all (intersection s t) ts (inl (pair_right s t a))

@@ -27,16 +27,20 @@ use Rattle.laws.specs.GraphLaws.{
 
 -- a block with the block before it, after it
 before : (a : Block) (s : List Block) (b : Block) → Linked (a ∷ s) → Member b s → (c : Block) × Member c (a ∷ s) × Precedes c b
+before a [] b l x'' = elim x'' [ ]
 before a (c ∷ s) b l (inl e) = (a, inl refl, subst (Precedes a) e l.0)
 before a (c ∷ s) b l (inr m) = let (d, n, p) = before c s b l.1 m in (d, inr n, p)
 
 pub starts_or_before : (s : List Block) (b : Block) → Linked s → FirstHas NoPredecessor s → Member b s → NoPredecessor b ⊎
     ((c : Block) × Member c s × Precedes c b)
+starts_or_before [] b l f _ = elim f [ ]
 starts_or_before (a ∷ s) b l f (inl e) = inl (subst NoPredecessor e f)
 starts_or_before (a ∷ s) b l f (inr m) = inr (before a s b l m)
 
 pub ends_or_after : (P : Block → Type 0) (s : List Block) (b : Block) → Linked s → LastHas P s → Member b s → P b ⊎
     ((c : Block) × Member c s × Precedes b c)
+ends_or_after P [] b l f _ = elim f [ ]
+ends_or_after P (a ∷ []) b l f (inr m) = elim m [ ]
 ends_or_after P (a ∷ []) b l f (inl e) = inl (subst P e f)
 ends_or_after P (a ∷ (c ∷ s)) b l f (inl e) = inr (c, inr (inl refl), subst (λ x. Precedes x c) e l.0)
 ends_or_after P (a ∷ (c ∷ s)) b l f (inr m) = up (ends_or_after P (c ∷ s) b l.1 f m)
@@ -127,5 +131,6 @@ module _ (bs : List Block) (via : BlockId) (ok : ProperBlocks bs) (s : List Bloc
     where
       go : (t : List Block) → Some (λ b. b.id ≡ via) t → ((c : Block) → Member c t → OnRun bs s (place_of bs c.id)) → OnRun bs s
           (place_of bs via)
+      go [] x'' f = elim x'' [ ]
       go (c ∷ t) (inl e) f = subst (λ i. OnRun bs s (place_of bs i)) e (f c (inl refl))
       go (c ∷ t) (inr r) f = go t r (λ d m. f d (inr m))

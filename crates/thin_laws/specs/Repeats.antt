@@ -236,6 +236,7 @@ module _ {S : Type 0} (step : S → ReactiveScopeDependency → S) (Holds : S �
     (again : (s : S) (d e : ReactiveScopeDependency) → Holds s → Known s e → same_path e d ≡ true → step s d ≡ s) where
   again_some : (s : S) (d : ReactiveScopeDependency) (earlier : List ReactiveScopeDependency) → Holds s → All (Known s) earlier
       → Some (λ e. same_path d e ≡ true) earlier → step s d ≡ s
+  again_some s d [] h k x3 = elim x3 [ ]
   again_some s d (e ∷ es) h k (inl same) = again s d e h k.0 (same_path_back d e same)
   again_some s d (e ∷ es) h k (inr more) = again_some s d es h k.1 more
 
