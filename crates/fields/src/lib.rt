@@ -1,6 +1,7 @@
 // The fields of a job: numbers of one to eight bytes, starts of ranges, flags and marks, each read
 // as a value and the place after it, or a refusal.
 #![tactic(auto)]
+
 ghost use Rattle.std.specs.Prelude.{◌≡◌, ◌+◌, ◌≤◌, leb, length};
 ghost use Rattle.model.specs.ReadingBytes.{read_number, read_mark, read_within, read_flag};
 ghost use Rattle.model.specs.Job.{read_range_start};

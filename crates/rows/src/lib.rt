@@ -1,6 +1,7 @@
 // Sets of registry nodes as 512 bits, by value, and rows of them in words that the caller lends.
 // The contracts speak of the ascending lists that the words stand for.
 #![tactic(auto)]
+
 ghost use Rattle.std.specs.Prelude.{◌≡◌, [], map, ◌+◌, ◌<◌};
 ghost use Rattle.model.specs.ListLaws.{All, NoRepeats};
 ghost use Rattle.model.specs.Sets.{contains, insert, remove, union, intersection, same_set};

@@ -1,6 +1,7 @@
 // Writes numbers, entries, heads of paths and copied bytes into a buffer, numbers lowest byte
 // first. Each writer gives the place after what it wrote.
 #![tactic(auto)]
+
 ghost use Rattle.std.specs.Prelude.{◌+◌, ◌-◌, ◌≤◌, ◌<◌, length, ◌≡◌};
 ghost use Rattle.std.proofs.Math.Seq.{slice};
 ghost use Rattle.model.specs.Answer.{number_bytes, flag, step_bytes, entry_bytes, span_width};

@@ -1,0 +1,15 @@
+-- `fields::u16_at` meets its contract: the test says whether all bytes are there, and the laws of
+-- `Number` what is then read.
+use mathlib.Core.Path.{sym, ◌∙◌}
+use borrow.Author.Tests.{leb-true, leb-false}
+use Rattle.fields.proofs.Number.{number_got, number_missing}
+use Rattle.fields.proofs.u16_at.Goals as goal
+
+pub two_bytes-requires : goal.two_bytes-requires
+two_bytes-requires c = leb-true _ _ (sym c.reaches.ensures ∙ c.if-reaches.true)
+
+pub returns-then-reaches : goal.returns-then-reaches
+returns-then-reaches c = rw c.two_bytes.ensures (sym (number_got 2 _ _ (leb-true _ _ (sym c.reaches.ensures ∙ c.if-reaches.true))))
+
+pub returns-else-reaches : goal.returns-else-reaches
+returns-else-reaches c = sym (number_missing 1 _ _ (leb-false _ _ (sym c.reaches.ensures ∙ c.if-reaches.false)))

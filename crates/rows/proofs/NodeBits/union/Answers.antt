@@ -1,0 +1,7 @@
+-- `NodeBits::union` meets its contract: each word is joined by `|`, so each test passes where one
+-- of the two passes.
+use Rattle.rows.proofs.Members.{united}
+use Rattle.rows.proofs.NodeBits.union.Goals as goal
+
+pub returns : goal.returns
+returns c = united c.args.self.words c.args.other.words
