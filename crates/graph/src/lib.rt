@@ -5,6 +5,7 @@
 // from 2305 + b * 64 on, byte i is the place of predecessor i of block b. The graph of n blocks
 // takes 2305 + n * 64 bytes.
 #![tactic(auto)]
+
 ghost use Rattle.std.specs.Prelude.{◌≡◌, true, false, ◌≤◌, ◌<◌, length};
 ghost use Rattle.graph.specs.Bytes.{size_in, GraphFits, Finds, HoldsBits, Lowest};
 

@@ -2,6 +2,7 @@
 // blocks, raw reads and paths, entries, and what is passed over. What is kept of a whole job is
 // declared here too, for those who read its records again.
 #![tactic(auto)]
+
 ghost use Rattle.std.specs.Prelude.{◌≡◌};
 ghost use Rattle.model.specs.ReadingBytes.{read_many};
 ghost use Rattle.model.specs.Job.{HD, read_block_id, read_entry, read_path_fields, read_path, read_raw_read, read_header};

@@ -4,6 +4,7 @@
 // first word where the one before it is. Eight words of their own are the set of the nodes with an
 // optional entry, so that a reduction finds them at once.
 #![tactic(auto)]
+
 ghost use Rattle.std.specs.Prelude.{◌≡◌, ◌<◌, ◌+◌, ◌*◌, ◌%◌, ◌^◌, ◌++◌, ◌∷◌, [], length, eqb, ◌&&◌};
 ghost use Rattle.model.specs.Registry.{get_or_create_identifier, get_or_create_property_entry};
 ghost use Rattle.registry.specs.declared.Node.TheVariants.{Root, Child};

@@ -1,0 +1,22 @@
+use mathlib.Core.Path.{refl, sym, ◌∙◌}
+use Rattle.fields.specs.Answer.{got_place}
+use Rattle.fields.proofs.Reading.{seen}
+use Rattle.job.proofs.Passing.{many_end, many_step, many_stop}
+use Rattle.job.proofs.past_paths.Goals as goal
+
+pub loop-left-init : goal.loop-left-init
+loop-left-init c = refl
+
+pub returns-in_default : goal.returns-in_default
+returns-in_default c =
+    let told = c.in_default.is in
+    let stop = many_stop _ _ _ _ c.loop-left-test.true (seen got_place c.past_path-path.ensures told) in
+    rw told (sym stop ∙ c.loop-left.invariant)
+
+pub loop-left-preserved : goal.loop-left-preserved
+loop-left-preserved c =
+    let step = many_step _ _ _ _ c.loop-left-test.true (seen got_place c.past_path-path.ensures c.in-To.is) in
+    sym step ∙ c.loop-left.invariant
+
+pub returns : goal.returns
+returns c = sym (many_end _ _ _ _ c.loop-left-test.false) ∙ c.loop-left.invariant
