@@ -3,6 +3,7 @@
 // built: a level is decided by the first path of the set, in the tree's order, whose names agree
 // with the candidate's that far, and the registry has the set's paths.
 #![tactic(auto)]
+
 ghost use Rattle.std.specs.Prelude.{◌≡◌, ℕ, ◌+◌, ◌/◌, ◌≤◌, ◌<◌, Bool, true, ◌&&◌, not, cond, List, [], ◌∷◌, map, length, eqb};
 ghost use Rattle.entries.specs.declared.IdentifierId.{IdentifierId};
 ghost use Rattle.entries.specs.declared.DependencyPathEntry.{DependencyPathEntry};

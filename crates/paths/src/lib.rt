@@ -2,6 +2,7 @@
 // and a raw read have in common. The path was read before, with the whole job, so that no field is
 // refused here.
 #![tactic(auto)]
+
 ghost use Rattle.std.specs.Prelude.{◌≤◌, ◌<◌};
 ghost use Rattle.model.specs.ReadingBytes.{read_many};
 ghost use Rattle.model.specs.Job.{read_entry, read_path_fields};

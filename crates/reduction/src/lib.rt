@@ -1,6 +1,7 @@
 // `reduce_maybe_optional_chains`: passes over a set's nodes with an optional entry until one
 // changes nothing.
 #![tactic(auto)]
+
 ghost use Rattle.std.specs.Prelude.{◌≡◌, ◌≤◌, ◌<◌};
 ghost use Rattle.entries.specs.declared.NodeId.{NodeId};
 ghost use Rattle.rows.specs.Members.{members_of, members_from};

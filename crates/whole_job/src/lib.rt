@@ -2,6 +2,7 @@
 // candidates, refusals 3 to 6 and 10 in one pass over the bytes; then 7 and 8, by the blocks' ids,
 // and by their predecessors, read again at the blocks' places.
 #![tactic(auto)]
+
 ghost use Rattle.std.specs.Prelude.{◌≡◌, ◌≤◌};
 ghost use Rattle.std.proofs.lemmas.List.Edits.{sets};
 ghost use Rattle.model.specs.ReadingBytes.{read_many, mapped};

@@ -1,8 +1,18 @@
 use Prim.Native.Nat.{◌-◌}
 use native.Mathlib.Omega.{arith}
-use mathlib.Core.Path.{◌∙◌}
-use Rattle.graph.proofs.Neighbours.{no_successor, passed, successor_next}
+use mathlib.Core.Path.{refl, ◌∙◌}
+use Rattle.graph.proofs.Neighbours.{no_successor, none_low, passed, successor_next}
 use Rattle.graph.proofs.next_successor.Goals as goal
+use Rattle.graph.proofs.next_successor.Goals.{then-r-first, else-r-first}
+
+pub loop-r-init : goal.loop-r-init
+loop-r-init c =
+    let first = c.size-first.ensures in
+    elim c.if-r-first.branch [
+      | then-r-first w ↦ rw w.r-is
+          (let low = w.if-r-first.true in (omega arith, none_low c.requires.0 c.requires.1 c.args.from _ (omega arith) (omega arith)))
+      | else-r-first w ↦ rw w.r-is (omega arith, refl)
+    ]
 
 pub returns-then-bit-lt64 : goal.returns-then-bit-lt64
 returns-then-bit-lt64 c =

@@ -1,0 +1,6 @@
+-- What is left of all ones is each bit turned.
+use Rattle.hoistable.proofs.Numbers.{holds_turned}
+use Rattle.hoistable.proofs.Levels.nonnull.Goals as goal
+
+pub returns : goal.returns
+returns c = holds_turned h

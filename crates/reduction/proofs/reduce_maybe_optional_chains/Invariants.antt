@@ -1,0 +1,18 @@
+-- The loop's invariant, `Repeating`: the reduction of what the last pass left is the reduction that
+-- was asked for. The measure is the optional marks of the set's paths: a pass that changes
+-- something takes one away. A set that is known to be reduced stays so while nodes are made, so the
+-- pass that leaves it is the last.
+use Rattle.rows.specs.Members.{members_of}
+use Rattle.registry.specs.Words.{registry_of}
+use Rattle.model.specs.Reduction.{reduce_maybe_optional_chains}
+use Rattle.reduction.specs.Reduces.{KnownReduced}
+use Rattle.reduction.proofs.Repeats.{Repeating, passes_left}
+use Rattle.reduction.proofs.reduce_maybe_optional_chains.Given as goal
+
+abbrev pub invariant-loop-r : goal.invariant-loop-r
+invariant-loop-r l =
+    Repeating (reduce_maybe_optional_chains (registry_of l.initial.ws) (members_of l.initial.r.set.words)) l.ws l.optional l.r × KnownReduced l.known (registry_of l.ws)
+    (members_of l.before.words)
+
+abbrev pub decreases-loop-r : goal.decreases-loop-r
+decreases-loop-r l = passes_left l.ws l.r
