@@ -19,14 +19,14 @@ pub returns-in_default-child : goal.returns-in_default-child
 returns-in_default-child c =
     let g = c.get_or_create_property_entry-child in
     entering_full c.loop-left.invariant c.loop-left-test.true (seen got_entry c.entry_at-field.ensures c.in-Value.is) _ _
-    (made_full _ g.result g.new.0 g.new.1.0 g.ensures c.in_default-child.is)
+    (made_full _ g.result g.new.ws g.new.optional g.ensures c.in_default-child.is)
 
 pub loop-left-preserved : goal.loop-left-preserved
 loop-left-preserved c =
     let g = c.get_or_create_property_entry-child in
     let l = c.loop-left in
     let e = c.in-Value.entry in
-    let made = child_made_at (registry_of l.ws) l.node e g.result g.new.0 g.new.1.0 g.ensures _ _ c.in-At.is in
+    let made = child_made_at (registry_of l.ws) l.node e g.result g.new.ws g.new.optional g.ensures _ _ c.in-At.is in
     entering_more l.invariant c.loop-left-test.true (seen got_entry c.entry_at-field.ensures c.in-Value.is) _ _ _ _ made
 
 pub returns : goal.returns

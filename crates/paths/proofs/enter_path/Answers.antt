@@ -16,7 +16,7 @@ returns-in_default-root c =
     let g = c.get_or_create_identifier-root in
     path_full c.args.s.now c.args.at c.requires.1
     (seen got_path_head c.path_head_at-field.ensures c.in-Value.is) (registry_of c.args.ws.now) _ _
-    (made_full _ g.result g.new.0 g.new.1.0 g.ensures c.in_default-root.is)
+    (made_full _ g.result g.new.ws g.new.optional g.ensures c.in_default-root.is)
 
 pub enter_entries-requires : goal.enter_entries-requires
 enter_entries-requires c =
@@ -24,7 +24,7 @@ enter_entries-requires c =
     let g = c.get_or_create_identifier-root in
     let reg = registry_of c.args.ws.now in
     let made =
-    root_made_at reg head.identifier head.reactive head.span g.result g.new.0 g.new.1.0 g.ensures _ _ c.in-At.is in (
+    root_made_at reg head.identifier head.reactive head.span g.result g.new.ws g.new.optional g.ensures _ _ c.in-At.is in (
       made.held,
       made.inside,
       let longer = made.longer in omega arith,
@@ -38,6 +38,6 @@ returns c =
     let g = c.get_or_create_identifier-root in
     let reg = registry_of c.args.ws.now in
     let made =
-    root_made_at reg head.identifier head.reactive head.span g.result g.new.0 g.new.1.0 g.ensures _ _ c.in-At.is in
+    root_made_at reg head.identifier head.reactive head.span g.result g.new.ws g.new.optional g.ensures _ _ c.in-At.is in
     path_rooted c.args.s.now c.args.at c.requires.1
-    (seen got_path_head c.path_head_at-field.ensures c.in-Value.is) reg g.new.0 _ _ made.is _ _ _ c.enter_entries.ensures
+    (seen got_path_head c.path_head_at-field.ensures c.in-Value.is) reg g.new.ws _ _ made.is _ _ _ c.enter_entries.ensures

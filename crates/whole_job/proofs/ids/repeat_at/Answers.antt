@@ -6,12 +6,12 @@ use Rattle.whole_job.proofs.ids.repeat_at.Goals as goal
 
 pub slice_bounds-out-end : goal.slice_bounds-out-end
 slice_bounds-out-end c =
-    (predecessors_stored _ _ _ _ _ refl c.predecessors_at-n.ensures.0 c.predecessors_at-n.ensures.1).within
+    (predecessors_stored _ _ _ _ _ refl c.predecessors_at-n.ensures.value c.predecessors_at-n.ensures.out_after).within
 
 pub slice_bounds-repeat_in-end : goal.slice_bounds-repeat_in-end
 slice_bounds-repeat_in-end c =
-    (predecessors_stored _ _ _ _ _ refl c.predecessors_at-n.ensures.0 c.predecessors_at-n.ensures.1).count
+    (predecessors_stored _ _ _ _ _ refl c.predecessors_at-n.ensures.value c.predecessors_at-n.ensures.out_after).count
 
 pub returns : goal.returns
 returns c =
-    rw (← (predecessors_stored _ _ _ _ _ refl c.predecessors_at-n.ensures.0 c.predecessors_at-n.ensures.1).front) c.repeat_in.ensures
+    rw (← (predecessors_stored _ _ _ _ _ refl c.predecessors_at-n.ensures.value c.predecessors_at-n.ensures.out_after).front) c.repeat_in.ensures
