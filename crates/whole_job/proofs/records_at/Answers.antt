@@ -17,7 +17,7 @@ unfolding block_notes
 returns-in_default c =
     let told = c.in_default.is in
     let head = seen got_header c.requires.0 told in
-    (rw (records_fields, head, c.refusal.ensures, told), (rw head, rw head))
+    record { value = rw (records_fields, head, c.refusal.ensures, told); ids_after = rw head; places_after = rw head }
 
 pub note_blocks-past_blocks-requires : goal.note_blocks-past_blocks-requires
 note_blocks-past_blocks-requires c =
@@ -28,37 +28,41 @@ pub returns-in_default-past_blocks : goal.returns-in_default-past_blocks
 unfolding block_notes
 returns-in_default-past_blocks c =
     let head = behind _ _ c.requires c.in-Value.is in
-    let told = c.in_default-past_blocks.is in (
-      rw (blocks_refused _ head (seen got_place c.note_blocks-past_blocks.ensures.result_value told), c.refusal-in_default-past_blocks.ensures, told),
-      (rw head c.note_blocks-past_blocks.ensures.ids_after.0, rw head c.note_blocks-past_blocks.ensures.ids_after.1),
-    )
+    let told = c.in_default-past_blocks.is in record {
+      value = rw (blocks_refused _ head (seen got_place c.note_blocks-past_blocks.ensures.result_value told), c.refusal-in_default-past_blocks.ensures, told);
+      ids_after = rw head c.note_blocks-past_blocks.ensures.ids_after;
+      places_after = rw head c.note_blocks-past_blocks.ensures.places_after;
+    }
 
 pub returns-in_default-past_candidates : goal.returns-in_default-past_candidates
 unfolding block_notes
 returns-in_default-past_candidates c =
     let head = behind _ _ c.requires c.in-Value.is in
     let past = seen got_place c.note_blocks-past_blocks.ensures.result_value c.in-To.is in
-    let told = c.in_default-past_candidates.is in (
-      rw (candidates_refused _ head past (seen got_place c.past_paths-past_candidates.ensures told), c.refusal-in_default-past_candidates.ensures, told),
-      (rw head c.note_blocks-past_blocks.ensures.ids_after.0, rw head c.note_blocks-past_blocks.ensures.ids_after.1),
-    )
+    let told = c.in_default-past_candidates.is in record {
+      value = rw (candidates_refused _ head past (seen got_place c.past_paths-past_candidates.ensures told), c.refusal-in_default-past_candidates.ensures, told);
+      ids_after = rw head c.note_blocks-past_blocks.ensures.ids_after;
+      places_after = rw head c.note_blocks-past_blocks.ensures.places_after;
+    }
 
 pub returns-then-next-s : goal.returns-then-next-s
 unfolding block_notes
 returns-then-next-s c =
     let head = behind _ _ c.requires c.in-Value.is in
     let past = seen got_place c.note_blocks-past_blocks.ensures.result_value c.in-To.is in
-    let last = seen got_place c.past_paths-past_candidates.ensures c.in-To-past_candidates.is in (
-      rw (byte_extra _ head past last c.if-next-s.true),
-      (rw head c.note_blocks-past_blocks.ensures.ids_after.0, rw head c.note_blocks-past_blocks.ensures.ids_after.1),
-    )
+    let last = seen got_place c.past_paths-past_candidates.ensures c.in-To-past_candidates.is in record {
+      value = rw (byte_extra _ head past last c.if-next-s.true);
+      ids_after = rw head c.note_blocks-past_blocks.ensures.ids_after;
+      places_after = rw head c.note_blocks-past_blocks.ensures.places_after;
+    }
 
 pub returns : goal.returns
 unfolding block_notes
 returns c =
     let head = behind _ _ c.requires c.in-Value.is in
     let past = seen got_place c.note_blocks-past_blocks.ensures.result_value c.in-To.is in
-    let last = seen got_place c.past_paths-past_candidates.ensures c.in-To-past_candidates.is in (
-      sym (all_read _ head past last c.if-next-s.false),
-      (rw head c.note_blocks-past_blocks.ensures.ids_after.0, rw head c.note_blocks-past_blocks.ensures.ids_after.1),
-    )
+    let last = seen got_place c.past_paths-past_candidates.ensures c.in-To-past_candidates.is in record {
+      value = sym (all_read _ head past last c.if-next-s.false);
+      ids_after = rw head c.note_blocks-past_blocks.ensures.ids_after;
+      places_after = rw head c.note_blocks-past_blocks.ensures.places_after;
+    }

@@ -1,5 +1,4 @@
 -- What each of the three tests rules out, together.
-use borrow.Author.Tests.{not-false}
 use mathlib.Core.Path.{refl}
 use Rattle.model.specs.Tests.{never}
 use Rattle.whole_job.proofs.Stamps.{neither}
@@ -19,7 +18,7 @@ returns-then-not-all_apart c = λ e. never e refl
 
 pub returns : goal.returns
 returns c =
-    let once = c.ids_apart.ensures (not-false _ c.if-not-ids_apart.false) in
-    let all = c.all_apart.ensures (not-false _ c.if-not-all_apart.false) in
+    let once = c.ids_apart.ensures c.if-not-ids_apart.false in
+    let all = c.all_apart.ensures c.if-not-all_apart.false in
     let a = c.args in
     λ e. neither a.s.now a.ids.now a.places.now _ a.scope once all c.place_of.ensures e

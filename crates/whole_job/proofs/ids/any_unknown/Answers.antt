@@ -1,4 +1,3 @@
-use Prim.Native.Nat.{◌-◌}
 use mathlib.Core.Path.{refl, sym, ◌∙◌}
 use Rattle.whole_job.proofs.IdLists.{any_none, any_here, any_next}
 use Rattle.whole_job.proofs.ids.any_unknown.Goals as goal

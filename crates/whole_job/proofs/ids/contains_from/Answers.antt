@@ -1,4 +1,3 @@
-use Prim.Native.Nat.{◌-◌}
 use mathlib.Core.Path.{refl, sym, ◌∙◌}
 use Rattle.whole_job.proofs.IdLists.{contains_none, contains_here, contains_next}
 use Rattle.whole_job.proofs.ids.contains_from.Goals as goal

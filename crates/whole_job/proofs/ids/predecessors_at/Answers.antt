@@ -25,4 +25,4 @@ unfolding predecessors_at
 returns c =
     let head = seen got_block_head c.block_head_at-head_field.ensures c.in-Value.is in
     let ids = ids_again _ _ c.requires head in
-    (rw head (sym (count_again _ _ _ ids)), rw head c.ids_into.ensures)
+    record { value = rw head (sym (count_again _ _ _ ids)); out_after = rw head c.ids_into.ensures }

@@ -1,4 +1,3 @@
-use Prim.Native.Nat.{◌-◌}
 use mathlib.Core.Path.{refl, sym, ◌∙◌}
 use Rattle.whole_job.proofs.IdLists.{repeats_none, repeats_here, repeats_next}
 use Rattle.whole_job.proofs.ids.repeat_in.Goals as goal

@@ -1,4 +1,3 @@
-use Prim.Native.Nat.{◌-◌}
 use mathlib.Core.Path.{refl, sym, ◌∙◌}
 use Rattle.whole_job.proofs.IdLists.{unknown_none, unknown_here, unknown_next}
 use Rattle.whole_job.proofs.ids.unknown_in.Goals as goal
