@@ -3,6 +3,7 @@
 // and `whole_job`, which have the slice and the place as parameters. `read_job`, whose parameters
 // are plain, is the one that others call.
 #![tactic(auto)]
+
 ghost use Rattle.std.specs.Prelude.{◌≡◌};
 ghost use Rattle.job.specs.Kept.{BehindHeader};
 ghost use Rattle.whole_job.specs.Reads.{ReadsJob};
