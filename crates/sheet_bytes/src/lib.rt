@@ -1,6 +1,7 @@
 // The bytes of a sheet: its head, each node of the registry with its root's identifier and reactive
 // mark, and each block's set as a row of bits.
 #![tactic(auto)]
+
 ghost use Rattle.std.specs.Prelude.{◌+◌, ◌*◌, ◌≤◌, ◌<◌, ◌≡◌, length};
 ghost use Rattle.model.specs.Registry.{full_path_of};
 ghost use Rattle.model.specs.RegistryLaws.{node_at};

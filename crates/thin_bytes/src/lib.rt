@@ -2,6 +2,7 @@
 // earlier one of its list equals is passed over, and a count is written once its list is. The job
 // was read before, so that no record is refused here.
 #![tactic(auto)]
+
 ghost use Rattle.writer.specs.Writes.{Writes};
 ghost use Rattle.thin_bytes.specs.Thins.{
   SameEntries,
