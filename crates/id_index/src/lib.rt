@@ -3,6 +3,7 @@
 // was entered. A byte that is no block's place says that there is none. No fact about an index is
 // needed: what it leads to is looked at.
 #![tactic(auto)]
+
 ghost use Rattle.std.specs.Prelude.{◌≡◌, ◌≤◌, length};
 ghost use Rattle.id_index.specs.Index.{place_by};
 

@@ -3,7 +3,7 @@
 use Prim.Native.Nat.{ℕ, suc, ◌<◌}
 use mathlib.Core.Path.{◌≡◌, sym, ap, subst, ◌∙◌}
 use mathlib.Core.List.{List, ◌∷◌}
-use lib.ListN.{length, get_or, drop}
+use lib.ListN.{get_or, drop}
 use Rattle.model.specs.ReadingBytes.{Read, got}
 use Rattle.model.specs.Job.{Block, Job, read_block}
 use Rattle.job.specs.Passing.{or_none}

@@ -5,9 +5,8 @@ use Prim.Native.Nat.{ℕ}
 use mathlib.Core.Path.{◌≡◌, refl}
 use mathlib.Core.List.{List}
 use Rattle.entries.specs.declared.BlockId.{BlockId}
-use Rattle.entries.specs.declared.DependencyPathEntry.{DependencyPathEntry}
 use Rattle.entries.specs.Path.{ReactiveScopeDependency}
-use Rattle.model.specs.ReadingBytes.{Read, got, refused, and_then, mapped, both, read_many, read_number, read_mark, read_within, read_flag}
+use Rattle.model.specs.ReadingBytes.{Read, and_then, mapped, both, read_many, read_number, read_mark, read_within, read_flag}
 use Rattle.model.specs.RawReads.{RawRead}
 use Rattle.model.specs.Job.{BL, PA, RD, Block, read_block_id, read_entry, read_path_fields, read_path, read_range_start, read_raw_read, read_block}
 use Rattle.laws.specs.JobBack.{then_then}

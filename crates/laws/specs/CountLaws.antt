@@ -1,6 +1,6 @@
 -- Counting by place, and asking whether some element passes.
-use Rattle.std.specs.Prelude.{ℕ, zero, suc, ◌+◌, ◌*◌, ◌≤◌, ◌≡◌, refl, Bool, true, false, ◌||◌, cond, List, [], ◌∷◌, ◌++◌, map, length}
-use Rattle.std.proofs.Common.{le_refl, arith, sym, ap, ◌∙◌}
+use Rattle.std.specs.Prelude.{zero, ◌+◌, ◌≤◌, ◌≡◌, refl, Bool, true, false, ◌||◌, List, [], ◌∷◌, ◌++◌, map, length}
+use Rattle.std.proofs.Common.{le_refl, arith, sym}
 use Rattle.std.proofs.Math.Bool.{or-true}
 use Rattle.model.specs.Lists.{any_of, count_of, sum_of}
 use Rattle.model.specs.Tests.{decide, never}

@@ -1,12 +1,12 @@
 -- A flat forest one node at a time: a node found by its parent and key, a way down entered position
 -- by position, and several ways down entered one after the other.
-use Rattle.std.specs.Prelude.{ℕ, zero, suc, ◌+◌, ◌-◌, ◌≤◌, ◌<◌, ◌≡◌, refl, Bool, true, false, ◌&&◌, cond, length, eqb}
+use Rattle.std.specs.Prelude.{ℕ, zero, suc, ◌+◌, ◌-◌, ◌≤◌, ◌<◌, ◌≡◌, refl, false, ◌&&◌, cond, length, eqb}
 use Rattle.std.proofs.Common.{arith, sym, ap, ◌∙◌}
 use mathlib.Core.List.{List, [], ◌∷◌, ◌++◌, foldl}
 use Rattle.std.proofs.Math.Option.{Option, some, none}
-use Rattle.model.specs.Tests.{by_cond, decide, never, and_first, eqb_same, eqb-true, eqb_apart}
-use Rattle.model.specs.Forest.{Key, same_key, Forest, Found, find_key, add, add_all}
-use Rattle.laws.specs.Flat.{Node, grow, fresh, enter}
+use Rattle.model.specs.Tests.{by_cond, decide, and_first, eqb-true, eqb_apart}
+use Rattle.model.specs.Forest.{Key, same_key, Forest, Found, find_key, add_all}
+use Rattle.laws.specs.Flat.{Node, grow, enter}
 use Rattle.laws.specs.FlatLaws.{grow_enter}
 
 module _ {P : Type 0} where

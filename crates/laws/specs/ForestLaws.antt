@@ -1,8 +1,7 @@
 -- Laws of forests, for both trees: how many of the first ways down stand along a list of keys, what
 -- adding a way down keeps, and what it brings.
-use Rattle.std.specs.Prelude.{ℕ, zero, suc, ◌+◌, ◌≡◌, refl, Bool, true, false, ◌&&◌, ◌||◌, cond, List, [], ◌∷◌, ◌++◌, map}
-use Rattle.std.proofs.Common.{arith, sym, ap, subst, ◌∙◌}
-use Rattle.entries.specs.declared.IdentifierId.{IdentifierId}
+use Rattle.std.specs.Prelude.{ℕ, zero, ◌+◌, ◌≡◌, refl, Bool, true, false, ◌&&◌, ◌||◌, cond, List, [], ◌∷◌, ◌++◌, map}
+use Rattle.std.proofs.Common.{arith, ap, subst, ◌∙◌}
 use Rattle.model.specs.Lists.{any_of, count_of}
 use Rattle.model.specs.Tests.{by_cond, decide, never, eqb_same, eqb-true}
 use Rattle.model.specs.ListLaws.{All, all_map, all_append}

@@ -1,20 +1,19 @@
 -- The graph of blocks that refusals 7 and 8 let pass: its edges are the predecessors that the
 -- blocks name, a block's place is its own, successors are the converse of predecessors, and no
 -- neighbour of a block stands twice.
-use Rattle.std.specs.Prelude.{ℕ, zero, suc, ◌+◌, ◌≤◌, ◌<◌, ◌≡◌, refl, ◌⊎◌, true, ◌||◌, not, cond, List, [], ◌∷◌, ◌++◌, map, get_or, eqb, ltb}
+use Rattle.std.specs.Prelude.{ℕ, zero, suc, ◌<◌, ◌≡◌, refl, ◌⊎◌, true, not, List, [], ◌∷◌, map, ltb}
 use Rattle.std.proofs.Common.{not-suc-le-zero, arith, subst, ◌∙◌, inl, inr}
 use Rattle.std.proofs.Math.Path.{sym, ap}
 use Rattle.std.proofs.Math.Bool.{false}
 use Rattle.std.proofs.Math.ListN.{length}
 use Rattle.std.proofs.lemmas.Bool.{not-false}
 use Rattle.entries.specs.declared.BlockId.{BlockId}
-use Rattle.model.specs.Lists.{select, any_of}
-use Rattle.model.specs.Tests.{by_cond, decide, never, eqb_same, eqb-true, eqb-false, or_cases, or_second}
+use Rattle.model.specs.Lists.{any_of}
+use Rattle.model.specs.Tests.{by_cond, decide, never, eqb_same, eqb-true}
 use Rattle.model.specs.ListLaws.{All, all_map, all_both, all_select, all_get_d, NoRepeats, no_repeats_select}
 use Rattle.model.specs.Rounds.{job_order}
-use Rattle.model.specs.Propagation.{Graph}
 use Rattle.model.specs.Job.{Block, Job, same_block, contains_id, repeats, ids_of, has_repeat, has_unknown}
-use Rattle.model.specs.Stage.{block_at, place_of, predecessors_of, insert_by_id, sort_by_id, by_ascending_id, successors_of, graph_of}
+use Rattle.model.specs.Stage.{block_at, place_of, predecessors_of, insert_by_id, sort_by_id, by_ascending_id, successors_of}
 use Rattle.laws.specs.Membership.{
   Some,
   Member,

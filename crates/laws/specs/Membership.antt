@@ -1,7 +1,7 @@
 -- Membership, and statements about some element of a list, by recursion on the list.
-use Rattle.std.specs.Prelude.{ℕ, zero, suc, ◌+◌, ◌<◌, ◌≡◌, refl, ◌⊎◌, Bool, true, false, ◌||◌, cond, length, get_or}
-use Rattle.std.proofs.Common.{not-suc-le-zero, arith, sym, ap, subst, inl, inr}
-use mathlib.Core.List.{List, [], ◌∷◌, ◌++◌, map, reverse, reverse_aux}
+use Rattle.std.specs.Prelude.{ℕ, zero, suc, ◌<◌, ◌≡◌, refl, ◌⊎◌, Bool, true, false, ◌||◌, length, get_or}
+use Rattle.std.proofs.Common.{not-suc-le-zero, arith, sym, subst, inl, inr}
+use mathlib.Core.List.{List, [], ◌∷◌, map, reverse, reverse_aux}
 use Rattle.model.specs.Lists.{select, any_of}
 use Rattle.model.specs.Tests.{by_cond, never, or_cases, or_second}
 use Rattle.model.specs.ListLaws.{All}

@@ -1,5 +1,5 @@
 -- Job order holds each block's place, and once.
-use Rattle.std.specs.Prelude.{ℕ, zero, suc, ◌+◌, ◌≤◌, ◌<◌, ◌≡◌, ◌⊎◌, eqb}
+use Rattle.std.specs.Prelude.{ℕ, zero, suc, ◌+◌, ◌≤◌, ◌<◌, ◌≡◌, eqb}
 use Rattle.std.proofs.Common.{arith, inl, inr}
 use Rattle.model.specs.Tests.{decide, eqb-true, eqb-false}
 use Rattle.model.specs.ListLaws.{All, all_map, NoRepeats}

@@ -1,7 +1,7 @@
 -- What is written is read back: a reader that stands where a value's bytes begin gives the value
 -- and the place after them, where each number fits its width.
-use Rattle.std.specs.Prelude.{ℕ, zero, suc, ◌+◌, ◌*◌, ◌^◌, ◌/◌, ◌%◌, ◌≤◌, ◌<◌, ◌≡◌, refl, List, [], ◌∷◌, ◌++◌, length, get_or, T, eqb, ltb, leb}
-use Rattle.std.proofs.Common.{le_refl, le_trans, div-lt_iff_lt-mul, pow-suc, arith, sym, ap, subst, ◌∙◌, append_assoc, append-nil, length-append, lt→ltb, le→leb}
+use Rattle.std.specs.Prelude.{ℕ, zero, suc, ◌+◌, ◌*◌, ◌^◌, ◌/◌, ◌%◌, ◌≤◌, ◌<◌, ◌≡◌, List, [], ◌∷◌, ◌++◌, length, eqb, ltb, leb}
+use Rattle.std.proofs.Common.{div-lt_iff_lt-mul, pow-suc, arith, sym, ap, subst, ◌∙◌, append_assoc, append-nil, length-append, lt→ltb, le→leb}
 use Rattle.std.proofs.Math.Nat.{pow-zero}
 use mathlib.Core.Bool.{Bool, true, false, cond}
 use Rattle.std.proofs.Math.Seq.{get_or-append_seam}
@@ -10,22 +10,7 @@ use Rattle.entries.specs.Path.{ReactiveScopeDependency}
 use Rattle.model.specs.Lists.{concat_map}
 use Rattle.model.specs.Tests.{passes_test, eqb_same}
 use Rattle.model.specs.ListLaws.{All, all_map}
-use Rattle.model.specs.ReadingBytes.{
-  Read,
-  got,
-  refused,
-  ByteReader,
-  and_then,
-  mapped,
-  both,
-  read_many,
-  read_byte,
-  read_number,
-  read_u8,
-  read_mark,
-  read_within,
-  read_flag,
-}
+use Rattle.model.specs.ReadingBytes.{got, refused, ByteReader, and_then, mapped, read_many, read_byte, read_number, read_u8, read_mark, read_within, read_flag}
 use Rattle.model.specs.Rounds.{Rounds}
 use Rattle.model.specs.Propagation.{Work}
 use Rattle.entries.specs.Property.{property_of, is_number, value_of, property_back}

@@ -1,10 +1,10 @@
 -- What the trees return, for every list of hoistable paths and every list of candidates: each
 -- candidate has exactly one returned path with its identifier and a prefix of its property names,
 -- and each returned path is one for some candidate.
-use Rattle.std.specs.Prelude.{ℕ, zero, ◌≡◌, refl, Bool, true, false, ◌&&◌, ◌||◌, cond, List, [], ◌∷◌, ◌++◌, map, eqb}
-use Rattle.std.proofs.Common.{sym, ap, subst, ◌∙◌}
+use Rattle.std.specs.Prelude.{◌≡◌, refl, Bool, true, false, ◌&&◌, ◌||◌, cond, List, [], ◌∷◌, ◌++◌, map, eqb}
+use Rattle.std.proofs.Common.{ap, ◌∙◌}
 use Rattle.std.proofs.Math.Bool.{or-true}
-use Rattle.std.proofs.Math.Option.{Option, some, none}
+use Rattle.std.proofs.Math.Option.{Option}
 use Rattle.entries.specs.declared.DependencyPathEntry.{DependencyPathEntry}
 use Rattle.entries.specs.Path.{same_property, ReactiveScopeDependency, prefix_of_names, prefix_of}
 use Rattle.model.specs.Lists.{any_of, count_of}

@@ -1,9 +1,6 @@
 -- Document 01, "Answer and sheet" and "Turning a job back": for any job bytes and any out buffer,
 -- the number returned and the buffer afterwards.
 use Rattle.std.specs.Prelude.{ℕ, zero, suc, ◌+◌, ◌*◌, ◌/◌, ◌%◌, Bool, true, false, cond, List, [], ◌∷◌, ◌++◌, length, drop, replicate, ℤ, pos, neg_ℤ, ltb}
-use Rattle.entries.specs.declared.IdentifierId.{IdentifierId}
-use Rattle.entries.specs.declared.NodeId.{NodeId}
-use Rattle.entries.specs.declared.BlockId.{BlockId}
 use Rattle.entries.specs.declared.DependencyPathEntry.{DependencyPathEntry}
 use Rattle.entries.specs.Property.{is_number, value_of}
 use Rattle.entries.specs.declared.Refusal.{Refusal}

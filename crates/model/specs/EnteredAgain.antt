@@ -28,7 +28,7 @@ use Rattle.model.specs.Registry.{
   own_mark,
   get_or_create_property,
 }
-use Rattle.model.specs.Sets.{NodeSet, contains, insert}
+use Rattle.model.specs.Sets.{contains, insert}
 use Rattle.model.specs.SetLaws.{Ascending, insert_from, contains_insert, insert_again, contains_inserted}
 use Rattle.model.specs.Stage.{PathsEntered, enter_path, enter_paths}
 use Rattle.model.specs.RegistryLaws.{

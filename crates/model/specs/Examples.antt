@@ -1,13 +1,11 @@
 -- Document 01, "Proved examples": T1 to T8, R1, R2, P1, P2, P3 and the bytes case of "Answer and
 -- sheet" as one list, proved by computation; and beside the list, what its examples leave open.
-use Rattle.std.specs.Prelude.{ℕ, zero, ◌+◌, ◌≤◌, ◌≡◌, refl, Bool, true, false, cond, List, [], ◌∷◌, map, length, drop, get_or, T, ltb}
-use Rattle.std.proofs.Common.{sym, ap, ◌∙◌, true≢false, ltb→lt, arith}
+use Rattle.std.specs.Prelude.{ℕ, zero, ◌+◌, ◌≤◌, ◌≡◌, refl, Bool, true, false, List, [], ◌∷◌, map, length, drop, get_or, ltb}
+use Rattle.std.proofs.Common.{sym, ap, ◌∙◌, ltb→lt, arith}
 use Rattle.std.proofs.Math.ListN.{get_or-map}
-use Rattle.entries.specs.declared.BlockId.{BlockId}
 use Rattle.entries.specs.declared.PropertyLiteral.TheVariants.{String}
 use Rattle.entries.specs.declared.DependencyPathEntry.{DependencyPathEntry}
 use Rattle.entries.specs.Path.{ReactiveScopeDependency}
-use Rattle.model.specs.Sets.{NodeSet}
 use Rattle.model.specs.Registry.{PropertyPathNode, root_node, full_path_of, get_or_create_property}
 use Rattle.model.specs.Reduction.{Reduced, reduce_maybe_optional_chains}
 use Rattle.model.specs.Tree.{derive_minimal_dependencies}
@@ -15,7 +13,7 @@ use Rattle.model.specs.Job.{Block}
 use Rattle.model.specs.Stage.{PathsEntered, enter_paths, none_entered, propagated}
 use Rattle.model.specs.Rounds.{Rounds}
 use Rattle.model.specs.Propagation.{Work, JoiningRule, done_neighbours}
-use Rattle.model.specs.Answer.{least_buffer, Verdict, writes, answer_of}
+use Rattle.model.specs.Answer.{least_buffer, writes, answer_of}
 
 -- What an example says.
 

@@ -1,7 +1,7 @@
 -- Ordered forests whose positions have keys: what both trees of module 6 are made of. A forest is
 -- its first position, that position's children, and the positions after it; positions stand in the
 -- order of their first insertion.
-use Rattle.std.specs.Prelude.{Bool, true, false, cond, eqb}
+use Rattle.std.specs.Prelude.{Bool, false, cond, eqb}
 use mathlib.Core.List.{List, [], ◌∷◌, ◌++◌, map, foldl}
 use Rattle.std.proofs.Math.Option.{Option, some, none}
 use Rattle.entries.specs.declared.IdentifierId.{IdentifierId}

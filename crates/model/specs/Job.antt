@@ -1,11 +1,8 @@
 -- Document 01, "The job (added)", and document 02, E5 (raw reads in a job): a job's records, field
 -- by field, and refusals 3 to 8 and 10. The width of a span, in bytes, is a parameter of the
 -- records that hold one.
-use Rattle.std.specs.Prelude.{ℕ, zero, suc, ◌+◌, ◌*◌, Bool, true, false, ◌||◌, not, cond, List, [], ◌∷◌, ◌++◌, map, length, eqb}
-use Rattle.entries.specs.declared.IdentifierId.{IdentifierId}
+use Rattle.std.specs.Prelude.{ℕ, ◌+◌, ◌*◌, Bool, false, ◌||◌, not, cond, List, [], ◌∷◌, ◌++◌, map, length, eqb}
 use Rattle.entries.specs.declared.BlockId.{BlockId}
-use Rattle.entries.specs.declared.PropertyLiteral.{PropertyLiteral}
-use Rattle.entries.specs.declared.PropertyLiteral.TheVariants.{String, Number}
 use Rattle.entries.specs.declared.DependencyPathEntry.{DependencyPathEntry}
 use Rattle.entries.specs.Property.{property_of}
 use Rattle.entries.specs.declared.Refusal.TheVariants.{ExtraByte, RepeatedId, UnknownBlock, LargestStart}

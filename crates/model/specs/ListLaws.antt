@@ -1,6 +1,5 @@
 -- Statements about the elements of a list, and what choosing by a test keeps.
-use Rattle.std.specs.Prelude.{ℕ, zero, suc, ◌+◌, ◌≤◌, ◌<◌, ◌≡◌, refl, ◌⊎◌, Bool, true, false, cond, List, [], ◌∷◌, ◌++◌, map, length, get_or, set}
-use Rattle.std.proofs.Common.{sym, ap, subst, inl, inr}
+use Rattle.std.specs.Prelude.{ℕ, zero, suc, ◌≡◌, refl, Bool, List, [], ◌∷◌, ◌++◌, map, get_or, set}
 use Rattle.model.specs.Lists.{select}
 use Rattle.model.specs.Tests.{by_cond}
 

@@ -1,5 +1,5 @@
 -- Lists: choosing, asking and counting by a test, summing, and joining.
-use Rattle.std.specs.Prelude.{ℕ, zero, suc, ◌+◌, Bool, true, false, ◌||◌, cond, List, [], ◌∷◌, ◌++◌}
+use Rattle.std.specs.Prelude.{ℕ, zero, suc, ◌+◌, Bool, false, ◌||◌, cond, List, [], ◌∷◌, ◌++◌}
 
 module _ {A : Type 0} where
   -- the elements that pass the test, in their order

@@ -1,6 +1,6 @@
 -- Document 01, module 4 (Propagation): `propagate_non_null`, over the registry and the blocks'
 -- sets.
-use Rattle.std.specs.Prelude.{ℕ, zero, Bool, true, false, ◌||◌, not, get_or, set}
+use Rattle.std.specs.Prelude.{ℕ, zero, Bool, false, ◌||◌, not, get_or, set}
 use mathlib.Core.List.{List, [], ◌∷◌, map, foldl}
 use Rattle.model.specs.Lists.{select}
 use Rattle.model.specs.Sets.{NodeSet, union, intersection, same_set}

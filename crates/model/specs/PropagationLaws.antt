@@ -2,21 +2,20 @@
 -- so each reduction ends by a pass that changed nothing; no step makes the registry shorter, and
 -- nothing but a reduction makes it longer; a block that has joined has a reduced set from then on.
 -- What is said to have been made as paths are entered is how much longer the registry is.
-use Prim.Native.Nat.{ℕ, zero, suc, ◌+◌, ◌≤◌, ◌<◌}
-use Rattle.std.proofs.Common.{le_refl, le_trans, not-suc-le-zero, arith, sym, ◌∙◌, length-set, get_or-set_other}
-use Rattle.std.specs.Prelude.{◌≡◌, refl, Bool, true, false, ◌||◌, length, get_or, eqb}
+use Prim.Native.Nat.{ℕ, zero, ◌+◌, ◌<◌}
+use Rattle.std.proofs.Common.{arith, sym, ◌∙◌, get_or-set_other}
+use Rattle.std.specs.Prelude.{◌≡◌, refl, ◌||◌, length, eqb}
 use Rattle.std.proofs.Math.Path.{ap, subst}
 use Rattle.std.proofs.Math.Bool.{not}
 use mathlib.Core.List.{List, [], ◌∷◌, ◌++◌, map, foldl}
 use Rattle.std.proofs.Math.ListN.{set}
-use Rattle.entries.specs.declared.NodeId.{NodeId}
 use Rattle.entries.specs.Path.{ReactiveScopeDependency}
 use Rattle.model.specs.Tests.{decide, eqb-true, eqb-false}
-use Rattle.model.specs.Sets.{NodeSet, contains, insert, union, intersection, same_set}
+use Rattle.model.specs.Sets.{NodeSet, contains, union, intersection, same_set}
 use Rattle.model.specs.Registry.{PropertyPathRegistry, own_mark, get_or_create_property}
-use Rattle.model.specs.Reduction.{Reduced, reduce_node, pass, reduce_maybe_optional_chains}
+use Rattle.model.specs.Reduction.{Reduced, pass, reduce_maybe_optional_chains}
 use Rattle.model.specs.Visit.{TraversalState}
-use Rattle.model.specs.Rounds.{Rounds, rounds_from, walk, job_order, reverse_job_order}
+use Rattle.model.specs.Rounds.{walk, job_order, reverse_job_order}
 use Rattle.model.specs.Propagation.{
   Work,
   set_of,
@@ -49,18 +48,7 @@ use Rattle.model.specs.Stage.{
 }
 use Rattle.model.specs.ListLaws.{All, all_map, all_select, all_get_d, all_set, set_here, all_mapped}
 use Rattle.model.specs.SetLaws.{insert_from, select_from, union_from, insert_all, union_all}
-use Rattle.model.specs.RegistryLaws.{
-  property_longer,
-  Extends,
-  extends_refl,
-  extends_trans,
-  extends_length,
-  Sound,
-  sound_empty,
-  Proper,
-  path_proper,
-  path_extends,
-}
+use Rattle.model.specs.RegistryLaws.{property_longer, Extends, extends_refl, extends_trans, Sound, sound_empty, path_proper, path_extends}
 use Rattle.model.specs.ReductionLaws.{
   Members,
   members_extends,

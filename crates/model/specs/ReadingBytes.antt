@@ -1,6 +1,6 @@
 -- Reading bytes: a value and the place after it, or a refusal. The order of the text is the order
 -- of reading, and the first refusal met counts.
-use Rattle.std.specs.Prelude.{ℕ, zero, suc, ◌+◌, ◌*◌, Bool, true, false, ◌&&◌, cond, List, [], ◌∷◌, length, get_or, eqb, leb, ltb}
+use Rattle.std.specs.Prelude.{ℕ, zero, suc, ◌+◌, ◌*◌, Bool, ◌&&◌, cond, List, [], ◌∷◌, length, get_or, eqb, leb, ltb}
 use Rattle.entries.specs.declared.Refusal.{Refusal}
 use Rattle.entries.specs.declared.Refusal.TheVariants.{MissingByte, WrongMark, OutOfRange}
 

@@ -1,7 +1,7 @@
 -- Document 01, "Reading a path", from ECMA-262: property accessors (13.3.2) and optional chains
 -- (13.3.9). Clauses are those of its 16th edition, ECMAScript 2025. It reads a key as a string;
 -- here keys are properties as the Rust tells them apart (docs/DIFFERENCES.md).
-use Rattle.std.specs.Prelude.{Bool, true, false, List, [], ◌∷◌}
+use Rattle.std.specs.Prelude.{true, false, List, [], ◌∷◌}
 use Rattle.entries.specs.declared.IdentifierId.{IdentifierId}
 use Rattle.entries.specs.declared.PropertyLiteral.{PropertyLiteral}
 use Rattle.entries.specs.declared.DependencyPathEntry.{DependencyPathEntry}

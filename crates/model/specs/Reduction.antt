@@ -5,7 +5,7 @@ use Rattle.entries.specs.declared.NodeId.{NodeId}
 use Rattle.entries.specs.declared.DependencyPathEntry.{DependencyPathEntry}
 use Rattle.model.specs.Lists.{select, any_of, count_of, sum_of}
 use Rattle.model.specs.Sets.{NodeSet, same_node, contains, insert, remove}
-use Rattle.model.specs.Registry.{PropertyPathRegistry, Reached, full_path_of, walk_from, walk_path}
+use Rattle.model.specs.Registry.{PropertyPathRegistry, full_path_of, walk_from, walk_path}
 
 -- a registry and a set of its nodes, as a pass has them so far, and whether it has changed the set
 pub record PassState : Type 0 where

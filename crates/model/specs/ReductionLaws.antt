@@ -4,16 +4,16 @@
 -- (`reduction_repeats`) and nothing else is (`reduction_only`). A reduced set stays so when nodes
 -- are made, and reducing it again changes nothing.
 use Prim.Native.Nat.{ℕ, zero, suc, ◌+◌, ◌≤◌, ◌<◌}
-use Rattle.std.proofs.Common.{le_refl, le_trans, not-suc-le-zero, sym, subst, ◌∙◌, inl, inr}
+use Rattle.std.proofs.Common.{le_refl, le_trans, not-suc-le-zero, sym, subst, ◌∙◌}
 use native.Mathlib.Omega.{arith}
-use Rattle.std.specs.Prelude.{◌≡◌, ◌⊎◌, ◌&&◌, ◌||◌, cond, List, [], ◌∷◌, ◌++◌, get_or, eqb}
+use Rattle.std.specs.Prelude.{◌≡◌, ◌||◌, cond, List, [], ◌∷◌, ◌++◌, eqb}
 use Rattle.std.proofs.Math.Path.{refl, ap}
 use Rattle.std.proofs.Math.Bool.{Bool, true, false, not, or-false}
 use Rattle.std.proofs.Math.ListN.{length}
 use Rattle.entries.specs.declared.NodeId.{NodeId}
 use Rattle.entries.specs.declared.DependencyPathEntry.{DependencyPathEntry}
 use Rattle.entries.specs.Path.{ReactiveScopeDependency}
-use Rattle.model.specs.Lists.{select, count_of, sum_of}
+use Rattle.model.specs.Lists.{select}
 use Rattle.model.specs.Sets.{NodeSet, same_node, contains, insert, remove}
 use Rattle.model.specs.Registry.{
   step_from,
@@ -61,25 +61,7 @@ use Rattle.model.specs.SetLaws.{
   sum_remove,
   sum_same,
 }
-use Rattle.model.specs.RegistryLaws.{
-  Extends,
-  extends_refl,
-  extends_trans,
-  extends_length,
-  extends_path,
-  entry_optional,
-  Sound,
-  Proper,
-  root_reached,
-  child_reached,
-  step_proper,
-  walk_proper,
-  walk_extends,
-  path_proper,
-  path_extends,
-  walk_extended,
-  leads_back,
-}
+use Rattle.model.specs.RegistryLaws.{Extends, extends_refl, extends_trans, extends_length, extends_path, entry_optional, Sound, Proper, root_reached, child_reached, step_proper, path_proper, path_extends, walk_extended, leads_back}
 
 -- Optional marks.
 

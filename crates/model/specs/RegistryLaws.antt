@@ -2,7 +2,7 @@
 -- identifier, or with its parent and entry, and a child's path is its parent's and one entry more.
 -- Finding or making keeps it sound, tells how much longer the registry is, and a node's own path
 -- leads back to it.
-use Rattle.std.specs.Prelude.{ℕ, zero, suc, ◌+◌, ◌≤◌, ◌<◌, ◌≡◌, refl, ◌⊎◌, Bool, true, false, ◌&&◌, cond, List, [], ◌∷◌, ◌++◌, get_or, eqb}
+use Rattle.std.specs.Prelude.{ℕ, zero, suc, ◌+◌, ◌≤◌, ◌<◌, ◌≡◌, refl, ◌⊎◌, Bool, true, false, List, [], ◌∷◌, ◌++◌, get_or, eqb}
 use Rattle.std.proofs.Common.{le_refl, not-suc-le-zero, arith, sym, ◌∙◌, inl, inr, append_assoc, append-nil, length-append}
 use Rattle.std.proofs.Math.Nat.{le_trans}
 use Rattle.std.proofs.Math.Path.{ap, subst}
@@ -14,7 +14,7 @@ use Rattle.entries.specs.declared.PropertyLiteral.{PropertyLiteral}
 use Rattle.entries.specs.declared.PropertyLiteral.TheVariants.{String, Number}
 use Rattle.entries.specs.declared.DependencyPathEntry.{DependencyPathEntry}
 use Rattle.entries.specs.Path.{same_property, same_entry, ReactiveScopeDependency}
-use Rattle.model.specs.Tests.{by_cond, decide, never, eqb_same, eqb-true, eqb-false, beq_same, beq_true, and_first, and_second}
+use Rattle.model.specs.Tests.{decide, never, eqb_same, eqb-true, eqb-false, beq_same, beq_true, and_first, and_second}
 use Rattle.model.specs.Registry.{
   Origin,
   root,

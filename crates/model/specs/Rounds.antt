@@ -1,7 +1,7 @@
 -- Document 01, module 4 (Propagation): walks over all blocks, and rounds until one changes nothing,
 -- over any kind of work W.
 use Rattle.std.specs.Prelude.{ℕ, zero, suc, Bool, true, false, List, [], ◌∷◌, reverse, replicate}
-use Rattle.model.specs.Visit.{TraversalState, Unmarked, Visited, each, visit}
+use Rattle.model.specs.Visit.{TraversalState, Unmarked, each, visit}
 
 -- the places k, k + 1, .. of n blocks: job order
 unfoldable pub places_from : ℕ → ℕ → List ℕ

@@ -2,7 +2,7 @@
 -- has visited; what each round does, all rounds do. The count of rounds and what `settled` says.
 use Prim.Native.Nat.{ℕ, zero, suc, ◌+◌, ◌≤◌, ◌<◌}
 use native.Mathlib.Omega.{arith}
-use Rattle.std.specs.Prelude.{◌≡◌, Bool, true, false, List, [], ◌∷◌, replicate, eqb}
+use Rattle.std.specs.Prelude.{◌≡◌, Bool, true, false, List, replicate, eqb}
 use Rattle.std.proofs.Math.Path.{refl, ap}
 use Rattle.std.proofs.Common.{sym, ◌∙◌}
 use Rattle.std.proofs.lemmas.List.{get_or-replicate}

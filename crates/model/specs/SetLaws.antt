@@ -1,11 +1,11 @@
 -- Ascending sets stay ascending, what they contain, and sums over them.
-use Rattle.std.specs.Prelude.{ℕ, zero, suc, ◌+◌, ◌≤◌, ◌<◌, ◌≡◌, refl, Bool, true, ◌||◌, not, cond, eqb, ltb}
+use Rattle.std.specs.Prelude.{ℕ, zero, suc, ◌+◌, ◌≤◌, ◌≡◌, refl, Bool, true, ◌||◌, not, ltb}
 use Rattle.std.proofs.Common.{le_refl, le_trans, arith, sym, ap, subst, ◌∙◌}
 use Rattle.std.proofs.Math.Bool.{or_self_left}
-use mathlib.Core.List.{List, [], ◌∷◌, foldl}
+use mathlib.Core.List.{[], ◌∷◌}
 use Rattle.entries.specs.declared.NodeId.{NodeId}
-use Rattle.model.specs.Lists.{select, any_of, sum_of}
-use Rattle.model.specs.Sets.{NodeSet, same_node, contains, insert, remove, union, intersection}
+use Rattle.model.specs.Lists.{select, sum_of}
+use Rattle.model.specs.Sets.{NodeSet, same_node, contains, insert, remove, union}
 use Rattle.model.specs.Tests.{
   by_cond,
   decide,
@@ -21,7 +21,7 @@ use Rattle.model.specs.Tests.{
   or_second,
   or_cases,
 }
-use Rattle.model.specs.ListLaws.{All, all_map, all_select}
+use Rattle.model.specs.ListLaws.{All, all_map}
 
 pub same_node_lem : (a b : NodeId) → same_node a b ≡ true → a ≡ b
 same_node_lem a b e = let n : a.0 ≡ b.0 = eqb-true a.0 b.0 e in λ i. record { 0 = n i }

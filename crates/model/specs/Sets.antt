@@ -1,5 +1,5 @@
 -- Sets of nodes as ascending lists, each node once (`BTreeSet` of the Rust).
-use Rattle.std.specs.Prelude.{Bool, true, false, ◌&&◌, ◌||◌, not, cond, eqb, ltb}
+use Rattle.std.specs.Prelude.{Bool, true, false, ◌&&◌, not, cond, eqb, ltb}
 use mathlib.Core.List.{List, [], ◌∷◌, foldl}
 use Rattle.entries.specs.declared.NodeId.{NodeId}
 use Rattle.model.specs.Lists.{select, any_of}

@@ -1,7 +1,6 @@
 -- Document 02, E4 (where nodes come from), computed: whether a node was made, the nodes before the
 -- first round and at the end, and sheets byte by byte.
 use Rattle.std.specs.Prelude.{ℕ, ◌≡◌, refl, true, List, [], ◌∷◌, ◌++◌, length, replicate}
-use Rattle.entries.specs.declared.NodeId.{NodeId}
 use Rattle.model.specs.Registry.{
   PropertyPathRegistry,
   Reached,

@@ -1,5 +1,5 @@
 -- The stage on a job: its graph, its assumed paths entered, propagated, and the returned paths.
-use Rattle.std.specs.Prelude.{ℕ, zero, suc, ◌+◌, Bool, true, false, cond, List, [], ◌∷◌, map, length, get_or, ltb}
+use Rattle.std.specs.Prelude.{ℕ, zero, suc, ◌+◌, cond, List, [], ◌∷◌, map, length, get_or, ltb}
 use Rattle.entries.specs.declared.BlockId.{BlockId}
 use Rattle.entries.specs.Path.{ReactiveScopeDependency}
 use Rattle.model.specs.Lists.{select}

@@ -6,7 +6,7 @@ use Rattle.model.specs.Propagation.{JoiningRule, set_of, done_neighbours}
 use Rattle.model.specs.Job.{Block}
 use Rattle.model.specs.Stage.{propagated}
 use Rattle.model.specs.Strict.{strict_neighbours}
-use Rattle.model.specs.Examples.{PropagatesTo, optional, plain, one, five, block}
+use Rattle.model.specs.Examples.{PropagatesTo, optional, one, five, block}
 
 -- The rule by itself: "exactly when it has a neighbour and every neighbour is Done".
 

@@ -1,6 +1,6 @@
 -- Going by cases on a test, and what the tests on numbers say.
 use Rattle.std.specs.Prelude.{ℕ, ◌≤◌, ◌<◌, ◌≡◌, refl, Bool, true, false, ◌&&◌, ◌||◌, not, cond, T, eqb, ltb}
-use Rattle.std.proofs.Common.{arith, sym, ap, true≢false, eqb→eq, ltb→lt, lt→ltb, nltb→le}
+use Rattle.std.proofs.Common.{arith, true≢false, eqb→eq, ltb→lt, lt→ltb, nltb→le}
 use Rattle.std.proofs.lemmas.Bool.{false≢true}
 use Rattle.std.specs.Bool.{beq}
 use Rattle.std.proofs.Math.Dec.{eqb_refl}

@@ -5,7 +5,7 @@ use Rattle.entries.specs.declared.PropertyLiteral.{PropertyLiteral}
 use Rattle.entries.specs.declared.PropertyLiteral.TheVariants.{String, Number}
 use Rattle.entries.specs.declared.DependencyPathEntry.{DependencyPathEntry}
 use Rattle.entries.specs.Path.{ReactiveScopeDependency}
-use Rattle.model.specs.Job.{Block, Job}
+use Rattle.model.specs.Job.{Block}
 use Rattle.model.specs.Answer.{writes}
 use Rattle.model.specs.Thin.{thinned_after, thinned_paths, thinned, least_thin_buffer, thin_of}
 

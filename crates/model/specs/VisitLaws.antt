@@ -2,10 +2,10 @@
 -- else does. What holds between the work before and after each join holds between the work before
 -- and after a visit, a walk and all rounds. What a join makes of its block, and every join keeps,
 -- holds of each block that a visit marks.
-use Prim.Native.Nat.{ℕ, zero, suc, ◌≤◌, ◌<◌}
+use Prim.Native.Nat.{ℕ, zero, suc, ◌≤◌}
 use Rattle.std.proofs.Math.Nat.{le_refl}
 use Rattle.std.proofs.Common.{le_trans, arith, subst, ◌∙◌, get_or-set_other}
-use Rattle.std.specs.Prelude.{◌≡◌, Bool, true, false, List, [], ◌∷◌, get_or, eqb}
+use Rattle.std.specs.Prelude.{◌≡◌, true, false, List, [], ◌∷◌, get_or, eqb}
 use Rattle.std.proofs.Math.Path.{refl, sym, ap}
 use Rattle.std.proofs.Math.ListN.{set}
 use Rattle.model.specs.Tests.{decide, never, eqb-true, eqb-false}

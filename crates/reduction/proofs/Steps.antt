@@ -1,7 +1,7 @@
 -- One entry of a path that is walked again, and one node more of it.
 use Prim.Native.Nat.{ℕ, ◌+◌, ◌≤◌, ◌<◌}
 use native.Mathlib.Omega.{arith}
-use native.Mathlib.Nat.{le_trans, add-zero}
+use native.Mathlib.Nat.{add-zero}
 use mathlib.Core.Path.{◌≡◌, refl, sym, ap, subst, ◌∙◌}
 use mathlib.Core.Bool.{Bool, true, false, beq}
 use mathlib.Core.List.{List, [], ◌∷◌}
@@ -11,7 +11,6 @@ use lib.Dec.{eqb}
 use Rattle.entries.specs.declared.IdentifierId.{IdentifierId}
 use Rattle.entries.specs.declared.NodeId.{NodeId}
 use Rattle.entries.specs.declared.DependencyPathEntry.{DependencyPathEntry}
-use Rattle.rows.specs.Members.{members_of}
 use Rattle.registry.specs.declared.Node.{Node}
 use Rattle.registry.specs.declared.Node.TheVariants.{Root, Child}
 use Rattle.registry.specs.declared.NodeEntered.{NodeEntered}
@@ -19,26 +18,7 @@ use Rattle.registry.specs.declared.NodeEntered.TheVariants.{At, Full}
 use Rattle.registry.specs.Nodes.{origin_of}
 use Rattle.registry.specs.Words.{stored_node, count_in, registry_of, Held, Arrives}
 use Rattle.registry.proofs.View.{registry_length, origin_at}
-use Rattle.model.specs.Registry.{
-  node_limit,
-  PropertyPathRegistry,
-  PropertyPathNode,
-  Reached,
-  Origin,
-  root,
-  child_of,
-  find,
-  find_or_make,
-  full_path_of,
-  with_optional,
-  after_making,
-  step_from,
-  get_or_create_property_entry,
-  is_child,
-  is_child_by,
-  child_node,
-  walk_path,
-}
+use Rattle.model.specs.Registry.{node_limit, PropertyPathRegistry, PropertyPathNode, Reached, Origin, child_of, find, find_or_make, full_path_of, with_optional, after_making, step_from, get_or_create_property_entry, is_child, is_child_by, child_node, walk_path}
 use Rattle.model.specs.RegistryLaws as Placed
 use Rattle.model.specs.RegistryLaws.{
   WasFound,

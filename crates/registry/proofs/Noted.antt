@@ -1,18 +1,18 @@
 -- The set of the nodes with an optional entry, kept while nodes are made.
-use Prim.Native.Nat.{ℕ, zero, suc, ◌+◌, ◌/◌, ◌%◌, ◌≤◌, ◌<◌}
+use Prim.Native.Nat.{ℕ, ◌+◌, ◌/◌, ◌%◌, ◌≤◌, ◌<◌}
 use native.Mathlib.Omega.{arith}
 use mathlib.Core.Path.{◌≡◌, refl, sym, ap, ◌∙◌, subst}
-use mathlib.Core.Bool.{Bool, false, ◌||◌, cond, or_comm, or-false}
+use mathlib.Core.Bool.{Bool, false, ◌||◌}
 use mathlib.Core.List.{List, [], ◌∷◌, ◌++◌}
-use lib.ListN.{length, get_or, replicate, length-replicate, get_or-replicate, length-append, get_or-append, get_or-eq_default}
+use lib.ListN.{length, replicate, length-replicate, get_or-replicate, length-append, get_or-append, get_or-eq_default}
 use lib.Seq.{get_or-append_seam}
 use lib.Dec.{eqb}
 use Rattle.entries.specs.declared.NodeId.{NodeId}
 use Rattle.entries.specs.declared.DependencyPathEntry.{DependencyPathEntry}
 use Rattle.model.specs.Lists.{any_of}
 use Rattle.model.specs.Tests.{decide, eqb_same, eqb-true, eqb-false, or_swap}
-use Rattle.model.specs.Sets.{NodeSet, same_node, contains, insert}
-use Rattle.model.specs.SetLaws.{same_node_lem, contains_inserted}
+use Rattle.model.specs.Sets.{NodeSet, same_node, contains}
+use Rattle.model.specs.SetLaws.{contains_inserted}
 use Rattle.model.specs.Registry.{PropertyPathRegistry, PropertyPathNode, full_path_of}
 use Rattle.model.specs.RegistryLaws.{node_at, Sound, sound_empty}
 use Rattle.model.specs.Reduction.{has_optional}
@@ -20,7 +20,7 @@ use Rattle.rows.specs.Members.{members_of}
 use Rattle.rows.proofs.Members.{no_members}
 use Rattle.registry.specs.declared.Node.{Node}
 use Rattle.registry.specs.declared.Node.TheVariants.{Root, Child}
-use Rattle.registry.specs.Nodes.{node_over, Inside, optional_over, noted_with}
+use Rattle.registry.specs.Nodes.{node_over, optional_over, noted_with}
 use Rattle.registry.specs.Words.{quarter, end_in, count_in, nodes_of, registry_of, Held, HoldsNone}
 use Rattle.registry.proofs.Quarters.{no_quarter}
 use Rattle.registry.proofs.View.{registry_length, registry_snoc}

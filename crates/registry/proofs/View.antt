@@ -1,18 +1,17 @@
 -- The model's registry of a list of nodes: its length, what is found in it, and one node more.
-use Prim.Native.Nat.{ℕ, zero, suc, ◌+◌, ◌≤◌, ◌<◌}
+use Prim.Native.Nat.{ℕ, zero, suc, ◌≤◌, ◌<◌}
 use native.Mathlib.Omega.{arith}
 use native.Mathlib.Nat.{not-suc-le-zero}
 use mathlib.Core.Path.{◌≡◌, refl, sym, ap, ◌∙◌, subst}
 use mathlib.Core.Logic.{◌⊎◌, inl, inr}
-use mathlib.Core.Bool.{Bool, true, false, cond}
+use mathlib.Core.Bool.{Bool, true}
 use mathlib.Core.List.{List, [], ◌∷◌, ◌++◌, append_assoc, append-nil}
 use lib.ListN.{length, get_or, length-append}
 use lib.Dec.{eqb}
 use Rattle.entries.specs.declared.NodeId.{NodeId}
 use Rattle.entries.specs.Path.{same_entry, ReactiveScopeDependency}
 use Rattle.model.specs.Tests.{never, eqb-true, and_first, and_second}
-use Rattle.model.specs.Registry.{node_limit, Origin, root, child_of, PropertyPathNode, PropertyPathRegistry, is_root_for, is_child, is_child_by, find, ensure, Reached}
-use Rattle.model.specs.Registry.{find_or_make}
+use Rattle.model.specs.Registry.{node_limit, Origin, root, child_of, PropertyPathNode, PropertyPathRegistry, is_root_for, is_child, is_child_by, find, Reached}
 use Rattle.model.specs.RegistryLaws.{found_or_made, WasFound, WasMade, StandsAt, Sound, root_reached, child_reached, entry_property, entry_optional}
 use Rattle.model.specs.RegistryLaws as Placed
 use Rattle.registry.specs.declared.Node.{Node}

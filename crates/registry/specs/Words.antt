@@ -1,6 +1,6 @@
 -- The nodes that a list of words holds: three words a node, how many there are in word 1536, and
 -- behind it 128 words for the ends of the 512 buckets.
-use Rattle.std.specs.Prelude.{ℕ, zero, suc, ◌+◌, ◌*◌, ◌/◌, ◌%◌, ◌^◌, ◌≤◌, ◌<◌, ◌≡◌, ◌≢◌, Bool, true, false, cond, List, [], ◌∷◌, ◌++◌, length, get_or, eqb}
+use Rattle.std.specs.Prelude.{ℕ, zero, suc, ◌+◌, ◌*◌, ◌/◌, ◌%◌, ◌^◌, ◌≤◌, ◌<◌, ◌≡◌, ◌≢◌, Bool, true, false, List, [], ◌∷◌, length, get_or, eqb}
 use Rattle.entries.specs.declared.NodeId.{NodeId}
 use Rattle.model.specs.Registry.{node_limit, root_mark, PropertyPathRegistry, Reached}
 use Rattle.model.specs.RegistryLaws.{Sound}

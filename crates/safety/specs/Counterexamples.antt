@@ -2,7 +2,7 @@
 -- that satisfy all the others, and on which a returned path throws. The strict answer needs each
 -- but loop-freedom. And the worthless versions of document 01 that demand 3 shuts out, or leaves to
 -- demand 2.
-use Rattle.std.specs.Prelude.{ℕ, ◌≡◌, refl, ◌⊎◌, Bool, true, false, ◌&&◌, ◌||◌, not, cond, List, [], ◌∷◌, ◌++◌, map, length, eqb}
+use Rattle.std.specs.Prelude.{ℕ, ◌≡◌, refl, Bool, true, false, ◌||◌, not, List, [], ◌∷◌, length, eqb}
 use Rattle.std.proofs.Common.{arith, sym, ap, subst, ◌∙◌, inl, inr}
 use Rattle.std.proofs.Math.Bool.{and-true}
 use Rattle.entries.specs.declared.BlockId.{BlockId}

@@ -7,7 +7,7 @@ use Rattle.model.specs.Propagation.{JoiningRule, done_neighbours}
 use Rattle.model.specs.ReadingBytes.{got}
 use Rattle.model.specs.Job.{Block, Job, HD, read_job}
 use Rattle.model.specs.Stage.{propagated, hoistable_paths, returned_paths}
-use Rattle.model.specs.Answer.{span_width, verdict, answer_bytes, answer_writing, answer_of, read_answer}
+use Rattle.model.specs.Answer.{span_width, verdict, answer_writing, answer_of, read_answer}
 use Rattle.model.specs.Strict.{strict_neighbours, strict_answer_of}
 use Rattle.safety.specs.Runs.{WithoutLoops, Run, AssumedHold}
 use Rattle.safety.specs.Statement.{

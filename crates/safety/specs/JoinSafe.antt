@@ -1,11 +1,11 @@
 -- A join keeps the sets of a run's blocks non-nullish where the block on the run before (or after)
 -- this one is among the joined neighbours, or where nothing joins. Nothing is said of loops here.
 use Rattle.std.specs.Prelude.{ℕ, zero, suc, ◌≡◌, refl, ◌⊎◌, get_or, set}
-use Rattle.std.proofs.Common.{arith, sym, ap, subst, inl, inr}
+use Rattle.std.proofs.Common.{arith, ap, subst, inl, inr}
 use mathlib.Core.List.{List, [], ◌∷◌, map, foldl}
 use Rattle.entries.specs.declared.NodeId.{NodeId}
 use Rattle.model.specs.ReadingPaths.{Store}
-use Rattle.model.specs.Sets.{NodeSet, contains, union, intersection}
+use Rattle.model.specs.Sets.{NodeSet, contains, intersection}
 use Rattle.model.specs.Reduction.{reduce_maybe_optional_chains}
 use Rattle.model.specs.Propagation.{Work, set_of, intersection_of, join_with}
 use Rattle.model.specs.ListLaws.{All, all_select}

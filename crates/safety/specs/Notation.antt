@@ -1,7 +1,7 @@
 -- Small jobs and their answers, as records and in bytes, for the theorems beside `demand_3` and
 -- `strict_demand_3`.
 use Rattle.std.specs.Prelude.{ℕ, ◌<◌, ◌≡◌, true, false, List, [], ◌∷◌, map, length, replicate, ltb}
-use Rattle.std.proofs.Common.{arith, sym, ap, subst, ◌∙◌}
+use Rattle.std.proofs.Common.{arith, sym, subst, ◌∙◌}
 use Rattle.entries.specs.declared.PropertyLiteral.TheVariants.{String}
 use Rattle.entries.specs.Path.{ReactiveScopeDependency}
 use Rattle.model.specs.Lists.{any_of}

@@ -3,32 +3,17 @@
 -- Done neighbours this needs that each neighbour is Done then, for which there must be no loop
 -- (`VisitOrder`). The strict rule joins all neighbours or none, so it asks nothing of loops.
 use Prim.Native.Nat.{ℕ, zero, ◌<◌}
-use Rattle.std.specs.Prelude.{◌≡◌, refl, ◌⊎◌, Bool, true, false, List, [], ◌∷◌, get_or}
-use Rattle.std.proofs.Common.{sym, ap, subst}
+use Rattle.std.specs.Prelude.{◌≡◌, refl, ◌⊎◌, List, [], get_or}
+use Rattle.std.proofs.Common.{ap}
 use Rattle.std.proofs.Math.Logic.{inl, inr}
 use Rattle.model.specs.ReadingPaths.{Store}
-use Rattle.model.specs.Lists.{select}
 use Rattle.model.specs.Tests.{by_cond}
 use Rattle.model.specs.Sets.{NodeSet}
 use Rattle.model.specs.Registry.{PropertyPathRegistry}
 use Rattle.model.specs.Visit.{TraversalState, Unmarked, is_done}
 use Rattle.model.specs.Rounds.{job_order, reverse_job_order, walk}
 use Rattle.model.specs.Reduction.{reduce_maybe_optional_chains}
-use Rattle.model.specs.Propagation.{
-  Work,
-  JoiningRule,
-  done_neighbours,
-  join_with,
-  join,
-  Graph,
-  forward,
-  backward,
-  round_start,
-  round,
-  has_changed,
-  propagate_with,
-  propagate_non_null,
-}
+use Rattle.model.specs.Propagation.{Work, JoiningRule, done_neighbours, join, Graph, forward, backward, round_start, round, has_changed, propagate_with, propagate_non_null}
 use Rattle.model.specs.Strict.{all_done, strict_neighbours}
 use Rattle.model.specs.ListLaws.{All}
 use Rattle.model.specs.VisitLaws.{Preorder}

@@ -1,26 +1,12 @@
 -- Reading: a non-nullish value is reached from a non-nullish base only, one entry at a time,
 -- whatever the entries' optional marks.
-use Rattle.std.specs.Prelude.{◌≡◌, refl, Bool, true, false, List, [], ◌∷◌, ◌++◌}
+use Rattle.std.specs.Prelude.{◌≡◌, Bool, true, false, List, [], ◌∷◌, ◌++◌}
 use Rattle.std.proofs.Common.{sym, ap, subst, ◌∙◌, append-nil, append_assoc}
 use Rattle.entries.specs.declared.IdentifierId.{IdentifierId}
 use Rattle.entries.specs.declared.PropertyLiteral.{PropertyLiteral}
 use Rattle.entries.specs.declared.DependencyPathEntry.{DependencyPathEntry}
 use Rattle.entries.specs.Path.{ReactiveScopeDependency}
-use Rattle.model.specs.ReadingPaths.{
-  Value,
-  null,
-  undefined,
-  value,
-  Store,
-  Completion,
-  throws,
-  reads_to,
-  at_nullish,
-  read_from,
-  read,
-  Throws,
-  NonNullish,
-}
+use Rattle.model.specs.ReadingPaths.{Value, undefined, value, Store, throws, reads_to, at_nullish, read_from, read, Throws, NonNullish}
 
 module _ {X : Type 0} (S : Store X) where
   -- the path reads to a value neither null nor undefined

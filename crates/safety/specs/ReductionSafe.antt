@@ -1,13 +1,12 @@
 -- The reduction of a set of safe nodes is a set of safe nodes, however many passes it takes.
 use Prim.Native.Nat.{ℕ, zero, suc}
-use Rattle.std.specs.Prelude.{◌≡◌, refl, Bool, true, false, List, [], ◌∷◌}
-use Rattle.std.proofs.Common.{sym, ap, subst, ◌∙◌}
+use Rattle.std.specs.Prelude.{List, [], ◌∷◌}
 use Rattle.std.proofs.Math.Bool.{not}
 use Rattle.entries.specs.declared.NodeId.{NodeId}
 use Rattle.model.specs.ReadingPaths.{Store}
 use Rattle.model.specs.Lists.{select}
-use Rattle.model.specs.Sets.{NodeSet, same_node, insert, remove}
-use Rattle.model.specs.Registry.{PropertyPathRegistry, Reached, full_path_of, walk_from, walk_path}
+use Rattle.model.specs.Sets.{NodeSet, same_node, remove}
+use Rattle.model.specs.Registry.{PropertyPathRegistry, full_path_of, walk_path}
 use Rattle.model.specs.Reduction.{
   PassState,
   reduced_mark,
@@ -21,7 +20,7 @@ use Rattle.model.specs.Reduction.{
   optional_marks_of,
 }
 use Rattle.model.specs.Tests.{by_cond, decide}
-use Rattle.model.specs.ListLaws.{All, all_select}
+use Rattle.model.specs.ListLaws.{all_select}
 use Rattle.model.specs.SetLaws.{insert_all}
 use Rattle.model.specs.RegistryLaws.{Sound, path_extends}
 use Rattle.model.specs.ReductionLaws.{node_extends, node_sound, pass_sound, passes_on, passes_stop}

@@ -1,14 +1,14 @@
 -- A run, by places: beside each of its blocks stands another of its blocks, or no block stands
 -- there; and without loops no block is reached from itself.
-use Rattle.std.specs.Prelude.{ℕ, zero, suc, ◌<◌, ◌≡◌, refl, ◌⊎◌, List, [], ◌∷◌, ◌++◌, map, length, get_or}
-use Rattle.std.proofs.Common.{sym, ap, subst, ◌∙◌}
+use Rattle.std.specs.Prelude.{ℕ, ◌<◌, ◌≡◌, refl, ◌⊎◌, List, [], ◌∷◌, ◌++◌, map, length}
+use Rattle.std.proofs.Common.{sym, ap, subst}
 use Rattle.std.proofs.Math.Logic.{inl, inr}
 use Rattle.entries.specs.declared.BlockId.{BlockId}
 use Rattle.model.specs.Job.{Block}
 use Rattle.model.specs.Stage.{block_at, place_of, predecessors_of, successors_of, graph_of}
-use Rattle.model.specs.ListLaws.{All, all_append}
-use Rattle.laws.specs.Membership.{Some, Member, all_at, some_map, some_of, member_get_d}
-use Rattle.safety.specs.Runs.{Precedes, Linked, ControlSequence, WithoutLoops, NoPredecessor, NoSuccessor, FirstHas, LastHas, RunVia}
+use Rattle.model.specs.ListLaws.{All}
+use Rattle.laws.specs.Membership.{Some, Member, all_at, some_of, member_get_d}
+use Rattle.safety.specs.Runs.{Precedes, Linked, WithoutLoops, NoPredecessor, NoSuccessor, FirstHas, LastHas, RunVia}
 use Rattle.laws.specs.VisitOrder.{Reach, one, more}
 use Rattle.safety.specs.PropagationSafe.{Beside}
 use Rattle.laws.specs.GraphLaws.{

@@ -2,14 +2,12 @@
 -- do too: under any rule that keeps the run's sets so, under the rule of Done neighbours in a job
 -- without loops, and under the strict rule in any job.
 use Prim.Native.Nat.{ℕ, zero, suc}
-use Rattle.std.specs.Prelude.{◌≡◌, refl, length, get_or}
-use Rattle.std.proofs.Common.{sym, ap, subst, ◌∙◌}
-use mathlib.Core.List.{List, [], ◌∷◌, map}
+use mathlib.Core.List.{List, [], ◌∷◌}
 use Rattle.entries.specs.Path.{ReactiveScopeDependency}
 use Rattle.model.specs.ReadingPaths.{Store}
-use Rattle.model.specs.Sets.{NodeSet, insert}
+use Rattle.model.specs.Sets.{NodeSet}
 use Rattle.model.specs.Registry.{PropertyPathRegistry, own_mark, get_or_create_property, full_path_of}
-use Rattle.model.specs.Propagation.{Work, JoiningRule, set_of, round_start, done_neighbours, propagate_non_null}
+use Rattle.model.specs.Propagation.{JoiningRule, set_of, round_start, done_neighbours, propagate_non_null}
 use Rattle.model.specs.Strict.{strict_neighbours}
 use Rattle.model.specs.Job.{Block, Job, assumed_of}
 use Rattle.model.specs.Stage.{
@@ -30,7 +28,7 @@ use Rattle.model.specs.ListLaws.{All, all_map}
 use Rattle.model.specs.SetLaws.{insert_all}
 use Rattle.model.specs.RegistryLaws.{Sound, sound_empty, path_proper, path_extends}
 use Rattle.model.specs.PropagationLaws.{members_empty, paths_filled, blocks_begun}
-use Rattle.laws.specs.Membership.{Member, all_at, all_of_map}
+use Rattle.laws.specs.Membership.{all_at, all_of_map}
 use Rattle.safety.specs.Runs.{WithoutLoops, Run, AssumedHold}
 use Rattle.safety.specs.ReadingPathsLaws.{NonNull}
 use Rattle.safety.specs.RegistrySafe.{NonNullNode, NonNullSet, set_extends, path_safe}

@@ -28,7 +28,7 @@ use Rattle.model.specs.Answer.{
 use Rattle.model.specs.Strict.{all_done, strict_neighbours, strict_answer_of, strict_sheet_of}
 use Rattle.model.specs.StrictLaws.{strict_joins}
 use Rattle.laws.specs.VisitOrder.{IsDone}
-use Rattle.laws.specs.WalksAgree.{LoopFree, rules_agree}
+use Rattle.laws.specs.WalksAgree.{rules_agree}
 use Rattle.laws.specs.GraphLaws.{ProperBlocks, predecessors_inside, successors_inside}
 use Rattle.laws.specs.Fits.{HoldsIfRead}
 use Rattle.laws.specs.Verdicts.{job_proper}

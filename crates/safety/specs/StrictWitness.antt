@@ -1,6 +1,6 @@
 -- The strict answer beside the existing one: a job with a loop, a store and a run that meet all
 -- hypotheses of `strict_demand_3`; and P3 of document 01 under both rules.
-use Rattle.std.specs.Prelude.{ℕ, ◌≡◌, refl, ◌⊎◌, List, [], ◌∷◌, get_or}
+use Rattle.std.specs.Prelude.{ℕ, ◌≡◌, refl, List, [], ◌∷◌, get_or}
 use Rattle.std.proofs.Common.{arith, ap, inl, inr}
 use Rattle.model.specs.ListLaws.{All}
 use Rattle.model.specs.ReadingPaths.{read, Throws}

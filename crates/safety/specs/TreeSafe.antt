@@ -1,32 +1,19 @@
 -- The tree's part of safety: where each hoistable path reads to a non-nullish value, no returned
 -- path throws. Each position of the hoistable tree has a non-nullish value, and a candidate's entry
 -- is plain only where the value before it is that of such a position.
-use Rattle.std.specs.Prelude.{◌≡◌, refl, true, false, ◌&&◌, ◌||◌, cond}
-use Rattle.std.proofs.Common.{sym, ap, subst, ◌∙◌}
+use Rattle.std.specs.Prelude.{◌≡◌, refl, true, false, ◌&&◌, ◌||◌}
+use Rattle.std.proofs.Common.{sym, subst, ◌∙◌}
 use Rattle.std.proofs.Math.Bool.{Bool, not, and-true}
-use mathlib.Core.List.{List, [], ◌∷◌, ◌++◌, map}
+use mathlib.Core.List.{List, [], ◌∷◌, map}
 use Rattle.std.proofs.Math.Option.{Option, some, none}
 use Rattle.entries.specs.declared.PropertyLiteral.{PropertyLiteral}
 use Rattle.entries.specs.declared.DependencyPathEntry.{DependencyPathEntry}
 use Rattle.entries.specs.Path.{ReactiveScopeDependency}
 use Rattle.model.specs.Tests.{by_cond, never}
 use Rattle.model.specs.ListLaws.{All, all_map, all_both, all_select, all_append}
-use Rattle.model.specs.ReadingPaths.{Value, null, undefined, value, Store, throws, reads_to, at_nullish, read_from, read, Throws, NonNullish}
+use Rattle.model.specs.ReadingPaths.{Value, null, undefined, value, Store, throws, reads_to, read_from, Throws, NonNullish}
 use Rattle.entries.specs.Access.{is_optional_access}
-use Rattle.model.specs.Forest.{
-  Key,
-  identifier_key,
-  property_key,
-  same_key,
-  Forest,
-  empty,
-  position,
-  Found,
-  find_key,
-  child_by_key,
-  add_all,
-  firsts,
-}
+use Rattle.model.specs.Forest.{Key, identifier_key, property_key, same_key, Forest, empty, position, Found, find_key, child_by_key, firsts}
 use Rattle.model.specs.Tree.{
   starts_optional,
   ordered,

@@ -1,6 +1,6 @@
 -- The hypotheses of `demand_3` can be met: a job in bytes, a store and a run that satisfy all of
 -- them.
-use Rattle.std.specs.Prelude.{ℕ, ◌<◌, ◌≡◌, refl, ◌⊎◌, List, [], ◌∷◌, ◌++◌}
+use Rattle.std.specs.Prelude.{◌<◌, refl, List, [], ◌∷◌, ◌++◌}
 use Rattle.std.proofs.Common.{arith, inl, inr}
 use Rattle.model.specs.ListLaws.{All, all_map}
 use Rattle.model.specs.ReadingPaths.{null, value, Store, read, Throws}

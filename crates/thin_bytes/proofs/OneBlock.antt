@@ -1,8 +1,8 @@
 -- A block: its ready paths that stay are written first, and what stands before them, with their
 -- number and the raw reads as they are, last.
-use Prim.Native.Nat.{ℕ, ◌+◌, ◌*◌, ◌-◌, ◌≤◌, ◌<◌}
+use Prim.Native.Nat.{ℕ, ◌+◌, ◌-◌, ◌≤◌, ◌<◌}
 use native.Mathlib.Omega.{arith}
-use mathlib.Core.Path.{◌≡◌, refl, sym, ap, subst, ◌∙◌}
+use mathlib.Core.Path.{◌≡◌, sym, ap, subst, ◌∙◌}
 use mathlib.Core.List.{List, ◌++◌, append_assoc}
 use lib.ListN.{length, length-append}
 use lib.Seq.{slice}
@@ -22,9 +22,8 @@ use Rattle.job.specs.Passing.{passed}
 use Rattle.job.specs.declared.BlockHead.{BlockHead}
 use Rattle.job.proofs.RecordParts.{paths_onward}
 use Rattle.job.proofs.BlockAgain.{paths_there}
-use Rattle.thin_bytes.specs.declared.Places.{Places}
 use Rattle.thin_bytes.specs.declared.PathsDone.{PathsDone}
-use Rattle.thin_bytes.specs.Thins.{PathsThere, PathsThinned, ThinsPaths, Recountable, recounted, PartThinned, BlockThere}
+use Rattle.thin_bytes.specs.Thins.{PathsThere, ThinsPaths, Recountable, recounted, PartThinned, BlockThere}
 use Rattle.thin_bytes.proofs.Copied.{stand_slice, stand_within, stand_first, stand_rest}
 use Rattle.thin_bytes.proofs.Recounting.{recounted_length}
 

@@ -1,20 +1,18 @@
 -- A path behind earlier ones of its list: nothing is written of a repeat, and of another its bytes.
-use Prim.Native.Nat.{ℕ, zero, suc, ◌+◌, ◌-◌, ◌≤◌, ◌<◌}
+use Prim.Native.Nat.{ℕ, ◌+◌, ◌-◌, ◌≤◌, ◌<◌}
 use native.Mathlib.Nat.{add-zero}
 use native.Mathlib.Omega.{arith}
 use mathlib.Core.Path.{◌≡◌, refl, sym, ap, subst, ◌∙◌}
-use mathlib.Core.Bool.{Bool, true, false, cond}
-use mathlib.Core.List.{List, []}
+use mathlib.Core.Bool.{true, false}
+use mathlib.Core.List.{List}
 use lib.ListN.{length}
 use lib.Seq.{slice}
 use Rattle.entries.specs.declared.Refusal.{Refusal}
 use Rattle.entries.specs.Path.{ReactiveScopeDependency}
-use Rattle.model.specs.Lists.{any_of}
 use Rattle.model.specs.ListLaws.{All}
 use Rattle.model.specs.ReadingBytes.{got, refused, read_many}
 use Rattle.model.specs.Job.{read_path}
 use Rattle.model.specs.Answer.{path_bytes}
-use Rattle.model.specs.Thin.{same_path}
 use Rattle.laws.specs.Written.{Stand, path_written}
 use Rattle.writer.specs.Writes.{Writes}
 use Rattle.writer.proofs.Bytes.{writes_none, writes_as}

@@ -1,6 +1,6 @@
 -- The paths of a list that are left: what is written of them behind those before is what stays of
 -- all.
-use Prim.Native.Nat.{ℕ, zero, suc, ◌+◌, ◌-◌, ◌≤◌, ◌<◌}
+use Prim.Native.Nat.{ℕ, suc, ◌+◌, ◌-◌, ◌≤◌, ◌<◌}
 use native.Mathlib.Nat.{sub-zero, zero-add}
 use native.Mathlib.Omega.{arith}
 use mathlib.Core.Path.{◌≡◌, refl, sym, ap, subst, ◌∙◌}
@@ -14,7 +14,6 @@ use Rattle.model.specs.ReadingBytes.{got, read_many}
 use Rattle.model.specs.Job.{read_path}
 use Rattle.model.specs.Answer.{path_bytes}
 use Rattle.model.specs.Thin.{same_path, thinned_after, thinned_paths}
-use Rattle.writer.specs.Writes.{Writes}
 use Rattle.writer.proofs.Bytes.{Coming, coming_start, coming_as, coming_more, coming_over}
 use Rattle.job.proofs.Many.{many_first, many_last}
 use Rattle.job.proofs.RecordParts.{path_onward, paths_onward}

@@ -1,14 +1,14 @@
 -- The whole job: its blocks, its candidates behind them, and the header, with the number of
 -- candidates that stay, last.
-use Prim.Native.Nat.{ℕ, zero, ◌+◌, ◌-◌, ◌≤◌, ◌<◌}
+use Prim.Native.Nat.{ℕ, ◌+◌, ◌≤◌, ◌<◌}
 use native.Mathlib.Omega.{arith}
-use mathlib.Core.Path.{◌≡◌, refl, sym, ap, subst, ◌∙◌}
+use mathlib.Core.Path.{◌≡◌, sym, ap, subst, ◌∙◌}
 use mathlib.Core.List.{List, ◌++◌, append_assoc, map}
 use lib.ListN.{length, length-append, length-map}
 use lib.Seq.{slice}
 use Rattle.model.specs.Lists.{concat_map}
 use Rattle.model.specs.ListLaws.{All}
-use Rattle.model.specs.ReadingBytes.{Read, got, read_many}
+use Rattle.model.specs.ReadingBytes.{got, read_many}
 use Rattle.model.specs.Job.{HD, CA, Header, Job, read_path, read_block, read_job}
 use Rattle.model.specs.JobBytes.{block_bytes, job_bytes}
 use Rattle.model.specs.Answer.{number_bytes, u16, u32, path_bytes}
@@ -17,7 +17,7 @@ use Rattle.laws.specs.JobBack.{header_bytes}
 use Rattle.laws.specs.Written.{Stand, header_written}
 use Rattle.writer.specs.Writes.{Writes}
 use Rattle.writer.proofs.Bytes.{number_length, writes_then, writes_before, writes_length, writes_as}
-use Rattle.job.specs.Kept.{candidates_at, head_of, kept_of}
+use Rattle.job.specs.Kept.{candidates_at, kept_of}
 use Rattle.job.specs.declared.JobHead.{JobHead}
 use Rattle.job.specs.declared.ReadJob.TheVariants.{Value}
 use Rattle.job.proofs.Accepted.{Accepted, accepted}
@@ -27,7 +27,7 @@ use Rattle.job.proofs.Records.{Parts}
 use Rattle.thin_bytes.specs.declared.Places.{Places}
 use Rattle.thin_bytes.specs.declared.PathsDone.{PathsDone}
 use Rattle.thin_bytes.specs.Thins.{PathsThere, ThinsPaths, Recountable, recounted, BlocksThere, ThinsBlocks, JobThere, ThinsJob}
-use Rattle.thin_bytes.proofs.Copied.{stand_slice, stand_within, stand_first, stand_rest}
+use Rattle.thin_bytes.proofs.Copied.{stand_slice, stand_first, stand_rest}
 use Rattle.thin_bytes.proofs.Recounting.{recounted_length}
 
 -- The parts of a header: mark and number of blocks, number of candidates, scope block.

@@ -1,6 +1,5 @@
 -- The loop's invariant: the place to which the index leads from here on, over the blocks that are
 -- left, is that from the bucket on.
-use Prim.Native.Nat.{◌-◌}
 use mathlib.Core.Path.{◌≡◌}
 use Rattle.id_index.specs.Index.{place_from, place_by}
 use Rattle.id_index.proofs.place_of.Given as goal

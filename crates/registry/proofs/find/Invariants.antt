@@ -1,6 +1,5 @@
 -- The search goes along the bucket from its last node to its first. No node that it has passed or
 -- left out has the key and the value.
-use Prim.Native.Nat.{◌-◌}
 use Rattle.registry.proofs.Buckets.{Passed}
 use Rattle.registry.proofs.find.Given as goal
 

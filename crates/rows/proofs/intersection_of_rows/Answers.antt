@@ -1,4 +1,4 @@
-use Prim.Native.Nat.{◌+◌, ◌-◌}
+use Prim.Native.Nat.{◌+◌}
 use native.Mathlib.Omega.{arith}
 use Rattle.rows.specs.Rows.{Lent}
 use Rattle.rows.proofs.Intersections.{all_at, none_met, met_first, met_more, met_end}

@@ -6,7 +6,6 @@ use lib.ListN.{length}
 use borrow.Author.Rules.{rules}
 use Rattle.writer.proofs.Bytes.{room_after, writes_then, writes_as}
 use Rattle.registry.specs.Words.{registry_of}
-use Rattle.registry.proofs.count.Reads as count-reads
 use Rattle.registry.proofs.View.{registry_length}
 use Rattle.sheet_bytes.proofs.Nodes.{nodes_length}
 use Rattle.sheet_bytes.proofs.Whole.{head_length, sheet_bytes_lem}

@@ -1,6 +1,5 @@
 -- The paths are written behind the place of what stands before them, and then that, with their
 -- number. A block that was read has its head, its ids and its raw reads.
-use Prim.Native.Nat.{◌-◌}
 use native.Mathlib.Omega.{arith}
 use borrow.Author.Rules.{rules}
 use Rattle.fields.specs.Answer.{got_place}

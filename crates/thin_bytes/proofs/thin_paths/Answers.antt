@@ -1,4 +1,3 @@
-use Prim.Native.Nat.{◌-◌}
 use native.Mathlib.Omega.{arith}
 use Rattle.thin_bytes.proofs.Thinning.{thinning, thinning_end, next_path, thinning_more}
 use Rattle.thin_bytes.proofs.thin_paths.Goals as goal

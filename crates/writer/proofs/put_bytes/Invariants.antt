@@ -1,7 +1,6 @@
 -- The loop's invariant: the bytes from j on are still to come, and have their room. The measure is
 -- how many they are.
 use Prim.Native.Nat.{◌+◌, ◌-◌, ◌≤◌}
-use mathlib.Core.List.{[]}
 use lib.ListN.{length}
 use lib.Seq.{slice}
 use Rattle.writer.proofs.Bytes.{Coming}
