@@ -1,6 +1,6 @@
 -- The levels of a candidate are its root and the positions after each of its entries. At which of
 -- them the hoistable tree is NonNull, as a list and as a number.
-use Rattle.std.specs.Prelude.{ℕ, ◌+◌, ◌*◌, Bool, false, List, [], ◌∷◌, map}
+use Rattle.std.specs.Prelude.{ℕ, ◌+◌, ◌*◌, Bool, List, [], ◌∷◌, map}
 use Rattle.std.proofs.Math.Option.{Option}
 use Rattle.entries.specs.declared.IdentifierId.{IdentifierId}
 use Rattle.entries.specs.declared.DependencyPathEntry.{DependencyPathEntry}

@@ -1,5 +1,3 @@
--- The proof of the cycle of calls {follow}. The measure is the node's number: a parent stands
--- before its child. A root's path has no entries, and a child's is its parent's and one entry more.
 use Prim.Native.Nat.{ℕ, ◌<◌}
 use native.Mathlib.Omega.{arith}
 use native.Mathlib.Nat.{le_trans, lt_trans}
@@ -13,35 +11,29 @@ use Rattle.hoistable.proofs.Steps.{agrees_small, agrees_rest}
 use Rattle.hoistable.proofs.Nodes.{root_path, child_path}
 use Rattle.hoistable.proofs.+follow.Goals as goal
 
-abbrev at : ℕ → In 2 follow-kinds.ps
-at t = and 2 follow-kinds.ps (is 2 follow-kinds.ps μ-follow t) follow.Pre
-
-abbrev below : ℕ → In 2 follow-kinds.ps
-below t = and 2 follow-kinds.ps (falls 2 follow-kinds.ps ◌<◌ μ-follow t) follow.Pre
-
 pub load-n-requires : goal.load-n-requires
-load-n-requires c = le_trans c.requires.1.1 c.requires.1.0.sized.room
+load-n-requires t c = le_trans c.requires.1 c.requires.0.sized.room
 
 pub follow-before-requires : goal.follow-before-requires
-follow-before-requires c =
-    let after = (child_path c.args.ws.now c.requires.1.0.sound c.args.k c.requires.1.1 c.load-n.result c.load-n.ensures
+follow-before-requires t c =
+    let after = (child_path c.args.ws.now c.requires.0.sound c.args.k c.requires.1 c.load-n.result c.load-n.ensures
     c.in-Child.is).after in
-    (subst (λ (j : ℕ). c.in-Child.p.0 < j) c.requires.0 after, (c.requires.1.0, lt_trans after c.requires.1.1))
+    (subst (λ (j : ℕ). c.in-Child.p.0 < j) c.decreases after, (c.requires.0, lt_trans after c.requires.1))
 
 pub further-requires : goal.further-requires
-further-requires c = (agrees_small c.follow-before.ensures, agrees_rest c.follow-before.ensures)
+further-requires t c = (agrees_small c.follow-before.ensures, agrees_rest c.follow-before.ensures)
 
 pub returns-in-Root : goal.returns-in-Root
-returns-in-Root c =
-    let path = root_path c.args.ws.now c.requires.1.0.sound c.args.k c.requires.1.1 c.load-n.result c.load-n.ensures c.in-Root.is in
+returns-in-Root t c =
+    let path = root_path c.args.ws.now c.requires.0.sound c.args.k c.requires.1 c.load-n.result c.load-n.ensures c.in-Root.is in
     c.at_root.ensures c.args.s.now c.args.identifier (entries_at c.args.count c.args.s.now c.args.start) _
     (ap (λ (d : ReactiveScopeDependency). d.path) path)
-    (sym (ap (λ (d : ReactiveScopeDependency). eqb d.identifier.0 c.args.identifier.0) path)) c.requires.1.0.candidate.reads
+    (sym (ap (λ (d : ReactiveScopeDependency). eqb d.identifier.0 c.args.identifier.0) path)) c.requires.0.candidate.reads
 
 pub returns-in-Child : goal.returns-in-Child
-returns-in-Child c =
-    let stands = child_path c.args.ws.now c.requires.1.0.sound c.args.k c.requires.1.1 c.load-n.result c.load-n.ensures c.in-Child.is in
-    let candidate = c.requires.1.0.candidate in
+returns-in-Child t c =
+    let stands = child_path c.args.ws.now c.requires.0.sound c.args.k c.requires.1 c.load-n.result c.load-n.ensures c.in-Child.is in
+    let candidate = c.requires.0.candidate in
     let long = many_length (read_entry 4) c.args.s.now c.args.count c.args.start candidate.reads.read in
     let few = candidate.few in
     c.further.ensures c.args.identifier (entries_at c.args.count c.args.s.now c.args.start) _ _ (omega arith) stands.child

@@ -1,13 +1,12 @@
-use Prim.Native.Nat.{◌-◌}
 use native.Mathlib.Omega.{arith}
 use mathlib.Core.Path.{sym, ◌∙◌}
-use mathlib.Core.List.{[]}
 use Rattle.rows.proofs.Ahead.{next_nothing, none_past}
 use Rattle.hoistable.specs.Candidate.{entries_at}
 use Rattle.hoistable.proofs.Numbers.{holds_small}
 use Rattle.hoistable.proofs.Steps.{agrees_small}
-use Rattle.hoistable.proofs.Deciding.{deciding_start, deciding_end, deciding_inside, deciding_place}
+use Rattle.hoistable.proofs.Deciding.{deciding_start, deciding_end, deciding_inside, deciding_place, deciding_ahead, deciding_rest}
 use Rattle.hoistable.proofs.decided_levels.Goals as goal
+use Rattle.hoistable.proofs.decided_levels.Goals.{then-levels-eq1, else-levels-eq1}
 
 pub loop-from-init : goal.loop-from-init
 loop-from-init c =
@@ -38,6 +37,18 @@ pub loop-from-smaller : goal.loop-from-smaller
 loop-from-smaller c =
     let a = deciding_place c.loop-from.invariant _ (sym c.next.ensures ∙ c.in-At.is) in
     omega arith
+
+pub loop-from-preserved : goal.loop-from-preserved
+loop-from-preserved c =
+    let next = sym c.next.ensures ∙ c.in-At.is in
+    elim c.if-levels-eq1.branch [
+      | then-levels-eq1 w ↦
+          rw (w.ahead-is, w.rest-is) (deciding_ahead c.loop-from.invariant _ next c.follow-path.result.levels c.follow-path.ensures.levels w.over-ahead.result
+          w.if-levels-eq1.true w.over-ahead.ensures)
+      | else-levels-eq1 w ↦
+          rw (w.ahead-is, w.rest-is) (deciding_rest c.loop-from.invariant _ next c.follow-path.result.levels c.follow-path.ensures.levels w.over-rest.result
+          w.if-levels-eq1.false w.over-rest.ensures)
+    ]
 
 pub over-requires-2 : goal.over-requires-2
 over-requires-2 c = (holds_small c.loop-from.invariant.ahead, holds_small c.loop-from.invariant.rest)

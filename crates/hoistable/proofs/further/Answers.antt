@@ -11,13 +11,13 @@ use Rattle.hoistable.proofs.Steps.{turned_test, further_apart, further_on}
 use Rattle.hoistable.proofs.further.Goals as goal
 
 pub returns-then-not-r : goal.returns-then-not-r
-returns-then-not-r c = further_apart few child a (turned_test _ true c.if-not-r.true) _ refl refl
+returns-then-not-r c i es d d' few child a = further_apart few child a (turned_test _ true c.if-not-r.true) _ refl refl
 
 pub next_name-requires : goal.next_name-requires
 next_name-requires c = c.requires.1 (turned_test _ false c.if-not-r.false)
 
 pub returns-in-Same : goal.returns-in-Same
-returns-in-Same c =
+returns-in-Same c i es d d' few child a =
     let whole = turned_test _ false c.if-not-r.false in
     let found = subst (NextIs c.args.e.property (drop (length d.path) es) c.args.s.now) c.in-Same.is
     (subst (λ xs. NextIs c.args.e.property xs c.args.s.now c.next_name.result) (reads_at (a.left whole)) c.next_name.ensures) in
@@ -25,7 +25,7 @@ returns-in-Same c =
     c.followed_by-levels.ensures.1 refl (λ _. found.1)
 
 pub returns-in-Other : goal.returns-in-Other
-returns-in-Other c =
+returns-in-Other c i es d d' few child a =
     let whole = turned_test _ false c.if-not-r.false in
     let found = subst (NextIs c.args.e.property (drop (length d.path) es) c.args.s.now) c.in-Other.is
     (subst (λ xs. NextIs c.args.e.property xs c.args.s.now c.next_name.result) (reads_at (a.left whole)) c.next_name.ensures) in

@@ -3,4 +3,4 @@ use Rattle.hoistable.proofs.Numbers.{holds_turned}
 use Rattle.hoistable.proofs.Levels.nonnull.Goals as goal
 
 pub returns : goal.returns
-returns c = holds_turned h
+returns c xs h = holds_turned h
