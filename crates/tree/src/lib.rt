@@ -4,6 +4,7 @@
 // the job's bytes: a position keeps their place. It also has links to its first child and to its
 // next sibling, by which children are found.
 #![tactic(auto)]
+
 ghost use Rattle.std.specs.Prelude.{◌≡◌, ℕ, ◌+◌, ◌-◌, ◌≤◌, ◌<◌, ◌||◌, List, [], ◌∷◌, map, length, get_or, set, eqb};
 ghost use Rattle.model.specs.Forest.{empty, same_key};
 ghost use Rattle.model.specs.Lists.{concat_map};

@@ -1,0 +1,49 @@
+-- What the search found is merged; where it found nothing the position is made, the last.
+use Prim.Native.Nat.{◌≤◌, ◌<◌}
+use native.Mathlib.Omega.{arith}
+use mathlib.Core.Path.{sym, ap, subst, ◌∙◌}
+use Rattle.tree.specs.Words.{parent_in}
+use Rattle.tree.specs.Tree.{count_in}
+use Rattle.tree.proofs.Packed.{packed_parent, packed_key}
+use Rattle.tree.proofs.Seeking.{enters_merged, appendable, enters_made}
+use Rattle.tree.proofs.make_or_merge.Goals as goal
+
+pub seek-sought-requires : goal.seek-sought-requires
+seek-sought-requires c =
+    let a = c.args in
+    let room = c.requires.2 in
+    let short = c.requires.0.short in
+    let lies = c.requires.1 in
+    let p< : a.parent < 65536 = omega arith in (
+      c.requires.0,
+      subst (λ n. n ≤ count_in a.tree.now)
+          (sym (ap parent_in c.pack-step.ensures.0 ∙ packed_parent a.parent a.place a.access p< c.requires.3)) lies,
+      c.requires.4 ∙ sym (packed_key a.parent a.place a.access p< c.requires.3 a.s.now c.pack-step.result c.pack-step.ensures.0),
+    )
+
+pub returns-then-number-gt0 : goal.returns-then-number-gt0
+returns-then-number-gt0 c =
+    let a = c.args in
+    let room = c.requires.2 in
+    let short = c.requires.0.short in
+    let lies = c.requires.1 in
+    enters_merged a.parent a.place a.access c.pack-step.result c.seek-sought.result c.requires.0 (omega arith) c.requires.3
+    c.pack-step.ensures.0 c.seek-sought.ensures c.if-number-gt0.true _ c.merge_at.ensures
+
+pub append-requires : goal.append-requires
+append-requires c =
+    let a = c.args in
+    let room = c.requires.2 in
+    let short = c.requires.0.short in
+    let lies = c.requires.1 in
+    appendable a.parent a.place a.access c.pack-step.result c.seek-sought.result c.requires.0 (omega arith) c.requires.3
+    c.pack-step.ensures.0 c.seek-sought.ensures room c.if-number-gt0.false
+
+pub returns : goal.returns
+returns c =
+    let a = c.args in
+    let room = c.requires.2 in
+    let short = c.requires.0.short in
+    let lies = c.requires.1 in
+    enters_made a.parent a.place a.access c.pack-step.result c.seek-sought.result c.requires.0 (omega arith) c.requires.3
+    c.pack-step.ensures.0 c.seek-sought.ensures room c.if-number-gt0.false _ c.append.result c.append.ensures
