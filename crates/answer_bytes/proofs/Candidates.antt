@@ -1,12 +1,10 @@
 -- The candidates that are left: what adds their walks to the tree so far adds them all.
-use Prim.Native.Nat.{ℕ, zero, suc, ◌+◌, ◌*◌, ◌-◌, ◌/◌, ◌%◌, ◌≤◌, ◌<◌}
+use Prim.Native.Nat.{ℕ, zero, suc, ◌+◌, ◌*◌, ◌-◌, ◌≤◌, ◌<◌}
 use native.Mathlib.Omega.{arith}
-use mathlib.Core.Path.{◌≡◌, refl, sym, ap, subst, ◌∙◌}
-use mathlib.Core.Bool.{Bool, true, false}
+use mathlib.Core.Path.{◌≡◌, sym, ap, subst, ◌∙◌}
 use mathlib.Core.List.{List, [], ◌∷◌, map}
 use mathlib.Core.Option.{Option}
 use lib.ListN.{length}
-use lib.Dec.{eqb}
 use Rattle.entries.specs.declared.IdentifierId.{IdentifierId}
 use Rattle.entries.specs.declared.DependencyPathEntry.{DependencyPathEntry}
 use Rattle.entries.specs.declared.Refusal.{Refusal}
@@ -16,19 +14,7 @@ use Rattle.model.specs.Job.{CA, read_entry, read_path}
 use Rattle.model.specs.Sets.{NodeSet}
 use Rattle.model.specs.Registry.{PropertyPathRegistry, full_path_of}
 use Rattle.model.specs.Forest.{identifier_key, property_key, Forest, empty, Found, find_key, child_by_key, add, add_all}
-use Rattle.model.specs.Tree.{
-  HoistablePosition,
-  hoistable_key,
-  hoistable_tree,
-  at_non_null,
-  DependencyPosition,
-  dependency_key,
-  merge_position,
-  root_position,
-  walk_entries,
-  walk_candidate,
-  dependency_tree,
-}
+use Rattle.model.specs.Tree.{HoistablePosition, hoistable_key, hoistable_tree, at_non_null, dependency_key, merge_position, root_position, walk_candidate, dependency_tree}
 use Rattle.job.specs.Head.{read_path_head}
 use Rattle.job.specs.declared.PathHead.{PathHead}
 use Rattle.job.proofs.Many.{many_first}
@@ -38,7 +24,7 @@ use Rattle.hoistable.specs.Levels.{levels_of, non_null_levels, number_of}
 use Rattle.hoistable.specs.Candidate.{entries_at, Candidate}
 use Rattle.hoistable.proofs.Names.{candidate_read}
 use Rattle.hoistable.proofs.Walks.{number_first, number_later}
-use Rattle.tree.specs.Walk.{bits_of, walk_by, path_at}
+use Rattle.tree.specs.Walk.{bits_of, walk_by}
 use Rattle.tree.specs.Tree.{Held, Adds, count_in, forest_of}
 use Rattle.tree.proofs.Caller.{path_at_lem, FlagsAt, walk_by_flags}
 use Rattle.answer_bytes.specs.Answers.{CandidatesAt, AddsCandidates}

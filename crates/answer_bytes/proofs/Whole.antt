@@ -1,9 +1,9 @@
 -- The returned paths written first and the head before them: together they are the answer.
-use Prim.Native.Nat.{ℕ, zero, suc, ◌+◌, ◌*◌, ◌≤◌, ◌<◌}
+use Prim.Native.Nat.{ℕ, ◌+◌, ◌≤◌}
 use native.Mathlib.Omega.{arith}
-use mathlib.Core.Path.{◌≡◌, refl, sym, ap, subst, ◌∙◌}
+use mathlib.Core.Path.{◌≡◌, ap, subst, ◌∙◌}
 use mathlib.Core.Bool.{Bool}
-use mathlib.Core.List.{List, [], ◌∷◌, ◌++◌, map}
+use mathlib.Core.List.{List, ◌++◌, map}
 use native.Mathlib.Nat.{zero-add}
 use lib.ListN.{length, length-append}
 use Rattle.entries.specs.Path.{ReactiveScopeDependency}
@@ -13,13 +13,13 @@ use Rattle.model.specs.Job.{CA, read_path}
 use Rattle.model.specs.Sets.{NodeSet}
 use Rattle.model.specs.Registry.{PropertyPathRegistry, full_path_of}
 use Rattle.model.specs.Forest.{Forest, firsts}
-use Rattle.model.specs.Tree.{DependencyPosition, is_dependency, dependency_of, dependency_tree, derive_minimal_dependencies}
-use Rattle.model.specs.Answer.{number_bytes, u8, u16, flag, AN, DE, path_bytes}
+use Rattle.model.specs.Tree.{DependencyPosition, is_dependency, dependency_of, derive_minimal_dependencies}
+use Rattle.model.specs.Answer.{u8, u16, flag, AN, DE, path_bytes}
 use Rattle.job.proofs.Many.{many_length}
 use Rattle.laws.specs.Fits.{returned_few}
 use Rattle.writer.specs.Writes.{Writes}
 use Rattle.writer.proofs.Bytes.{number_length, writes_before, writes_as}
-use Rattle.tree.specs.Tree.{Held, forest_of, returned_of, Derives}
+use Rattle.tree.specs.Tree.{returned_of, Derives}
 use Rattle.tree.specs.declared.Written.{Written}
 use Rattle.tree.proofs.Caller.{returned_short}
 use Rattle.answer_bytes.specs.Answers.{CandidatesAt, AddsCandidates, head_bytes, answer_over}

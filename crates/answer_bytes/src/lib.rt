@@ -2,6 +2,7 @@
 // paths are written behind the answer's head. Where there are several candidates, the hoistable
 // tree is built for them once.
 #![tactic(auto)]
+
 ghost use Rattle.std.specs.Prelude.{◌≡◌, ◌≤◌, ◌<◌, length};
 ghost use Rattle.model.specs.ReductionLaws.{Members};
 ghost use Rattle.model.specs.Answer.{least_buffer};
