@@ -1,16 +1,16 @@
 -- Blocks marked dirty, one after the other, and what holds of the blocks that are not.
 use Prim.Native.Nat.{ℕ, ◌<◌}
 use native.Mathlib.Omega.{arith}
-use mathlib.Core.Path.{◌≡◌, refl, sym, ap, subst, ◌∙◌}
+use mathlib.Core.Path.{◌≡◌, refl, sym, ap, ◌∙◌}
 use mathlib.Core.Logic.{◌≢◌}
-use mathlib.Core.Bool.{Bool, true, false, ◌||◌}
+use mathlib.Core.Bool.{Bool, ◌||◌}
 use mathlib.Core.List.{List, [], ◌∷◌}
 use lib.ListN.{length, get_or, set, length-set}
 use lib.Seq.{get_or-set_same, get_or-set_other}
 use lib.Dec.{eqb}
 use Rattle.model.specs.Tests.{eqb_apart}
 use Rattle.model.specs.Lists.{any_of}
-use Rattle.graph.specs.Bytes.{size_in, neighbours_from, neighbours, Next}
+use Rattle.graph.specs.Bytes.{neighbours_from, neighbours, Next}
 use Rattle.propagation.specs.Joins.{MarksDirty}
 
 -- a block that is not dirty once block k is, is another one, and was not dirty

@@ -10,7 +10,6 @@ use mathlib.Core.List.{List, [], ◌∷◌, ◌++◌, map}
 use lib.ListN.{length, get_or, set, length-set, take}
 use lib.Dec.{ltb}
 use lib.Seq.{append_snoc, take-set-le, take-suc-set}
-use Rattle.model.specs.Sets.{NodeSet}
 use Rattle.model.specs.ListLaws.{All, all_map, all_append, NoRepeats, no_repeats_select}
 use Rattle.model.specs.Tests.{by_cond, decide}
 use Rattle.model.specs.Visit.{TraversalState, Unmarked, is_done}

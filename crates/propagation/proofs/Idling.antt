@@ -10,7 +10,7 @@ use lib.Seq.{get_or-set_same, get_or-set_other}
 use lib.Dec.{eqb}
 use Rattle.entries.specs.declared.NodeId.{NodeId}
 use Rattle.model.specs.Tests.{decide, never, eqb_same, eqb-true, eqb-false, or_cases, or_second}
-use Rattle.model.specs.ListLaws.{All, all_map}
+use Rattle.model.specs.ListLaws.{all_map}
 use Rattle.model.specs.Sets.{NodeSet, contains, insert, union}
 use Rattle.model.specs.SetLaws.{Ascending, contains_insert, contains_inserted, insert_again, all_contained}
 use Rattle.model.specs.Propagation.{set_of, done_neighbours, intersection_of}

@@ -23,21 +23,7 @@ use Rattle.reduction.specs.Reduces.{KnownReduced, reduced_of, Reduces}
 use Rattle.reduction.proofs.Repeats.{reduces_to, reduces_full}
 use Rattle.graph.specs.Bytes.{size_in}
 use Rattle.propagation.specs.Order.{done_before}
-use Rattle.propagation.specs.declared.Joined.{Joined}
-use Rattle.propagation.specs.Joins.{
-  work_of,
-  join_in,
-  neighbours_to_join,
-  sets_to_join,
-  Ready,
-  ReducedBefore,
-  AllReduced,
-  HoldsWork,
-  Has,
-  Idle,
-  JoinedTo,
-  Joins,
-}
+use Rattle.propagation.specs.Joins.{work_of, join_in, neighbours_to_join, sets_to_join, Ready, ReducedBefore, AllReduced, HoldsWork, Has, Idle, Joins}
 use Rattle.propagation.proofs.Idling.{union_has, has_union, idle_union}
 use Rattle.propagation.proofs.Reductions.{stands_proper}
 

@@ -2,19 +2,18 @@
 -- enters and leaves it.
 use Prim.Native.Nat.{ℕ, zero, suc, ◌+◌, ◌-◌, ◌≤◌, ◌<◌}
 use native.Mathlib.Omega.{arith}
-use native.Mathlib.Numerals.{add-one}
 use mathlib.Core.Path.{◌≡◌, refl, sym, ap, subst, ◌∙◌}
 use mathlib.Core.Logic.{◌≢◌}
 use mathlib.Core.Bool.{Bool, true, false, cond}
 use mathlib.Core.List.{List, [], ◌∷◌, ◌++◌, map}
-use lib.ListN.{length, get_or, set, length-set, take, replicate, length-replicate, get_or-replicate, get_or-map}
+use lib.ListN.{length, get_or, set, length-set, take, replicate, length-replicate, get_or-map}
 use lib.Seq.{get_or-set_same, get_or-set_other, set-get_or, take-set-lt, take-set-le, get_or-take}
 use lib.Dec.{eqb, ltb}
-use Rattle.model.specs.Tests.{decide, eqb-true, eqb-false, ltb_less, ltb_not_less, ltb_true}
+use Rattle.model.specs.Tests.{decide, eqb-true, eqb-false, ltb_less, ltb_not_less}
 use Rattle.model.specs.ListLaws.{All}
-use Rattle.model.specs.Visit.{TraversalState, Unmarked, Active, Done, is_done, is_marked, Visited, enter, leave}
+use Rattle.model.specs.Visit.{TraversalState, Unmarked, Active, Done, is_done, enter, leave}
 use Rattle.model.specs.Rounds.{places_from}
-use Rattle.laws.specs.WalkSteps.{only_done, Step, noted}
+use Rattle.laws.specs.WalkSteps.{only_done, noted}
 use Rattle.propagation.specs.Order.{state_of, marks_of, left_in, block_left, done_above, step_left, steps_from, noted_of, leaving, open_in, Noting}
 use Rattle.propagation.proofs.Marks.{map_set, mark_set, marks_cleared, mark_here}
 

@@ -5,13 +5,13 @@ use native.Mathlib.Nat.{add-zero, zero-add, sub-zero, le_refl}
 use mathlib.Core.Path.{◌≡◌, refl, sym, ap, ◌∙◌}
 use mathlib.Core.Bool.{Bool, true, false}
 use mathlib.Core.List.{List, [], ◌∷◌, reverse_aux}
-use lib.ListN.{get_or, replicate}
-use Rattle.model.specs.Visit.{TraversalState, Unmarked, Visited, each}
+use lib.ListN.{replicate}
+use Rattle.model.specs.Visit.{Unmarked, Visited, each}
 use Rattle.model.specs.Rounds.{places_from, job_order, reverse_job_order, walk}
 use Rattle.laws.specs.WalkSteps.{Step, steps_of}
 use Rattle.graph.specs.Bytes.{size_in, GraphFits}
 use Rattle.graph.proofs.Neighbours.{places_more, places_end}
-use Rattle.propagation.specs.Order.{order_of, in_order, marks_of, steps_from, noted_of, Noting, OrderNoted}
+use Rattle.propagation.specs.Order.{order_of, in_order, steps_from, noted_of, OrderNoted}
 use Rattle.propagation.proofs.Marks.{marks_cleared}
 use Rattle.propagation.proofs.Leaving.{none_noted}
 use Rattle.propagation.proofs.Visiting.{visit_in, Along, along_by}

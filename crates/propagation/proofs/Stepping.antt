@@ -8,7 +8,7 @@ use mathlib.Core.List.{List, map}
 use lib.ListN.{length, get_or, set, length-set}
 use lib.Seq.{get_or-set_same, get_or-set_other}
 use lib.Dec.{eqb}
-use Rattle.model.specs.Tests.{decide, never, eqb-true, eqb-false}
+use Rattle.model.specs.Tests.{decide, eqb-true, eqb-false}
 use Rattle.model.specs.Lists.{any_of}
 use Rattle.model.specs.Sets.{NodeSet}
 use Rattle.model.specs.Propagation.{Work, set_of, JoiningRule, intersection_of}

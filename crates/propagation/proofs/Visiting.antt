@@ -4,14 +4,14 @@ use native.Mathlib.Omega.{arith}
 use native.Mathlib.Nat.{le_refl, le_trans}
 use mathlib.Core.Path.{◌≡◌, refl, sym, ap, subst, ◌∙◌}
 use mathlib.Core.Logic.{◌≢◌}
-use mathlib.Core.Bool.{Bool, true, false}
+use mathlib.Core.Bool.{Bool, false}
 use mathlib.Core.List.{List, [], ◌∷◌}
 use lib.ListN.{length, get_or, set}
 use lib.Seq.{get_or-set_same, get_or-set_other}
-use Rattle.model.specs.Visit.{Done, is_marked, Visited, unmarked_in, leave, enter, each, visit}
+use Rattle.model.specs.Visit.{Done, is_marked, Visited, unmarked_in, leave, each, visit}
 use Rattle.model.specs.VisitLaws.{unmarked_enter, visit_marks, visit_recurs}
 use Rattle.laws.specs.WalkSteps.{Step, noted}
-use Rattle.graph.specs.Bytes.{size_in, neighbours_from, neighbours, Next}
+use Rattle.graph.specs.Bytes.{size_in, neighbours_from, neighbours}
 use Rattle.propagation.specs.Order.{marks_of, noted_of, leaving, left_in, Noting, Notes}
 use Rattle.propagation.proofs.Marks.{mark_set, zero_unmarked, more_marked}
 use Rattle.propagation.proofs.Leaving.{left_below, entered_noting, entered_is, left_elsewhere, left_is, left_noting}

@@ -1,9 +1,8 @@
 -- The steps of a walk that are still to come, and where they lead.
 use Prim.Native.Nat.{ℕ, ◌+◌, ◌-◌, ◌≤◌, ◌<◌}
-use native.Mathlib.Omega.{arith}
 use native.Mathlib.Nat.{le_refl, le_trans, lt_of_lt_of_le}
 use mathlib.Core.Path.{◌≡◌, refl, sym, ap, ap₂, subst, ◌∙◌}
-use mathlib.Core.Bool.{Bool, true, false, ◌&&◌, not, cond}
+use mathlib.Core.Bool.{Bool, ◌&&◌, not, cond}
 use mathlib.Core.List.{List, [], ◌∷◌, map}
 use lib.ListN.{length, get_or, get_or-map}
 use Rattle.model.specs.ListLaws.{All, select_same}
@@ -12,7 +11,6 @@ use Rattle.model.specs.RegistryLaws.{extends_length}
 use Rattle.model.specs.Visit.{TraversalState, Unmarked, Active, Done, is_done}
 use Rattle.model.specs.VisitLaws.{Preorder}
 use Rattle.model.specs.RoundsLaws.{walk_does}
-use Rattle.model.specs.Rounds.{places_from}
 use Rattle.model.specs.Propagation.{Work, JoiningRule, done_neighbours, join_with, join}
 use Rattle.model.specs.PropagationLaws.{join_extends}
 use Rattle.model.specs.Reduction.{reduce_maybe_optional_chains}
@@ -26,7 +24,7 @@ use Rattle.propagation.specs.declared.Progress.{Progress}
 use Rattle.propagation.specs.declared.Progress.TheVariants.{Changed, Full}
 use Rattle.propagation.specs.Rules.{rule_of}
 use Rattle.propagation.specs.Order.{order_of, left_in, block_left, done_above, step_left, steps_from, OrderNoted}
-use Rattle.propagation.specs.Joins.{work_of, join_in, RowsStand, Ready, ReducedBefore, HoldsWork, Clean, Flags, StepsTo, Steps}
+use Rattle.propagation.specs.Joins.{work_of, join_in, RowsStand, Ready, ReducedBefore, Clean, Flags, StepsTo, Steps}
 use Rattle.propagation.specs.Propagates.{walk_in}
 use Rattle.propagation.proofs.Reductions.{stands_proper, reduced_work, reduced_rows, stays_reduced}
 use Rattle.propagation.proofs.Stepping.{step_end}

@@ -6,6 +6,7 @@
 // two blocks the one with the greater mark was left first. A block is dirty, with 1 for its byte,
 // where its join in a walk of that direction may have an effect.
 #![tactic(auto)]
+
 ghost use Rattle.std.specs.Prelude.{◌≡◌, true, false, not, ◌∷◌, ◌<◌, length, get_or, replicate};
 ghost use Rattle.model.specs.Reduction.{reduce_maybe_optional_chains};
 ghost use Rattle.model.specs.Visit.{visit};
