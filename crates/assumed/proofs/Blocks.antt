@@ -8,7 +8,7 @@ use mathlib.Core.Bool.{true, false}
 use mathlib.Core.List.{List, [], ◌∷◌, ◌++◌, append_assoc, append-nil}
 use lib.ListN.{length, get_or, set, drop, drop_of_length-le}
 use lib.Seq.{get_or-set_same}
-use Rattle.model.specs.ReadingBytes.{Read, got, mapped}
+use Rattle.model.specs.ReadingBytes.{Read, mapped}
 use Rattle.model.specs.Job.{Block, assumed_of, read_block}
 use Rattle.model.specs.Sets.{NodeSet}
 use Rattle.model.specs.Registry.{node_limit, PropertyPathRegistry}

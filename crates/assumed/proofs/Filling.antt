@@ -1,10 +1,10 @@
 -- The paths that a block's records bring, entered one record after the other: what enters those
 -- that are left after those before enters them all.
-use Prim.Native.Nat.{ℕ, suc, ◌+◌, ◌-◌, ◌≤◌, ◌<◌}
+use Prim.Native.Nat.{ℕ, ◌+◌, ◌-◌, ◌≤◌, ◌<◌}
 use native.Mathlib.Omega.{arith}
 use mathlib.Core.Path.{◌≡◌, refl, sym, ap, subst, ◌∙◌}
-use mathlib.Core.Bool.{Bool, true, false}
-use mathlib.Core.List.{List, [], ◌∷◌, ◌++◌}
+use mathlib.Core.Bool.{true, false}
+use mathlib.Core.List.{List, [], ◌∷◌}
 use lib.ListN.{length}
 use Rattle.entries.specs.declared.NodeId.{NodeId}
 use Rattle.entries.specs.Path.{ReactiveScopeDependency}
@@ -25,7 +25,7 @@ use Rattle.paths.specs.declared.EnteredPath.{EnteredPath}
 use Rattle.paths.specs.declared.EnteredPath.TheVariants as path
 use Rattle.paths.specs.Enters.{Enters}
 use Rattle.assumed.specs.declared.EnteredSet.{EnteredSet}
-use Rattle.assumed.specs.Start.{itself, read_brought, all_of, so_far, Entering, FillsBy, Fills, EntersAll}
+use Rattle.assumed.specs.Start.{itself, read_brought, all_of, entered_so_far, Entering, FillsBy, Fills, EntersAll}
 
 -- Entering paths only adds nodes.
 pub paths_extend : (e : PathsEntered) (ds : List ReactiveScopeDependency) → Extends e.registry (enter_paths e ds).registry
@@ -37,10 +37,10 @@ paths_extend e (d ∷ ds) = extends_trans (path_extends own_mark e.registry d) (
 
 module _ (reg : PropertyPathRegistry) (e r : EnteredSet) (us ps : List ℕ) where
   pub one_full : (x : Read ReactiveScopeDependency) (q : EnteredPath) → Enters x (get_or_create_property reg) q us ps → q ≡ path.Full → r.full ≡ true
-      → EntersAll (mapped itself x) (so_far reg e) r us ps
+      → EntersAll (mapped itself x) (entered_so_far reg e) r us ps
   one_full (got d n) q h none full =
       let limit = subst (λ q. Enters (got d n) (get_or_create_property reg) q us ps) none h in
-      subst (λ f. FillsBy f (enter_paths (so_far reg e) (d ∷ [])) n r us ps) (sym full) limit
+      subst (λ f. FillsBy f (enter_paths (entered_so_far reg e) (d ∷ [])) n r us ps) (sym full) limit
   one_full (refused y) q h none full = absurd (subst (λ q. Enters (refused y) (get_or_create_property reg) q us ps) none h)
 
   module _ (k : NodeId) (made n : ℕ) where
@@ -75,7 +75,7 @@ module _ (reg : PropertyPathRegistry) (e r : EnteredSet) (us ps : List ℕ) wher
 
     pub one_entered : members_of r.set.words ≡ insert k (members_of e.set.words) → r.made ≡ e.made + made → r.at ≡ n → r.full ≡ false
         → (x : Read ReactiveScopeDependency) (q : EnteredPath) → Enters x (get_or_create_property reg) q us ps → q ≡ path.At k made n
-        → EntersAll (mapped itself x) (so_far reg e) r us ps
+        → EntersAll (mapped itself x) (entered_so_far reg e) r us ps
     one_entered inserted counted place room x q h at =
         let t = reached x q h at in
         let entered = ap {B = PathsEntered} (λ (y : Reached). record {
@@ -83,11 +83,11 @@ module _ (reg : PropertyPathRegistry) (e r : EnteredSet) (us ps : List ℕ) wher
           set = insert y.node (members_of e.set.words);
           made = e.made + y.made;
         }) t.3 in
-        let is : enter_path (so_far reg e) t.0 ≡ so_far (registry_of us) r =
+        let is : enter_path (entered_so_far reg e) t.0 ≡ entered_so_far (registry_of us) r =
         entered ∙ (λ i. record { registry = registry_of us; set = sym inserted i; made = sym counted i }) in
-        let fills : FillsBy false (enter_path (so_far reg e) t.0) n r us ps = (t.2, is, place) in
-        subst (λ (y : Read ReactiveScopeDependency). EntersAll (mapped itself y) (so_far reg e) r us ps) (sym t.1)
-        (subst (λ f. FillsBy f (enter_path (so_far reg e) t.0) n r us ps) (sym room) fills)
+        let fills : FillsBy false (enter_path (entered_so_far reg e) t.0) n r us ps = (t.2, is, place) in
+        subst (λ (y : Read ReactiveScopeDependency). EntersAll (mapped itself y) (entered_so_far reg e) r us ps) (sym t.1)
+        (subst (λ f. FillsBy f (enter_path (entered_so_far reg e) t.0) n r us ps) (sym room) fills)
 
 -- Records, each of which brings some paths.
 
@@ -105,13 +105,13 @@ pub record Filling (want : PathsEntered) (end : ℕ) (s ws os : List ℕ) (e : E
   pub room : e.full ≡ false
   pub rest : List (List ReactiveScopeDependency)
   pub there : read_many left read_brought s e.at ≡ got rest end
-  pub same : want ≡ enter_paths (so_far (registry_of ws) e) (all_of rest)
+  pub same : want ≡ enter_paths (entered_so_far (registry_of ws) e) (all_of rest)
 
 pub filling : (s ws os : List ℕ) (e : EnteredSet) (count : ℕ) → Entering ws os e → e.full ≡ false → IsRead (read_many count read_brought s e.at)
-    → Filling (enter_paths (so_far (registry_of ws) e) (all_of (values_at s e.at count))) (end_at s e.at count) s ws os e count
+    → Filling (enter_paths (entered_so_far (registry_of ws) e) (all_of (values_at s e.at count))) (end_at s e.at count) s ws os e count
 filling s ws os e count entering room x =
     subst (λ (y : Read (List (List ReactiveScopeDependency))).
-    Filling (enter_paths (so_far (registry_of ws) e) (all_of (or_none y (λ xs end. xs)))) (place_after y) s ws os e count)
+    Filling (enter_paths (entered_so_far (registry_of ws) e) (all_of (or_none y (λ xs end. xs)))) (place_after y) s ws os e count)
     (sym x.read)
     (record { entering = entering; room = room; rest = x.value; there = x.read; same = refl })
 
@@ -123,7 +123,7 @@ module _ {want : PathsEntered} {end : ℕ} {s ws os : List ℕ} {e : EnteredSet}
       let no : [] ≡ x.rest = cc in
       let last : e.at ≡ end = cc in
       subst (λ f. FillsBy f want end e ws os) (sym x.room)
-      (x.entering.held, x.same ∙ ap (λ xs. enter_paths (so_far (registry_of ws) e) (all_of xs)) (sym no), last)
+      (x.entering.held, x.same ∙ ap (λ xs. enter_paths (entered_so_far (registry_of ws) e) (all_of xs)) (sym no), last)
 
   module _ (some : 0 < left) where
     -- the first of the records that are left, and the others
@@ -134,18 +134,18 @@ module _ {want : PathsEntered} {end : ℕ} {s ws os : List ℕ} {e : EnteredSet}
     pub first_there : IsRead (read_brought s e.at)
     first_there = record { value = first.0; next = first.1; read = first.3 }
 
-    module _ (r : EnteredSet) (us ps : List ℕ) (entered : EntersAll (read_brought s e.at) (so_far (registry_of ws) e) r us ps) where
-      one : Fills (enter_paths (so_far (registry_of ws) e) first.0) first.1 r us ps
-      one = subst (λ (y : Read (List ReactiveScopeDependency)). EntersAll y (so_far (registry_of ws) e) r us ps) first.3 entered
+    module _ (r : EnteredSet) (us ps : List ℕ) (entered : EntersAll (read_brought s e.at) (entered_so_far (registry_of ws) e) r us ps) where
+      one : Fills (enter_paths (entered_so_far (registry_of ws) e) first.0) first.1 r us ps
+      one = subst (λ (y : Read (List ReactiveScopeDependency)). EntersAll y (entered_so_far (registry_of ws) e) r us ps) first.3 entered
 
-      split : want ≡ enter_paths (enter_paths (so_far (registry_of ws) e) first.0) (all_of first.2)
+      split : want ≡ enter_paths (enter_paths (entered_so_far (registry_of ws) e) first.0) (all_of first.2)
       split =
-          x.same ∙ ap (λ xs. enter_paths (so_far (registry_of ws) e) (all_of xs)) (sym first.5)
-          ∙ paths_append (so_far (registry_of ws) e) first.0 (all_of first.2)
+          x.same ∙ ap (λ xs. enter_paths (entered_so_far (registry_of ws) e) (all_of xs)) (sym first.5)
+          ∙ paths_append (entered_so_far (registry_of ws) e) first.0 (all_of first.2)
 
       pub filling_full : r.full ≡ true → Fills want end r us ps
       filling_full full =
-          let so_far = enter_paths (so_far (registry_of ws) e) first.0 in
+          let so_far = enter_paths (entered_so_far (registry_of ws) e) first.0 in
           let limit : node_limit < length so_far.registry = subst (λ f. FillsBy f so_far first.1 r us ps) full one in
           let longer = extends_length (paths_extend so_far (all_of first.2)) in
           let past : node_limit < length want.registry =
@@ -154,10 +154,10 @@ module _ {want : PathsEntered} {end : ℕ} {s ws os : List ℕ} {e : EnteredSet}
 
       pub filling_more : r.full ≡ false → Filling want end s us ps r (left - 1)
       filling_more room =
-          let so_far = enter_paths (so_far (registry_of ws) e) first.0 in
+          let so_far = enter_paths (entered_so_far (registry_of ws) e) first.0 in
           let is : FillsBy false so_far first.1 r us ps = subst (λ f. FillsBy f so_far first.1 r us ps) room one in
           let longer = subst (λ (y : PathsEntered). length y.registry + e.made ≡ length (registry_of ws) + y.made) is.1
-          (paths_longer (so_far (registry_of ws) e) first.0) in
+          (paths_longer (entered_so_far (registry_of ws) e) first.0) in
           record {
             entering = record { held = is.0; among = let so_far = x.entering.among in omega arith };
             room = room;

@@ -1,10 +1,9 @@
 -- A block's assumed paths are what its records bring.
-use Prim.Native.Nat.{ℕ, ◌+◌, ◌≤◌, ◌<◌}
+use Prim.Native.Nat.{ℕ, ◌+◌}
 use native.Mathlib.Omega.{arith}
 use mathlib.Core.Path.{◌≡◌, sym, ap, subst, ◌∙◌}
-use mathlib.Core.Bool.{true, false}
+use mathlib.Core.Bool.{false}
 use mathlib.Core.List.{List, [], ◌++◌, map}
-use lib.ListN.{length}
 use Rattle.entries.specs.Path.{ReactiveScopeDependency}
 use Rattle.model.specs.ReadingBytes.{Read, got, mapped, read_many}
 use Rattle.model.specs.Job.{Block, assumed_of, read_block_id, read_block}
@@ -17,7 +16,7 @@ use Rattle.job.specs.Head.{read_block_head}
 use Rattle.job.specs.declared.BlockHead.{BlockHead}
 use Rattle.job.proofs.BlockAgain as again
 use Rattle.assumed.specs.declared.EnteredSet.{EnteredSet}
-use Rattle.assumed.specs.Start.{itself, path_if_kept, read_brought, all_of, so_far, Entering, Fills, EntersAll}
+use Rattle.assumed.specs.Start.{itself, path_if_kept, read_brought, all_of, entered_so_far, Entering, Fills, EntersAll}
 use Rattle.assumed.proofs.Records.{records_read, all_brought}
 
 module _ (s : List ℕ) (at : ℕ) (x : IsRead (read_block 4 s at)) {head : BlockHead} {ids_at records_at : ℕ} (headed : read_block_head s at ≡ got head ids_at)
@@ -41,17 +40,17 @@ module _ (s : List ℕ) (at : ℕ) (x : IsRead (read_block 4 s at)) {head : Bloc
     pub entering_none : Held ws os → Entering ws os start
     entering_none held = record { held = held; among = omega arith }
 
-    begins : so_far (registry_of ws) start ≡ none_entered (registry_of ws)
+    begins : entered_so_far (registry_of ws) start ≡ none_entered (registry_of ws)
     begins = λ i. record { registry = registry_of ws; set = empty i; made = 0 }
 
     pub block_entered : (r : EnteredSet) (us ps : List ℕ)
-        → EntersAll (mapped all_of (read_many (head.raw + head.assumed) read_brought s records_at)) (so_far (registry_of ws) start) r us ps
+        → EntersAll (mapped all_of (read_many (head.raw + head.assumed) read_brought s records_at)) (entered_so_far (registry_of ws) start) r us ps
         → EntersAll (mapped assumed_of (read_block 4 s at)) (none_entered (registry_of ws)) r us ps
     block_entered r us ps h =
         let all :
-        Fills (enter_paths (so_far (registry_of ws) start) (all_of (map path_if_kept block.raw_reads ++ map itself block.ready_paths))) x.next r us ps =
-        subst (λ (y : Read (List (List ReactiveScopeDependency))). EntersAll (mapped all_of y) (so_far (registry_of ws) start) r us ps) brought h in
-        let same = ap (enter_paths (so_far (registry_of ws) start)) (all_brought block.raw_reads block.ready_paths)
+        Fills (enter_paths (entered_so_far (registry_of ws) start) (all_of (map path_if_kept block.raw_reads ++ map itself block.ready_paths))) x.next r us ps =
+        subst (λ (y : Read (List (List ReactiveScopeDependency))). EntersAll (mapped all_of y) (entered_so_far (registry_of ws) start) r us ps) brought h in
+        let same = ap (enter_paths (entered_so_far (registry_of ws) start)) (all_brought block.raw_reads block.ready_paths)
         ∙ ap (λ (e : PathsEntered). enter_paths e (assumed_of block)) begins in
         subst (λ (y : Read Block). EntersAll (mapped assumed_of y) (none_entered (registry_of ws)) r us ps) (sym x.read)
         (subst (λ (e : PathsEntered). Fills e x.next r us ps) same all)

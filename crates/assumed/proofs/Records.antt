@@ -26,7 +26,7 @@ use Rattle.job.proofs.Passing.{not_both, mapped_got, then_got, passed_got}
 use Rattle.assumed.specs.declared.Brought.{Brought}
 use Rattle.assumed.specs.declared.Brought.TheVariants.{Fields, Nothing, Never}
 use Rattle.assumed.specs.declared.EnteredSet.{EnteredSet}
-use Rattle.assumed.specs.Start.{itself, path_if_kept, read_brought_by, read_brought, Brings, all_of, so_far, FillsBy, EntersAll}
+use Rattle.assumed.specs.Start.{itself, path_if_kept, read_brought_by, read_brought, Brings, all_of, entered_so_far, FillsBy, EntersAll}
 
 -- By the mark that stands there.
 
@@ -95,12 +95,12 @@ module _ (x : Read (List ReactiveScopeDependency)) (s : List ℕ) (q : Brought) 
     record_entered start r ws os = subst (λ (y : Read (List ReactiveScopeDependency)). EntersAll y start r ws os) (sym of_fields)
 
   pub record_passed : {next : ℕ} → q ≡ Nothing next → (e r : EnteredSet) (ws os : List ℕ) → Held ws os → r.set ≡ e.set → r.made ≡ e.made → r.at ≡ next
-      → r.full ≡ false → EntersAll x (so_far (registry_of ws) e) r ws os
+      → r.full ≡ false → EntersAll x (entered_so_far (registry_of ws) e) r ws os
   record_passed {next} is e r ws os held set made place room =
-      let same : so_far (registry_of ws) e ≡ so_far (registry_of ws) r =
+      let same : entered_so_far (registry_of ws) e ≡ entered_so_far (registry_of ws) r =
       λ i. record { registry = registry_of ws; set = members_of (sym set i).words; made = sym made i } in
-      subst (λ (y : Read (List ReactiveScopeDependency)). EntersAll y (so_far (registry_of ws) e) r ws os) (sym (subst (Brings x s) is brings))
-      (subst (λ f. FillsBy f (so_far (registry_of ws) e) next r ws os) (sym room) (held, same, place))
+      subst (λ (y : Read (List ReactiveScopeDependency)). EntersAll y (entered_so_far (registry_of ws) e) r ws os) (sym (subst (Brings x s) is brings))
+      (subst (λ f. FillsBy f (entered_so_far (registry_of ws) e) next r ws os) (sym room) (held, same, place))
 
   pub never_brought : {B : Type 0} → q ≡ Never → B
   never_brought is = absurd (subst (Brings x s) is brings)

@@ -46,8 +46,8 @@ abbrev pub all_of : List (List ReactiveScopeDependency) → List ReactiveScopeDe
 all_of dss = concat_map (λ (ds : List ReactiveScopeDependency). ds) dss
 
 -- how far entering a block's paths has come, in a registry
-abbrev pub so_far : PropertyPathRegistry → EnteredSet → stage.PathsEntered
-so_far reg e = record { registry = reg; set = members_of e.set.words; made = e.made }
+abbrev pub entered_so_far : PropertyPathRegistry → EnteredSet → stage.PathsEntered
+entered_so_far reg e = record { registry = reg; set = members_of e.set.words; made = e.made }
 
 -- The words hold a registry, and what was made for a block's paths so far is among its nodes.
 pub record Entering (ws os : List ℕ) (e : EnteredSet) : Type 0 where
@@ -58,7 +58,7 @@ pub record Entering (ws os : List ℕ) (e : EnteredSet) : Type 0 where
 -- were made for them, and the place is the one after them; or that registry has no room.
 abbrev pub FillsBy : Bool → stage.PathsEntered → ℕ → EnteredSet → List ℕ → List ℕ → Type 0
 FillsBy true want end r ws os = node_limit < length want.registry
-FillsBy false want end r ws os = Held ws os × (want ≡ so_far (registry_of ws) r) × (r.at ≡ end)
+FillsBy false want end r ws os = Held ws os × (want ≡ entered_so_far (registry_of ws) r) × (r.at ≡ end)
 
 -- The same, by whether the code says that there was no room.
 abbrev pub Fills : stage.PathsEntered → ℕ → EnteredSet → List ℕ → List ℕ → Type 0

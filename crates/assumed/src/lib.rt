@@ -1,6 +1,7 @@
 // All assumed paths of a job entered into the registry, straight from its bytes, and each block's
 // set of them stored in its row: of the raw reads those that are kept, and then the ready paths.
 #![tactic(auto)]
+
 ghost use Rattle.std.specs.Prelude.{◌≡◌, true, false, ◌≤◌};
 ghost use Rattle.rows.specs.Rows.{Lent};
 ghost use Rattle.registry.specs.Words.{registry_of, Held, HoldsNone};
@@ -10,7 +11,7 @@ ghost use Rattle.model.specs.Answer.{span_width};
 ghost use Rattle.model.specs.Stage.{none_entered, start_of};
 ghost use Rattle.job.specs.Kept.{blocks_of, PlacedJob};
 ghost use Rattle.job.specs.Passing.{IsRead};
-ghost use Rattle.assumed.specs.Start.{itself, read_brought, Brings, all_of, so_far, Entering, EntersAll, Starts};
+ghost use Rattle.assumed.specs.Start.{itself, read_brought, Brings, all_of, entered_so_far, Entering, EntersAll, Starts};
 
 use fields::Passed;
 use job::{ReadBlockHead, ReadRawHead};
@@ -53,7 +54,7 @@ fn enter_fields(
 ) -> EnteredSet
     requires { Entering ws.old optional.old so_far × IsRead (read_path_fields span_width s.now at) }
     ensures { EntersAll (mapped itself (read_path_fields span_width s.now at))
-        (so_far (registry_of ws.old) so_far) result ws.new optional.new }
+        (entered_so_far (registry_of ws.old) so_far) result ws.new optional.new }
 {
     let entered = paths::enter_path(s, at, ws, optional);
     let EnteredPath::At(node, made_here, next) = entered else {
@@ -109,8 +110,8 @@ fn enter_record(
     so_far: EnteredSet,
 ) -> EnteredSet
     requires { Entering ws.old optional.old so_far × IsRead (read_brought s.now so_far.at) }
-    ensures { EntersAll (read_brought s.now so_far.at) (so_far (registry_of ws.old) so_far) result
-        ws.new optional.new }
+    ensures { EntersAll (read_brought s.now so_far.at) (entered_so_far (registry_of ws.old) so_far)
+        result ws.new optional.new }
 {
     let brought = brought_at(s, so_far.at);
     match brought {
@@ -139,7 +140,7 @@ fn enter_records(
     requires entering { Entering ws.old optional.old start × IsRead (read_many count read_brought s.now start.at) }
     requires full_value { start.full ≡ false }
     ensures { EntersAll (mapped all_of (read_many count read_brought s.now start.at))
-        (so_far (registry_of ws.old) start) result ws.new optional.new }
+        (entered_so_far (registry_of ws.old) start) result ws.new optional.new }
 {
     let mut so_far = start;
     let mut left = count;
