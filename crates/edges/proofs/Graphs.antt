@@ -11,8 +11,8 @@ use lib.ListN.{length, get_or, set, length-set}
 use lib.Seq.{get_or-set_same, get_or-set_other}
 use lib.Dec.{eqb, leb, ltb, le→leb, leb→le, lt→ltb}
 use Rattle.model.specs.Lists.{select, any_of}
-use Rattle.model.specs.ListLaws.{All, all_map, all_get_d}
-use Rattle.model.specs.Tests.{decide, passes_test, test_passes, and_first}
+use Rattle.model.specs.ListLaws.{All}
+use Rattle.model.specs.Tests.{decide, passes_test, test_passes}
 use Rattle.model.specs.Rounds.{places_from}
 use Rattle.rows.specs.Members.{bit}
 use Rattle.rows.proofs.Words.{zero_bit}
@@ -20,7 +20,7 @@ use Rattle.graph.specs.Bytes.{size_in, degree_in, predecessor_in, block_of_rank,
 use Rattle.graph.proofs.Neighbours.{none_among}
 use Rattle.edges.specs.Rows.{RowsFilled}
 use Rattle.edges.specs.Order.{order_from, Ordered}
-use Rattle.edges.specs.Successors.{RankFits, RanksFit, names_as_predecessor, AllMarked}
+use Rattle.edges.specs.Successors.{RanksFit, names_as_predecessor, AllMarked}
 use Rattle.edges.specs.Fills.{Blank}
 use Rattle.edges.proofs.Ordering.{order_more, map_same}
 

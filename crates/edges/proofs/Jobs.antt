@@ -301,6 +301,7 @@ module _ (s ids places : List ℕ) (n : ℕ) (job : NotedJob s ids places n) (g�
         }
       where
         all_below : (l : List ℕ) (i m : ℕ) → All (λ c. c < m) l → i < length l → get_or l i 0 < m
+        all_below [] i m a h = elim h [ ]
         all_below (x ∷ l) zero m a h = a.0
         all_below (x ∷ l) (suc i) m a h = all_below l i m a.1 (omega arith)
 

@@ -1,5 +1,5 @@
 -- The successors of blocks as bits, by rank.
-use Rattle.std.specs.Prelude.{ℕ, ◌+◌, ◌*◌, ◌-◌, ◌≤◌, ◌<◌, ◌≡◌, ◌⊎◌, Bool, ◌&&◌, ◌||◌, List, length, get_or, eqb, leb, ltb}
+use Rattle.std.specs.Prelude.{ℕ, ◌+◌, ◌-◌, ◌≤◌, ◌<◌, ◌≡◌, ◌⊎◌, Bool, ◌&&◌, ◌||◌, List, length, get_or, eqb, leb, ltb}
 use Rattle.model.specs.Lists.{any_of}
 use Rattle.graph.specs.Bytes.{degree_in, predecessor_in, block_of_rank, is_successor, predecessors_from, RoomFor}
 
