@@ -1,6 +1,7 @@
 // The operations on a job's bytes: its answer and its sheet, by the existing propagation or by the
 // strict one, and its thin job, written into an out buffer, or the refusal.
 #![tactic(auto)]
+
 ghost use Rattle.std.specs.Prelude.{◌≡◌, ◌≤◌, ◌<◌, length};
 ghost use Rattle.model.specs.Answer.{least_buffer, answer_of, sheet_of, buffer_after, number_returned};
 ghost use Rattle.model.specs.Thin.{thin_of};
