@@ -24,32 +24,32 @@ loop-k-preserved-then-left-eq0 c =
 pub leads_back-requires : goal.leads_back-requires
 leads_back-requires c = (
   c.requires.0,
-  (going_at c.loop-k.invariant _ ((let ws = c.args.snapshot.words in
+  (going_at c.loop-k.invariant _ (let ws = c.args.snapshot.words in
       let k = c.loop-k.k in
       let w : Fits w64 (get_or ws (k / 64) 0) = search rules in
-      member_found ws k c.loop-k-test.true w.fits (omega arith)))).inside.0,
+      member_found ws k c.loop-k-test.true w.fits (omega arith))).inside.0,
 )
 
 pub loop-k-preserved : goal.loop-k-preserved
 loop-k-preserved c =
     let size = registry_length c.args.ws.now in
-    let inside = (going_at c.loop-k.invariant _ ((let ws = c.args.snapshot.words in
+    let inside = (going_at c.loop-k.invariant _ (let ws = c.args.snapshot.words in
     let k = c.loop-k.k in
     let w : Fits w64 (get_or ws (k / 64) 0) = search rules in
-    member_found ws k c.loop-k-test.true w.fits (omega arith)))).inside.0 in
-    going_back c.loop-k.invariant _ ((let ws = c.args.snapshot.words in
+    member_found ws k c.loop-k-test.true w.fits (omega arith))).inside.0 in
+    going_back c.loop-k.invariant _ (let ws = c.args.snapshot.words in
     let k = c.loop-k.k in
     let w : Fits w64 (get_or ws (k / 64) 0) = search rules in
-    member_found ws k c.loop-k-test.true w.fits (omega arith)))
+    member_found ws k c.loop-k-test.true w.fits (omega arith))
     (node_back (members_of c.args.set.now) (registry_of c.args.ws.now) _ c.requires.0.sound (omega arith)
     (sym c.leads_back.ensures ∙ c.if-leads_back.true))
 
 pub returns-else-leads_back : goal.returns-else-leads_back
 returns-else-leads_back c =
-    going_at c.loop-k.invariant _ ((let ws = c.args.snapshot.words in
+    going_at c.loop-k.invariant _ (let ws = c.args.snapshot.words in
     let k = c.loop-k.k in
     let w : Fits w64 (get_or ws (k / 64) 0) = search rules in
-    member_found ws k c.loop-k-test.true w.fits (omega arith)))
+    member_found ws k c.loop-k-test.true w.fits (omega arith))
 
 pub returns : goal.returns
 returns c =

@@ -25,15 +25,15 @@ returns-in_default c =
 pub reduce_node-r-requires : goal.reduce_node-r-requires
 reduce_node-r-requires c = (
   c.loop-from.invariant.held,
-  ((subst (GoesOn c.loop-from.ws (members_of c.loop-from.r.set.words) c.intersection-snapshot.result.words c.loop-from.from)
-      c.in-At.is c.next_to_reduce.ensures)).inside.0,
+  (subst (GoesOn c.loop-from.ws (members_of c.loop-from.r.set.words) c.intersection-snapshot.result.words c.loop-from.from)
+      c.in-At.is c.next_to_reduce.ensures).inside.0,
 )
 
 pub returns-then-r : goal.returns-then-r
 returns-then-r c =
     let r = c.reduce_node-r in
-    along_full c.loop-from.invariant _ ((subst (GoesOn c.loop-from.ws (members_of c.loop-from.r.set.words) c.intersection-snapshot.result.words c.loop-from.from)
-    c.in-At.is c.next_to_reduce.ensures)) r.result r.new.ws r.new.optional c.if-r.true r.ensures
+    along_full c.loop-from.invariant _ (subst (GoesOn c.loop-from.ws (members_of c.loop-from.r.set.words) c.intersection-snapshot.result.words c.loop-from.from)
+    c.in-At.is c.next_to_reduce.ensures) r.result r.new.ws r.new.optional c.if-r.true r.ensures
 
 pub loop-from-smaller : goal.loop-from-smaller
 loop-from-smaller c =
@@ -46,8 +46,8 @@ loop-from-smaller c =
 pub loop-from-preserved : goal.loop-from-preserved
 loop-from-preserved c =
     let r = c.reduce_node-r in
-    along_more c.loop-from.invariant _ ((subst (GoesOn c.loop-from.ws (members_of c.loop-from.r.set.words) c.intersection-snapshot.result.words c.loop-from.from)
-    c.in-At.is c.next_to_reduce.ensures)) r.result r.new.ws r.new.optional c.if-r.false r.ensures
+    along_more c.loop-from.invariant _ (subst (GoesOn c.loop-from.ws (members_of c.loop-from.r.set.words) c.intersection-snapshot.result.words c.loop-from.from)
+    c.in-At.is c.next_to_reduce.ensures) r.result r.new.ws r.new.optional c.if-r.false r.ensures
 
 pub returns : goal.returns
 returns c =

@@ -41,8 +41,8 @@ overflow_add-place c =
 
 pub overflow_add-place-in-loop-left : goal.overflow_add-place-in-loop-left
 overflow_add-place-in-loop-left c =
-    let place = ((let x = c.requires in
-    entries_small c.loop-left.invariant c.loop-left-test.true (seen got_path_head c.path_head_at-field.ensures c.in-Value-field.is) x)).0 in
-    let count = ((let x = c.requires in
-    entries_small c.loop-left.invariant c.loop-left-test.true (seen got_path_head c.path_head_at-field.ensures c.in-Value-field.is) x)).1 in
+    let place = (let x = c.requires in
+    entries_small c.loop-left.invariant c.loop-left-test.true (seen got_path_head c.path_head_at-field.ensures c.in-Value-field.is) x).0 in
+    let count = (let x = c.requires in
+    entries_small c.loop-left.invariant c.loop-left-test.true (seen got_path_head c.path_head_at-field.ensures c.in-Value-field.is) x).1 in
     search rules

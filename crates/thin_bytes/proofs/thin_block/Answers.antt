@@ -29,30 +29,56 @@ returns-in_default-reads c =
 
 pub thin_paths-paths-requires : goal.thin_paths-paths-requires
 thin_paths-paths-requires c =
-    paths_wanted c.requires ((all_bytes c.args.s.now (λ j. let fits = c.shared_slice_known-1.given j in omega arith))) ((seen got_block_head c.block_head_at-head_field.ensures c.in-Value.is)) ((seen got_place c.past_ids-ids.ensures c.in-To.is)) ((seen got_place c.past_raw_reads-reads.ensures c.in-To-reads.is))
+    let bytes = all_bytes c.args.s.now (λ j. let fits = c.shared_slice_known-1.given j in omega arith) in
+    let head = seen got_block_head c.block_head_at-head_field.ensures c.in-Value.is in
+    let past = seen got_place c.past_ids-ids.ensures c.in-To.is in
+    let past_reads = seen got_place c.past_raw_reads-reads.ensures c.in-To-reads.is in
+    paths_wanted c.requires bytes head past past_reads
 
 pub put_recounted-requires : goal.put_recounted-requires
 put_recounted-requires c =
-    count_wanted c.requires ((all_bytes c.args.s.now (λ j. let fits = c.shared_slice_known-1.given j in omega arith))) ((seen got_block_head c.block_head_at-head_field.ensures c.in-Value.is)) ((seen got_place c.past_ids-ids.ensures c.in-To.is)) ((seen got_place c.past_raw_reads-reads.ensures c.in-To-reads.is)) c.thin_paths-paths.ensures
+    let bytes = all_bytes c.args.s.now (λ j. let fits = c.shared_slice_known-1.given j in omega arith) in
+    let head = seen got_block_head c.block_head_at-head_field.ensures c.in-Value.is in
+    let past = seen got_place c.past_ids-ids.ensures c.in-To.is in
+    let past_reads = seen got_place c.past_raw_reads-reads.ensures c.in-To-reads.is in
+    count_wanted c.requires bytes head past past_reads c.thin_paths-paths.ensures
 
 pub returns : goal.returns
 returns c =
-    let fits = count_wanted c.requires ((all_bytes c.args.s.now (λ j. let fits = c.shared_slice_known-1.given j in omega arith))) ((seen got_block_head c.block_head_at-head_field.ensures c.in-Value.is)) ((seen got_place c.past_ids-ids.ensures c.in-To.is)) ((seen got_place c.past_raw_reads-reads.ensures c.in-To-reads.is)) c.thin_paths-paths.ensures in
+    let bytes = all_bytes c.args.s.now (λ j. let fits = c.shared_slice_known-1.given j in omega arith) in
+    let head = seen got_block_head c.block_head_at-head_field.ensures c.in-Value.is in
+    let past = seen got_place c.past_ids-ids.ensures c.in-To.is in
+    let past_reads = seen got_place c.past_raw_reads-reads.ensures c.in-To-reads.is in
+    let fits = count_wanted c.requires bytes head past past_reads c.thin_paths-paths.ensures in
     let paths = c.thin_paths-paths.ensures in
     record {
-      is = λ b next read. block_thinned c.args.s.now c.args.at read ((all_bytes c.args.s.now (λ j. let fits = c.shared_slice_known-1.given j in omega arith))) ((seen got_block_head c.block_head_at-head_field.ensures c.in-Value.is)) ((seen got_place c.past_ids-ids.ensures c.in-To.is)) ((seen got_place c.past_raw_reads-reads.ensures c.in-To-reads.is)) fits paths
+      is = λ b next read. block_thinned c.args.s.now c.args.at read bytes head past past_reads fits paths
           c.put_recounted.ensures;
     }
 
 pub overflow_sub-paths_at : goal.overflow_sub-paths_at
-overflow_sub-paths_at c = let low = ((before_paths c.requires ((all_bytes c.args.s.now (λ j. let fits = c.shared_slice_known-1.given j in omega arith))) ((seen got_block_head c.block_head_at-head_field.ensures c.in-Value.is)) ((seen got_place c.past_ids-ids.ensures c.in-To.is)) ((seen got_place c.past_raw_reads-reads.ensures c.in-To-reads.is)))).0 in search rules
+overflow_sub-paths_at c =
+    let bytes = all_bytes c.args.s.now (λ j. let fits = c.shared_slice_known-1.given j in omega arith) in
+    let head = seen got_block_head c.block_head_at-head_field.ensures c.in-Value.is in
+    let past = seen got_place c.past_ids-ids.ensures c.in-To.is in
+    let past_reads = seen got_place c.past_raw_reads-reads.ensures c.in-To-reads.is in
+    let low = (before_paths c.requires bytes head past past_reads).0 in search rules
 
 pub overflow_add-to : goal.overflow_add-to
-overflow_add-to c = let room = ((before_paths c.requires ((all_bytes c.args.s.now (λ j. let fits = c.shared_slice_known-1.given j in omega arith))) ((seen got_block_head c.block_head_at-head_field.ensures c.in-Value.is)) ((seen got_place c.past_ids-ids.ensures c.in-To.is)) ((seen got_place c.past_raw_reads-reads.ensures c.in-To-reads.is)))).2 in search rules
+overflow_add-to c =
+    let bytes = all_bytes c.args.s.now (λ j. let fits = c.shared_slice_known-1.given j in omega arith) in
+    let head = seen got_block_head c.block_head_at-head_field.ensures c.in-Value.is in
+    let past = seen got_place c.past_ids-ids.ensures c.in-To.is in
+    let past_reads = seen got_place c.past_raw_reads-reads.ensures c.in-To-reads.is in
+    let room = (before_paths c.requires bytes head past past_reads).2 in search rules
 
 pub overflow_add-at : goal.overflow_add-at
 overflow_add-at c =
-    let there = (before_paths c.requires ((all_bytes c.args.s.now (λ j. let fits = c.shared_slice_known-1.given j in omega arith))) ((seen got_block_head c.block_head_at-head_field.ensures c.in-Value.is)) ((seen got_place c.past_ids-ids.ensures c.in-To.is)) ((seen got_place c.past_raw_reads-reads.ensures c.in-To-reads.is))) in
+    let bytes = all_bytes c.args.s.now (λ j. let fits = c.shared_slice_known-1.given j in omega arith) in
+    let head = seen got_block_head c.block_head_at-head_field.ensures c.in-Value.is in
+    let past = seen got_place c.past_ids-ids.ensures c.in-To.is in
+    let past_reads = seen got_place c.past_raw_reads-reads.ensures c.in-To-reads.is in
+    let there = (before_paths c.requires bytes head past past_reads) in
     let low = there.0 in
     let high = there.1 in
     search rules
