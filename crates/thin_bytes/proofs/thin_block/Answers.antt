@@ -29,7 +29,7 @@ returns-in_default-reads c =
 
 pub thin_paths-paths-requires : goal.thin_paths-paths-requires
 thin_paths-paths-requires c =
-    let bytes = all_bytes c.args.s.now (λ j. let fits = c.shared_slice_known-1.given j in omega arith) in
+    let bytes = all_bytes c.args.s.now (λ j. let fits = (c.type_inv.s j).fits in omega arith) in
     let head = seen got_block_head c.block_head_at-head_field.ensures c.in-Value.is in
     let past = seen got_place c.past_ids-ids.ensures c.in-To.is in
     let past_reads = seen got_place c.past_raw_reads-reads.ensures c.in-To-reads.is in
@@ -37,7 +37,7 @@ thin_paths-paths-requires c =
 
 pub put_recounted-requires : goal.put_recounted-requires
 put_recounted-requires c =
-    let bytes = all_bytes c.args.s.now (λ j. let fits = c.shared_slice_known-1.given j in omega arith) in
+    let bytes = all_bytes c.args.s.now (λ j. let fits = (c.type_inv.s j).fits in omega arith) in
     let head = seen got_block_head c.block_head_at-head_field.ensures c.in-Value.is in
     let past = seen got_place c.past_ids-ids.ensures c.in-To.is in
     let past_reads = seen got_place c.past_raw_reads-reads.ensures c.in-To-reads.is in
@@ -45,7 +45,7 @@ put_recounted-requires c =
 
 pub returns : goal.returns
 returns c =
-    let bytes = all_bytes c.args.s.now (λ j. let fits = c.shared_slice_known-1.given j in omega arith) in
+    let bytes = all_bytes c.args.s.now (λ j. let fits = (c.type_inv.s j).fits in omega arith) in
     let head = seen got_block_head c.block_head_at-head_field.ensures c.in-Value.is in
     let past = seen got_place c.past_ids-ids.ensures c.in-To.is in
     let past_reads = seen got_place c.past_raw_reads-reads.ensures c.in-To-reads.is in
@@ -58,7 +58,7 @@ returns c =
 
 pub overflow_sub-paths_at : goal.overflow_sub-paths_at
 overflow_sub-paths_at c =
-    let bytes = all_bytes c.args.s.now (λ j. let fits = c.shared_slice_known-1.given j in omega arith) in
+    let bytes = all_bytes c.args.s.now (λ j. let fits = (c.type_inv.s j).fits in omega arith) in
     let head = seen got_block_head c.block_head_at-head_field.ensures c.in-Value.is in
     let past = seen got_place c.past_ids-ids.ensures c.in-To.is in
     let past_reads = seen got_place c.past_raw_reads-reads.ensures c.in-To-reads.is in
@@ -66,7 +66,7 @@ overflow_sub-paths_at c =
 
 pub overflow_add-to : goal.overflow_add-to
 overflow_add-to c =
-    let bytes = all_bytes c.args.s.now (λ j. let fits = c.shared_slice_known-1.given j in omega arith) in
+    let bytes = all_bytes c.args.s.now (λ j. let fits = (c.type_inv.s j).fits in omega arith) in
     let head = seen got_block_head c.block_head_at-head_field.ensures c.in-Value.is in
     let past = seen got_place c.past_ids-ids.ensures c.in-To.is in
     let past_reads = seen got_place c.past_raw_reads-reads.ensures c.in-To-reads.is in
@@ -74,7 +74,7 @@ overflow_add-to c =
 
 pub overflow_add-at : goal.overflow_add-at
 overflow_add-at c =
-    let bytes = all_bytes c.args.s.now (λ j. let fits = c.shared_slice_known-1.given j in omega arith) in
+    let bytes = all_bytes c.args.s.now (λ j. let fits = (c.type_inv.s j).fits in omega arith) in
     let head = seen got_block_head c.block_head_at-head_field.ensures c.in-Value.is in
     let past = seen got_place c.past_ids-ids.ensures c.in-To.is in
     let past_reads = seen got_place c.past_raw_reads-reads.ensures c.in-To-reads.is in

@@ -23,11 +23,11 @@ returns-then-is_repeat c =
 pub put_bytes-end-requires : goal.put_bytes-end-requires
 put_bytes-end-requires c =
     let past = seen got_place c.past_path-past.ensures c.in-To.is in
-    let bytes = all_bytes c.args.s.now (λ i. let fits = c.shared_slice_known-1.given i in omega arith) in
+    let bytes = all_bytes c.args.s.now (λ i. let fits = (c.type_inv.s i).fits in omega arith) in
     (next_within c.requires past bytes, next_room c.requires past bytes)
 
 pub returns : goal.returns
 returns c =
     let past = seen got_place c.past_path-past.ensures c.in-To.is in
-    let bytes = all_bytes c.args.s.now (λ i. let fits = c.shared_slice_known-1.given i in omega arith) in
+    let bytes = all_bytes c.args.s.now (λ i. let fits = (c.type_inv.s i).fits in omega arith) in
     path_kept c.requires past bytes (subst (Repeats _ _ _ _) c.if-is_repeat.false c.is_repeat.ensures) c.put_bytes-end.ensures
