@@ -12,9 +12,10 @@ use Rattle.model.specs.ReadingBytes.{Read, mapped}
 use Rattle.model.specs.Job.{Block, assumed_of, read_block}
 use Rattle.model.specs.Sets.{NodeSet}
 use Rattle.model.specs.Registry.{node_limit, PropertyPathRegistry}
-use Rattle.model.specs.RegistryLaws.{Extends, extends_refl, extends_trans, extends_length}
+use Rattle.model.specs.RegistryLaws.{Extends}
+use Rattle.model.proofs.RegistryLaws.{extends_refl, extends_trans, extends_length}
 use Rattle.model.specs.Stage.{PathsEntered, Started, none_entered, enter_block, enter_blocks, start_of}
-use Rattle.model.specs.PropagationLaws.{paths_longer}
+use Rattle.model.proofs.PropagationLaws.{paths_longer}
 use Rattle.registry.specs.Words.{registry_of, Held}
 use Rattle.registry.proofs.View.{registry_length}
 use Rattle.rows.specs.Members.{members_of}

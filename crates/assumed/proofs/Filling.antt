@@ -11,9 +11,10 @@ use Rattle.entries.specs.Path.{ReactiveScopeDependency}
 use Rattle.model.specs.ReadingBytes.{Read, got, refused, mapped, read_many}
 use Rattle.model.specs.Sets.{insert}
 use Rattle.model.specs.Registry.{node_limit, PropertyPathRegistry, Reached, own_mark, get_or_create_property}
-use Rattle.model.specs.RegistryLaws.{Extends, extends_refl, extends_trans, extends_length, path_extends, property_longer, path_proper}
+use Rattle.model.specs.RegistryLaws.{Extends}
+use Rattle.model.proofs.RegistryLaws.{extends_refl, extends_trans, extends_length, path_extends, property_longer, path_proper}
 use Rattle.model.specs.Stage.{PathsEntered, enter_path, enter_paths}
-use Rattle.model.specs.PropagationLaws.{paths_append, paths_longer}
+use Rattle.model.proofs.PropagationLaws.{paths_append, paths_longer}
 use Rattle.registry.specs.Words.{registry_of, Held}
 use Rattle.registry.proofs.View.{registry_length}
 use Rattle.rows.specs.Members.{members_of}

@@ -17,7 +17,7 @@ use Rattle.model.specs.Strict.{strict_answer_of, strict_answer_program}
 use Rattle.model.specs.Job.{HD}
 use Rattle.safety.specs.Runs.{WithoutLoops}
 use Rattle.safety.specs.Statement.{AnyBlocks, AnswerMeetsDemand3}
-use Rattle.safety.specs.Demand3.{demand_3, strict_demand_3}
+use Rattle.safety.proofs.Demand3.{demand_3, strict_demand_3}
 use Rattle.stage.specs.declared.Outcome.TheVariants.{Written}
 use Rattle.stage.specs.Jobs.{Meets}
 use Rattle.corollaries.specs.Leaves.{outcome-holds, number-holds, output-holds}

@@ -20,7 +20,7 @@ use Rattle.model.specs.Answer.{
 use Rattle.model.specs.Strict.{strict_answer_of, strict_answer_program, strict_sheet_of, strict_sheet_program}
 use Rattle.laws.specs.Fits.{HoldsIfRead}
 use Rattle.safety.specs.Runs.{WithoutLoops}
-use Rattle.safety.specs.StrictSame.{strict_same}
+use Rattle.safety.proofs.StrictSame.{strict_same}
 use Rattle.stage.specs.declared.Outcome.{Outcome}
 use Rattle.stage.specs.Jobs.{outcome_of, Meets}
 

@@ -14,7 +14,7 @@ use Rattle.entries.specs.declared.PropertyAccessType.TheVariants.{
 use Rattle.entries.specs.Path.{same_entry, are_equal_paths, ReactiveScopeDependency}
 use Rattle.entries.specs.Access.{is_optional_access, is_dependency_access, merge_access}
 use Rattle.model.specs.Tests.{by_cond, never, eqb-true, and_first, and_second}
-use Rattle.model.specs.RegistryLaws.{entry_property, entry_optional}
+use Rattle.model.proofs.RegistryLaws.{entry_property, entry_optional}
 use Rattle.model.specs.Forest.{Key, identifier_key, property_key, same_key, Forest, empty, position, Found, find_key, child_by_key, add, add_all}
 use Rattle.model.specs.Tree.{
   HoistablePosition,

@@ -5,7 +5,7 @@ use Rattle.std.proofs.Common.{arith, ap, subst, ◌∙◌}
 use Rattle.model.specs.Lists.{any_of, count_of}
 use Rattle.model.specs.Tests.{by_cond, decide, never, eqb_same, eqb-true}
 use Rattle.model.specs.ListLaws.{All, all_map, all_append}
-use Rattle.model.specs.RegistryLaws.{property_same, property_true}
+use Rattle.model.proofs.RegistryLaws.{property_same, property_true}
 use Rattle.model.specs.Forest.{Key, identifier_key, property_key, same_key, Forest, empty, position, chain, add, add_all, firsts}
 use Rattle.laws.specs.Membership.{all_of_map}
 use Rattle.laws.specs.CountLaws.{count_append, count_none, count_map}

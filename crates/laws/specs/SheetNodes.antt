@@ -5,10 +5,12 @@ use Rattle.std.specs.Prelude.{ℕ, ◌≤◌, ◌≡◌, List, ◌++◌, length}
 use Rattle.std.proofs.Common.{arith, ap, ◌∙◌}
 use Rattle.model.specs.Lists.{concat_map}
 use Rattle.model.specs.Registry.{node_limit}
-use Rattle.model.specs.RegistryLaws.{Extends, extends_length}
+use Rattle.model.specs.RegistryLaws.{Extends}
+use Rattle.model.proofs.RegistryLaws.{extends_length}
 use Rattle.model.specs.Reduction.{reduce_maybe_optional_chains}
 use Rattle.model.specs.Propagation.{JoiningRule}
-use Rattle.model.specs.PropagationLaws.{OnlyReduced, propagated_extends, propagated_reduces}
+use Rattle.model.specs.PropagationLaws.{OnlyReduced}
+use Rattle.model.proofs.PropagationLaws.{propagated_extends, propagated_reduces}
 use Rattle.model.specs.ReadingBytes.{got, read_u16}
 use Rattle.model.specs.Job.{Job, read_job}
 use Rattle.model.specs.Stage.{start_of, propagated}

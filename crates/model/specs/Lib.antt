@@ -29,9 +29,7 @@ pub mod Tests
 pub mod ListLaws
 pub mod SetLaws
 pub mod RegistryLaws
-pub mod EnteredAgain
 pub mod ReductionLaws
 pub mod VisitLaws
 pub mod RoundsLaws
 pub mod PropagationLaws
-pub mod StrictLaws

@@ -19,7 +19,7 @@ use Rattle.job.proofs.Many.{many_first}
 use Rattle.job.proofs.Passing.{not_both, mapped_got}
 use Rattle.model.specs.Registry.{node_limit, PropertyPathRegistry, Reached, full_path_of, is_root_for, is_child_by, root_node, child_node, walk_from, own_mark}
 use Rattle.model.specs.Registry.{get_or_create_identifier, get_or_create_property_entry, after_making, get_or_create_property}
-use Rattle.model.specs.RegistryLaws.{entry_same, extends_length, makes_longer, reached_inside, walk_extends}
+use Rattle.model.proofs.RegistryLaws.{entry_same, extends_length, makes_longer, reached_inside, walk_extends}
 use Rattle.model.specs.Tests.{eqb_same}
 use Rattle.registry.specs.declared.NodeEntered.{NodeEntered}
 use Rattle.registry.specs.declared.NodeEntered.TheVariants as entered

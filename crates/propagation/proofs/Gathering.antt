@@ -15,7 +15,7 @@ use Rattle.model.specs.Tests.{by_cond, decide}
 use Rattle.model.specs.Visit.{TraversalState, Unmarked, is_done}
 use Rattle.model.specs.Propagation.{set_of, done_neighbours, intersection_of}
 use Rattle.model.specs.Strict.{all_done, strict_neighbours}
-use Rattle.model.specs.StrictLaws.{strict_joins, strict_none}
+use Rattle.model.proofs.StrictLaws.{strict_joins, strict_none}
 use Rattle.rows.specs.Rows.{Lent, row_of, rows_of}
 use Rattle.rows.proofs.Rows.{row_at}
 use Rattle.graph.specs.Bytes.{size_in, neighbours_from, neighbours, NeighboursOnce, Next}

@@ -10,9 +10,11 @@ use Rattle.model.specs.ListLaws.{All}
 use Rattle.model.specs.Sets.{NodeSet, union, same_set}
 use Rattle.model.specs.Registry.{node_limit}
 use Rattle.model.specs.Reduction.{Reduced, reduce_maybe_optional_chains}
-use Rattle.model.specs.ReductionLaws.{Members, IsReduced, reduced_already}
+use Rattle.model.specs.ReductionLaws.{Members, IsReduced}
+use Rattle.model.proofs.ReductionLaws.{reduced_already}
 use Rattle.model.specs.Propagation.{Work, set_of, JoiningRule, intersection_of, join_with, join}
-use Rattle.model.specs.PropagationLaws.{ProperWork, joined_set, members_set_of, members_joined, join_proper}
+use Rattle.model.specs.PropagationLaws.{ProperWork, joined_set}
+use Rattle.model.proofs.PropagationLaws.{members_set_of, members_joined, join_proper}
 use Rattle.rows.specs.Members.{members_of}
 use Rattle.rows.specs.Rows.{row_of, rows_of, RowSet}
 use Rattle.rows.proofs.Rows.{row_at, rows_count}

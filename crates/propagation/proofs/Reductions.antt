@@ -7,7 +7,8 @@ use mathlib.Core.List.{List}
 use Rattle.model.specs.Visit.{TraversalState}
 use Rattle.model.specs.RoundsLaws as laws
 use Rattle.model.specs.Propagation.{Work, JoiningRule, join}
-use Rattle.model.specs.PropagationLaws.{ProperWork, join_proper, ReducedAt, join_reduces, join_keeps_reduced}
+use Rattle.model.specs.PropagationLaws.{ProperWork, ReducedAt}
+use Rattle.model.proofs.PropagationLaws.{join_proper, join_reduces, join_keeps_reduced}
 use Rattle.graph.specs.Bytes.{size_in, neighbours}
 use Rattle.propagation.specs.Joins.{work_of, join_in, RowsStand, Ready, AllReduced}
 use Rattle.propagation.specs.Order.{order_of}

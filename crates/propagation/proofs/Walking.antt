@@ -7,12 +7,12 @@ use mathlib.Core.List.{List, [], ◌∷◌, map}
 use lib.ListN.{length, get_or, get_or-map}
 use Rattle.model.specs.ListLaws.{All, select_same}
 use Rattle.model.specs.Registry.{node_limit}
-use Rattle.model.specs.RegistryLaws.{extends_length}
+use Rattle.model.proofs.RegistryLaws.{extends_length}
 use Rattle.model.specs.Visit.{TraversalState, Unmarked, Active, Done, is_done}
 use Rattle.model.specs.VisitLaws.{Preorder}
 use Rattle.model.specs.RoundsLaws.{walk_does}
 use Rattle.model.specs.Propagation.{Work, JoiningRule, done_neighbours, join_with, join}
-use Rattle.model.specs.PropagationLaws.{join_extends}
+use Rattle.model.proofs.PropagationLaws.{join_extends}
 use Rattle.model.specs.Reduction.{reduce_maybe_optional_chains}
 use Rattle.model.specs.Strict.{all_done, strict_neighbours}
 use Rattle.laws.specs.WalkSteps.{only_done, Step, take_steps, walk_steps}

@@ -18,9 +18,11 @@ use Rattle.model.specs.ListLaws.{All, all_map, all_select, select_same}
 use Rattle.model.specs.Tests.{eqb_same, eqb_apart}
 use Rattle.model.specs.Sets.{NodeSet, same_node, contains, insert, remove, intersection}
 use Rattle.model.specs.Registry.{node_limit, PropertyPathRegistry, Reached, full_path_of, walk_path}
-use Rattle.model.specs.RegistryLaws.{Sound, Proper, Extends, extends_length, path_proper}
+use Rattle.model.specs.RegistryLaws.{Sound, Proper, Extends}
+use Rattle.model.proofs.RegistryLaws.{extends_length, path_proper}
 use Rattle.model.specs.Reduction.{PassState, reduced_mark, reduce_node, reduce_nodes, has_optional, pass}
-use Rattle.model.specs.ReductionLaws.{Members, LeadsBack, node_still, node_extends, nodes_extend}
+use Rattle.model.specs.ReductionLaws.{Members, LeadsBack}
+use Rattle.model.proofs.ReductionLaws.{node_still, node_extends, nodes_extend}
 use Rattle.reduction.specs.declared.PassSet.{PassSet}
 use Rattle.reduction.specs.Reduces.{pass_over, NextIs, GoesOn, pass_of, PassesBy, Passes}
 

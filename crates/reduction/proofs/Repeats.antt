@@ -11,10 +11,11 @@ use Rattle.registry.specs.Words.{registry_of, Held}
 use Rattle.model.specs.Tests.{decide}
 use Rattle.model.specs.Sets.{NodeSet}
 use Rattle.model.specs.Registry.{node_limit, PropertyPathRegistry}
-use Rattle.model.specs.RegistryLaws.{Extends, extends_length}
+use Rattle.model.specs.RegistryLaws.{Extends}
+use Rattle.model.proofs.RegistryLaws.{extends_length}
 use Rattle.model.specs.Reduction.{PassState, Reduced, left_by, pass, optional_marks_of, reduce_maybe_optional_chains}
-use Rattle.model.specs.ReductionLaws.{
-  Members,
+use Rattle.model.specs.ReductionLaws.{Members}
+use Rattle.model.proofs.ReductionLaws.{
   members_extends,
   pass_extends,
   pass_shrunk,

@@ -20,14 +20,12 @@ use Rattle.registry.specs.Words.{stored_node, count_in, registry_of, Held, Arriv
 use Rattle.registry.proofs.View.{registry_length, origin_at}
 use Rattle.model.specs.Registry.{node_limit, PropertyPathRegistry, PropertyPathNode, Reached, Origin, child_of, find, find_or_make, full_path_of, with_optional, after_making, step_from, get_or_create_property_entry, is_child, is_child_by, child_node, walk_path}
 use Rattle.model.specs.RegistryLaws as Placed
-use Rattle.model.specs.RegistryLaws.{
+use Rattle.model.specs.RegistryLaws.{Sound, Proper, Extends}
+use Rattle.model.proofs.RegistryLaws.{
   WasFound,
   WasMade,
   found_or_made,
   entry_optional,
-  Sound,
-  Proper,
-  Extends,
   extends_length,
   find_extends,
   ensure_extends,
@@ -43,7 +41,8 @@ use Rattle.model.specs.RegistryLaws.{
 }
 use Rattle.model.specs.Sets.{NodeSet, same_node}
 use Rattle.model.specs.Reduction.{reduced_mark}
-use Rattle.model.specs.ReductionLaws.{LeadsBack, node_back}
+use Rattle.model.specs.ReductionLaws.{LeadsBack}
+use Rattle.model.proofs.ReductionLaws.{node_back}
 use Rattle.model.specs.Tests.{decide, never, beq_same, eqb_same, eqb-true, and_first, and_second}
 use Rattle.reduction.specs.Reduces.{ChildAt, leads_back}
 

@@ -14,7 +14,8 @@ use Rattle.model.specs.Tests.{decide, eqb_same, eqb-true, eqb-false, or_swap}
 use Rattle.model.specs.Sets.{NodeSet, same_node, contains}
 use Rattle.model.specs.SetLaws.{contains_inserted}
 use Rattle.model.specs.Registry.{PropertyPathRegistry, PropertyPathNode, full_path_of}
-use Rattle.model.specs.RegistryLaws.{node_at, Sound, sound_empty}
+use Rattle.model.specs.RegistryLaws.{node_at, Sound}
+use Rattle.model.proofs.RegistryLaws.{sound_empty}
 use Rattle.model.specs.Reduction.{has_optional}
 use Rattle.rows.specs.Members.{members_of}
 use Rattle.rows.proofs.Members.{no_members}

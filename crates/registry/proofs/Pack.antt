@@ -11,7 +11,7 @@ use Rattle.entries.specs.declared.DependencyPathEntry.{DependencyPathEntry}
 use Rattle.entries.specs.Path.{same_entry}
 use Rattle.model.specs.Tests.{never, eqb_same, eqb_equal, eqb-true, eqb_apart, beq_same, and_first, and_second, flag_is}
 use Rattle.model.specs.Registry.{root_mark}
-use Rattle.model.specs.RegistryLaws.{property_same, entry_property, entry_optional}
+use Rattle.model.proofs.RegistryLaws.{property_same, entry_property, entry_optional}
 use Rattle.model.specs.Sets.{NodeSet}
 use Rattle.entries.specs.Property.{property_of, is_number, value_of, property_back}
 use Rattle.model.specs.Answer.{flag}

@@ -12,7 +12,8 @@ use Rattle.entries.specs.declared.NodeId.{NodeId}
 use Rattle.entries.specs.Path.{same_entry, ReactiveScopeDependency}
 use Rattle.model.specs.Tests.{never, eqb-true, and_first, and_second}
 use Rattle.model.specs.Registry.{node_limit, Origin, root, child_of, PropertyPathNode, PropertyPathRegistry, is_root_for, is_child, is_child_by, find, Reached}
-use Rattle.model.specs.RegistryLaws.{found_or_made, WasFound, WasMade, StandsAt, Sound, root_reached, child_reached, entry_property, entry_optional}
+use Rattle.model.specs.RegistryLaws.{StandsAt, Sound}
+use Rattle.model.proofs.RegistryLaws.{found_or_made, WasFound, WasMade, root_reached, child_reached, entry_property, entry_optional}
 use Rattle.model.specs.RegistryLaws as Placed
 use Rattle.registry.specs.declared.Node.{Node}
 use Rattle.registry.specs.declared.Node.TheVariants.{Root, Child}

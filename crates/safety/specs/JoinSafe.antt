@@ -11,7 +11,7 @@ use Rattle.model.specs.Propagation.{Work, set_of, intersection_of, join_with}
 use Rattle.model.specs.ListLaws.{All, all_select}
 use Rattle.model.specs.SetLaws.{union_all, contains_all}
 use Rattle.model.specs.RegistryLaws.{Sound}
-use Rattle.model.specs.ReductionLaws.{reduction_extends, reduction_sound}
+use Rattle.model.proofs.ReductionLaws.{reduction_extends, reduction_sound}
 use Rattle.model.specs.PropagationLaws.{joined_set}
 use Rattle.laws.specs.Membership.{Some, some_map, some_of_map, all_chosen, all_of}
 use Rattle.safety.specs.RegistrySafe.{NonNullNode, NonNullSet, set_extends}

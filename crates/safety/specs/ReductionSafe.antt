@@ -22,8 +22,9 @@ use Rattle.model.specs.Reduction.{
 use Rattle.model.specs.Tests.{by_cond, decide}
 use Rattle.model.specs.ListLaws.{all_select}
 use Rattle.model.specs.SetLaws.{insert_all}
-use Rattle.model.specs.RegistryLaws.{Sound, path_extends}
-use Rattle.model.specs.ReductionLaws.{node_extends, node_sound, pass_sound, passes_on, passes_stop}
+use Rattle.model.specs.RegistryLaws.{Sound}
+use Rattle.model.proofs.RegistryLaws.{path_extends}
+use Rattle.model.proofs.ReductionLaws.{node_extends, node_sound, pass_sound, passes_on, passes_stop}
 use Rattle.safety.specs.RegistrySafe.{NonNullNode, NonNullSet, set_extends, path_safe}
 
 module _ {X : Type 0} (S : Store X) where

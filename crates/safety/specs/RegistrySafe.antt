@@ -17,17 +17,8 @@ use Rattle.model.specs.Registry.{
   walk_path,
   get_or_create_identifier,
 }
-use Rattle.model.specs.RegistryLaws.{
-  Extends,
-  extends_path,
-  extends_length,
-  Sound,
-  Proper,
-  root_reached,
-  child_reached,
-  step_proper,
-  entry_property,
-}
+use Rattle.model.specs.RegistryLaws.{Extends, Sound, Proper}
+use Rattle.model.proofs.RegistryLaws.{extends_path, extends_length, root_reached, child_reached, step_proper, entry_property}
 use Rattle.model.specs.Sets.{NodeSet}
 use Rattle.model.specs.ListLaws.{All, all_map}
 use Rattle.safety.specs.ReadingPathsLaws.{NonNull, Reaches, reaches_root, reaches_safe, reaches_next, nullish_not}

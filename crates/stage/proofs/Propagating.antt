@@ -9,11 +9,11 @@ use lib.ListN.{length}
 use Rattle.model.specs.ListLaws.{All}
 use Rattle.model.specs.Sets.{NodeSet}
 use Rattle.model.specs.Registry.{node_limit, PropertyPathRegistry}
-use Rattle.model.specs.RegistryLaws.{extends_length}
+use Rattle.model.proofs.RegistryLaws.{extends_length}
 use Rattle.model.specs.ReductionLaws.{Members}
 use Rattle.model.specs.Rounds.{Rounds}
 use Rattle.model.specs.Propagation.{Work, Graph, JoiningRule, propagate_non_null, round_start}
-use Rattle.model.specs.PropagationLaws.{propagated_extends, blocks_longer, start_proper}
+use Rattle.model.proofs.PropagationLaws.{propagated_extends, blocks_longer, start_proper}
 use Rattle.model.specs.Job.{Block}
 use Rattle.model.specs.Stage.{Started, graph_of, start_of, propagated}
 use Rattle.rows.specs.Rows.{rows_of}

@@ -17,7 +17,7 @@ use Rattle.model.specs.Registry.{PropertyPathRegistry, full_path_of}
 use Rattle.model.specs.ReductionLaws.{Members}
 use Rattle.model.specs.Rounds.{Rounds}
 use Rattle.model.specs.Propagation.{Work, set_of}
-use Rattle.model.specs.PropagationLaws.{members_empty}
+use Rattle.model.proofs.PropagationLaws.{members_empty}
 use Rattle.model.specs.Tree.{derive_minimal_dependencies}
 use Rattle.model.specs.Stage.{Started, place_of, hoistable_paths, returned_paths}
 use Rattle.model.specs.Answer.{u8, u16, flag, AN, DE, path_bytes, answer_bytes, node_bytes, set_bytes, sheet_head, sheet_bytes, span_width, least_buffer}

@@ -10,4 +10,3 @@ pub mod ThinJobs
 pub mod Refused
 -- the theorems
 pub mod Theorems
-pub mod Witness

@@ -10,7 +10,7 @@ use Rattle.entries.specs.Path.{same_entry, are_equal_paths, ReactiveScopeDepende
 use Rattle.model.specs.Lists.{any_of, sum_of}
 use Rattle.model.specs.Tests.{by_cond, decide, never, eqb_same, eqb_equal, eqb-true, beq_same, and_first, and_second, or_second}
 use Rattle.model.specs.ListLaws.{All, all_map}
-use Rattle.model.specs.RegistryLaws.{property_same, entry_same, entry_property, entry_optional}
+use Rattle.model.proofs.RegistryLaws.{property_same, entry_same, entry_property, entry_optional}
 use Rattle.model.specs.Thin.{same_path, thinned_after, thinned_paths}
 use Rattle.laws.specs.Membership.{Some, some_map, any_some, some_any, neither}
 use Rattle.thin_laws.specs.Statement.{NoRepeats, Sublist, Stays, Once}

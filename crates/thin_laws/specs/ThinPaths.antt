@@ -12,8 +12,9 @@ use Rattle.model.specs.Tests.{eqb_same, and_first, and_second}
 use Rattle.model.specs.Sets.{NodeSet, contains}
 use Rattle.model.specs.SetLaws.{Ascending, insert_from, contains_insert, contains_inserted}
 use Rattle.model.specs.Registry.{PropertyPathRegistry, own_mark, get_or_create_property}
-use Rattle.model.specs.RegistryLaws.{Extends, extends_refl, extends_trans, path_extends}
-use Rattle.model.specs.EnteredAgain.{enters_nothing}
+use Rattle.model.specs.RegistryLaws.{Extends}
+use Rattle.model.proofs.RegistryLaws.{extends_refl, extends_trans, path_extends}
+use Rattle.model.proofs.EnteredAgain.{enters_nothing}
 use Rattle.model.specs.Rounds.{Rounds, job_order}
 use Rattle.model.specs.Propagation.{Work, JoiningRule, propagate_non_null}
 use Rattle.model.specs.Forest.{Forest, empty, add, add_all, firsts}
@@ -51,7 +52,7 @@ use Rattle.model.specs.Stage.{
   hoistable_paths,
   returned_paths,
 }
-use Rattle.model.specs.PropagationLaws.{paths_append}
+use Rattle.model.proofs.PropagationLaws.{paths_append}
 use Rattle.model.specs.Answer.{answer_bytes, set_bytes, sheet_bytes}
 use Rattle.model.specs.Thin.{same_path, thinned_after, thinned_paths, thinned_block, thinned}
 use Rattle.laws.specs.AddedAgain.{walk_again}

@@ -9,7 +9,7 @@ use Rattle.rows.specs.Members.{members_of}
 use Rattle.rows.proofs.Ahead.{none_past, word_passed, member_found}
 use Rattle.registry.specs.Words.{registry_of}
 use Rattle.registry.proofs.View.{registry_length}
-use Rattle.model.specs.ReductionLaws.{node_back}
+use Rattle.model.proofs.ReductionLaws.{node_back}
 use Rattle.reduction.proofs.Passes.{going_over, going_none, going_at, going_back}
 use Rattle.reduction.proofs.next_to_reduce.Goals as goal
 

@@ -11,7 +11,7 @@ use Rattle.model.specs.Answer.{Verdict, writes, turns_back, answer_of, sheet_of,
 use Rattle.model.specs.Strict.{strict_answer_of, strict_sheet_of}
 use Rattle.safety.specs.Runs.{WithoutLoops, Run, AssumedHold}
 use Rattle.safety.specs.Statement.{AnyBlocks, Demand3}
-use Rattle.safety.specs.Demand3.{strict_demand_3}
+use Rattle.safety.proofs.Demand3.{strict_demand_3}
 use Rattle.safety.specs.Notation.{
   path5,
   path5_10,
@@ -25,8 +25,8 @@ use Rattle.safety.specs.Notation.{
   Returns5,
   Returns5_10,
 }
-use Rattle.safety.specs.Witness.{store}
-use Rattle.safety.specs.Counterexamples.{nothing, p3, avoiding, p3_run, p3_assumed, p3_returns}
+use Rattle.safety.proofs.Witness.{store}
+use Rattle.safety.proofs.Counterexamples.{nothing, p3, avoiding, p3_run, p3_assumed, p3_returns}
 
 -- A loop: 1 (after 0, 2) assumes 5, and 2 (after 1) goes back to it; 3 (after 1) comes behind it.
 -- The scope block is 2, inside the loop.

@@ -9,7 +9,7 @@ use Rattle.model.specs.Answer.{answer_of, read_answer}
 use Rattle.laws.specs.Membership.{Member, all_at}
 use Rattle.safety.specs.Runs.{Precedes, Linked, WithoutLoops, Run, AssumedHold}
 use Rattle.safety.specs.Statement.{Demand3}
-use Rattle.safety.specs.Demand3.{demand_3}
+use Rattle.safety.proofs.Demand3.{demand_3}
 use Rattle.model.specs.JobBytes.{job_bytes}
 use Rattle.safety.specs.Notation.{path5, path5_10, block, job_of, bytes_of, all_bytes, not_named, answered_meets, Returns5_10}
 

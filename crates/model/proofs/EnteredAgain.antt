@@ -31,10 +31,10 @@ use Rattle.model.specs.Registry.{
 use Rattle.model.specs.Sets.{contains, insert}
 use Rattle.model.specs.SetLaws.{Ascending, insert_from, contains_insert, insert_again, contains_inserted}
 use Rattle.model.specs.Stage.{PathsEntered, enter_path, enter_paths}
-use Rattle.model.specs.RegistryLaws.{
+use Rattle.model.specs.RegistryLaws.{Extends}
+use Rattle.model.proofs.RegistryLaws.{
   entry_property,
   entry_optional,
-  Extends,
   extends_refl,
   extends_trans,
   extends_length,

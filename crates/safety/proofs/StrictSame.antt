@@ -26,7 +26,7 @@ use Rattle.model.specs.Answer.{
   sheet_of,
 }
 use Rattle.model.specs.Strict.{all_done, strict_neighbours, strict_answer_of, strict_sheet_of}
-use Rattle.model.specs.StrictLaws.{strict_joins}
+use Rattle.model.proofs.StrictLaws.{strict_joins}
 use Rattle.laws.specs.VisitOrder.{IsDone}
 use Rattle.laws.specs.WalksAgree.{rules_agree}
 use Rattle.laws.specs.GraphLaws.{ProperBlocks, predecessors_inside, successors_inside}
@@ -34,7 +34,7 @@ use Rattle.laws.specs.Fits.{HoldsIfRead}
 use Rattle.laws.specs.Verdicts.{job_proper}
 use Rattle.safety.specs.Runs.{WithoutLoops}
 use Rattle.safety.specs.Statement.{StrictSame}
-use Rattle.safety.specs.RunLaws.{no_loop_back, no_loop_onward}
+use Rattle.safety.proofs.RunLaws.{no_loop_back, no_loop_onward}
 
 -- Where all are Done, both rules join all.
 

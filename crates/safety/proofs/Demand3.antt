@@ -20,7 +20,7 @@ use Rattle.safety.specs.Statement.{
 }
 use Rattle.safety.specs.ReadingPathsLaws.{NonNull}
 use Rattle.laws.specs.GraphLaws.{ProperBlocks}
-use Rattle.safety.specs.StageSafe.{hoistable_safe, hoistable_strict}
+use Rattle.safety.proofs.StageSafe.{hoistable_safe, hoistable_strict}
 use Rattle.laws.specs.TreeLaws.{returned_one, returned_some}
 use Rattle.safety.specs.TreeSafe.{tree_safe}
 use Rattle.laws.specs.Fits.{holds_got, job_fits}

@@ -26,8 +26,9 @@ use Rattle.model.specs.Stage.{
 }
 use Rattle.model.specs.ListLaws.{All, all_map}
 use Rattle.model.specs.SetLaws.{insert_all}
-use Rattle.model.specs.RegistryLaws.{Sound, sound_empty, path_proper, path_extends}
-use Rattle.model.specs.PropagationLaws.{members_empty, paths_filled, blocks_begun}
+use Rattle.model.specs.RegistryLaws.{Sound}
+use Rattle.model.proofs.RegistryLaws.{sound_empty, path_proper, path_extends}
+use Rattle.model.proofs.PropagationLaws.{members_empty, paths_filled, blocks_begun}
 use Rattle.laws.specs.Membership.{all_at, all_of_map}
 use Rattle.safety.specs.Runs.{WithoutLoops, Run, AssumedHold}
 use Rattle.safety.specs.ReadingPathsLaws.{NonNull}
@@ -35,7 +36,7 @@ use Rattle.safety.specs.RegistrySafe.{NonNullNode, NonNullSet, set_extends, path
 use Rattle.safety.specs.JoinSafe.{NonNullOn}
 use Rattle.safety.specs.PropagationSafe.{done_walks, strict_walks, propagation_safe}
 use Rattle.laws.specs.GraphLaws.{ProperBlocks}
-use Rattle.safety.specs.RunLaws.{no_loop_back, no_loop_onward, OnRun, back, onward, on_via}
+use Rattle.safety.proofs.RunLaws.{no_loop_back, no_loop_onward, OnRun, back, onward, on_via}
 
 module _ {X : Type 0} (S : Store X) where
   paths_safe : (e : PathsEntered) (ds : List ReactiveScopeDependency) → Sound e.registry → NonNullSet S e.registry e.set

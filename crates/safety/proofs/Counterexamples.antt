@@ -25,8 +25,8 @@ use Rattle.safety.specs.Statement.{Exact, Demand3}
 use Rattle.laws.specs.CountLaws.{count_agree}
 use Rattle.model.specs.JobBytes.{job_bytes}
 use Rattle.laws.specs.Fits.{HoldsIfRead}
-use Rattle.safety.specs.Demand3.{strict_demand_3}
-use Rattle.safety.specs.StrictSame.{strict_same}
+use Rattle.safety.proofs.Demand3.{strict_demand_3}
+use Rattle.safety.proofs.StrictSame.{strict_same}
 use Rattle.safety.specs.Notation.{
   path5,
   path5_10,
@@ -41,7 +41,7 @@ use Rattle.safety.specs.Notation.{
   Returns5,
   Returns5_10,
 }
-use Rattle.safety.specs.Witness.{no_loops}
+use Rattle.safety.proofs.Witness.{no_loops}
 
 -- what may be asked of a store, a job and a sequence of blocks
 abbrev pub Hypotheses : Type 1

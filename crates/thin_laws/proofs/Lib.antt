@@ -1,0 +1,2 @@
+-- the hypotheses of the theorems can be met
+pub mod Witness
