@@ -1,7 +1,9 @@
 // Program `answer`: a job on standard input, its answer on standard output.
 #![tactic(auto)]
 use run::Program;
+use std::io;
 
-fn main() {
-    run::run(Program::Answer);
+fn main(rt: HostRuntime) -> io::Result<()> {
+    run::run(&rt, Program::Answer)?;
+    Ok(())
 }

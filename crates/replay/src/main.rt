@@ -2,12 +2,15 @@
 // operations: what they write, or by which number they refuse, is to be what the Rust's harness
 // stored, and the rest of the buffer is to be as it was.
 #![tactic(auto)]
-ghost use Rattle.std.specs.Prelude.{◌≡◌, ◌≤◌, true, length};
+
+ghost use Rattle.std.specs.Prelude.{◌≡◌, ◌≤◌, true, length, IfOk};
 ghost use Rattle.replay.specs.Parts.{Fits};
 
 use fields::ReadU32;
 use run::Program;
 use stage::Outcome;
+use std::io;
+use std::io::Read;
 
 #[derive(Clone, Copy)]
 enum Length {
@@ -45,41 +48,41 @@ enum Record {
 }
 
 // The next four bytes of the list, as a number.
-fn next_length() -> Length {
+fn next_length(list: &mut impl Read) -> io::Result<Length> {
     let mut bytes = [0u8; 4];
-    let got = io::read_full(0, &mut bytes);
+    let got = run::read_full(list, &mut bytes)?;
     if got < 4 {
-        return Length::End;
+        return Ok(Length::End);
     }
     let field = fields::u32_at(&bytes, 0);
     match field {
-        ReadU32::Value(n, _) => Length::Of(n as usize),
-        ReadU32::Refused(_) => Length::End,
+        ReadU32::Value(n, _) => Ok(Length::Of(n as usize)),
+        ReadU32::Refused(_) => Ok(Length::End),
     }
 }
 
 // Reads n bytes of the list, and answers whether they were there and had room.
-fn fill(space: &mut [u8], n: usize) -> bool
-    ensures { (result ≡ true) → (n ≤ length space.new) }
+fn fill(list: &mut impl Read, space: &mut [u8], n: usize) -> io::Result<bool>
+    ensures { IfOk result (λ filled. (filled ≡ true) → (n ≤ length space.new)) }
 {
     if space.len() < n {
-        return false;
+        return Ok(false);
     }
-    let got = io::read_full(0, &mut space[..n]);
-    got == n
+    let got = run::read_full(list, &mut space[..n])?;
+    Ok(got == n)
 }
 
 // The next part of the list, a length and so many bytes, which are put at the buffer's start.
-fn next_part(space: &mut [u8]) -> Length
-    ensures { Fits result space.new }
+fn next_part(list: &mut impl Read, space: &mut [u8]) -> io::Result<Length>
+    ensures { IfOk result (λ part. Fits part space.new) }
 {
-    let Length::Of(n) = next_length() else {
-        return Length::End;
+    let Length::Of(n) = next_length(list)? else {
+        return Ok(Length::End);
     };
-    if fill(space, n) {
-        Length::Of(n)
+    if fill(list, space, n)? {
+        Ok(Length::Of(n))
     } else {
-        Length::End
+        Ok(Length::End)
     }
 }
 
@@ -139,33 +142,44 @@ fn compare(program: Program, job: &[u8], room: usize, told: &[u8]) -> Compared {
 }
 
 // The operation beside the next part of the list.
-fn compare_next(program: Program, job: &[u8], room: usize) -> Compared {
-    let mut space = io::large_buffer();
-    let Length::Of(n) = next_part(&mut space) else {
-        return Compared::End;
+fn compare_next(
+    list: &mut impl Read,
+    program: Program,
+    job: &[u8],
+    room: usize,
+) -> io::Result<Compared> {
+    let mut space = [0u8; 65536];
+    let Length::Of(n) = next_part(list, &mut space)? else {
+        return Ok(Compared::End);
     };
-    compare(program, job, room, &space[..n])
+    Ok(compare(program, job, room, &space[..n]))
 }
 
 // All operations on a job, in the list's order.
-fn compare_all(job: &[u8], room: usize) -> Record {
-    let Compared::Of(answer, answer_refusal) = compare_next(Program::Answer, job, room) else {
-        return Record::End;
-    };
-    let Compared::Of(sheet, _) = compare_next(Program::Sheet, job, room) else {
-        return Record::End;
-    };
-    let Compared::Of(thin, thin_refusal) = compare_next(Program::Thin, job, room) else {
-        return Record::End;
-    };
-    let Compared::Of(strict_answer, strict_refusal) = compare_next(Program::StrictAnswer, job, room)
+fn compare_all(list: &mut impl Read, job: &[u8], room: usize) -> io::Result<Record> {
+    let Compared::Of(answer, answer_refusal) = compare_next(list, Program::Answer, job, room)?
     else {
-        return Record::End;
+        return Ok(Record::End);
     };
-    let Compared::Of(strict_sheet, _) = compare_next(Program::StrictSheet, job, room) else {
-        return Record::End;
+    let Compared::Of(sheet, _) = compare_next(list, Program::Sheet, job, room)? else {
+        return Ok(Record::End);
     };
-    Record::Of(Agreement {
+    let Compared::Of(thin, thin_refusal) = compare_next(list, Program::Thin, job, room)? else {
+        return Ok(Record::End);
+    };
+    let Compared::Of(strict_answer, strict_refusal) = compare_next(
+        list,
+        Program::StrictAnswer,
+        job,
+        room,
+    )?
+    else {
+        return Ok(Record::End);
+    };
+    let Compared::Of(strict_sheet, _) = compare_next(list, Program::StrictSheet, job, room)? else {
+        return Ok(Record::End);
+    };
+    Ok(Record::Of(Agreement {
         answer,
         sheet,
         thin,
@@ -174,35 +188,29 @@ fn compare_all(job: &[u8], room: usize) -> Record {
         answer_refusal,
         thin_refusal,
         strict_refusal,
-    })
+    }))
 }
 
 // The next record of the list: the length of an out buffer, a job, its answer, its sheet and its
 // thin job, and its answer and its sheet by the strict propagation.
-fn next_record() -> Record {
-    let Length::Of(room) = next_length() else {
-        return Record::End;
+fn next_record(list: &mut impl Read) -> io::Result<Record> {
+    let Length::Of(room) = next_length(list)? else {
+        return Ok(Record::End);
     };
-    let mut job = io::large_buffer();
-    let Length::Of(n) = next_part(&mut job) else {
-        return Record::End;
+    let mut job = [0u8; 65536];
+    let Length::Of(n) = next_part(list, &mut job)? else {
+        return Ok(Record::End);
     };
-    compare_all(&job[..n], room)
+    compare_all(list, &job[..n], room)
 }
 
-fn line(text: &[u8], n: u64) {
-    io::write_all(1, text);
-    io::print_decimal(1, n);
-    io::write_all(1, b"\n");
+fn line(rt: &impl Print, text: &str, n: u64) -> io::Result<()> {
+    println!(rt; "{text}{n}")
 }
 
 // One more where it holds.
 fn counted(n: u64, holds: bool) -> u64 {
-    if holds {
-        std::num::wrapping_add_u64(n, 1)
-    } else {
-        n
-    }
+    if holds { n.wrapping_add(1) } else { n }
 }
 
 // One more of a number, 16 and above with those from 0 on, where it holds.
@@ -253,7 +261,7 @@ impl Tally {
 }
 
 // A proved loop has to end: the turns are more than the list has records.
-fn replay() -> Tally {
+fn replay(list: &mut impl Read) -> io::Result<Tally> {
     let mut t = Tally {
         answers: 0,
         sheets: 0,
@@ -267,41 +275,48 @@ fn replay() -> Tally {
     };
     let mut turns: u32 = 100000;
     while turns > 0 {
-        let Record::Of(agreement) = next_record() else {
-            return t;
+        let Record::Of(agreement) = next_record(list)? else {
+            return Ok(t);
         };
         t = t.with(agreement);
         turns -= 1;
     }
-    t
+    Ok(t)
 }
 
 // How many were written, and how many refused by each number.
-fn lines(written: &[u8], refused: &[u8], counts: [u64; 16]) {
-    line(written, counts[0]);
+fn lines(rt: &impl Print, written: &str, refused: &str, counts: [u64; 16]) -> io::Result<()> {
+    line(rt, written, counts[0])?;
     for k in 1..11 {
-        io::write_all(1, refused);
-        io::print_decimal(1, k as u64);
-        line(b": ", counts[k]);
+        let n = counts[k];
+        println!(rt; "{refused}{k}: {n}")?;
     }
+    Ok(())
 }
 
-fn main() {
-    let t = replay();
-    line(b"answers that agree: ", t.answers);
-    line(b"sheets that agree: ", t.sheets);
-    line(b"thin jobs that agree: ", t.thin_jobs);
-    line(b"strict answers that agree: ", t.strict_answers);
-    line(b"strict sheets that agree: ", t.strict_sheets);
-    line(b"records that differ: ", t.differed);
+fn main(rt: HostRuntime) -> io::Result<()> {
+    let mut list = rt.reader();
+    let t = replay(&mut list)?;
+    line(&rt, "answers that agree: ", t.answers)?;
+    line(&rt, "sheets that agree: ", t.sheets)?;
+    line(&rt, "thin jobs that agree: ", t.thin_jobs)?;
+    line(&rt, "strict answers that agree: ", t.strict_answers)?;
+    line(&rt, "strict sheets that agree: ", t.strict_sheets)?;
+    line(&rt, "records that differ: ", t.differed)?;
     let answers = t.answers_refused;
-    lines(b"agreed and written: ", b"agreed on refusal ", answers);
+    lines(&rt, "agreed and written: ", "agreed on refusal ", answers)?;
     let thin_jobs = t.thin_jobs_refused;
-    lines(b"thin jobs written: ", b"thin jobs refused by ", thin_jobs);
+    lines(
+        &rt,
+        "thin jobs written: ",
+        "thin jobs refused by ",
+        thin_jobs,
+    )?;
     let strict_answers = t.strict_answers_refused;
     lines(
-        b"strict answers written: ",
-        b"strict answers refused by ",
+        &rt,
+        "strict answers written: ",
+        "strict answers refused by ",
         strict_answers,
-    );
+    )
 }

@@ -1,10 +1,9 @@
 -- What the programs `answer`, `sheet`, `strict_answer`, `strict_sheet` and `thin` write.
-use Rattle.std.specs.Prelude.{ℕ, ◌≤◌, ◌<◌, ◌≡◌, true, List, ◌++◌, length, take, drop, replicate, ltb}
+use Rattle.std.specs.Prelude.{ℕ, ◌≤◌, ◌≡◌, List, ◌++◌, length, take, drop, replicate, ltb}
 use Rattle.std.proofs.Common.{arith, ap, length-take-le, take_all}
 use Rattle.model.specs.Tests.{decide, ltb_true, ltb_false, ltb_less}
-use Rattle.model.specs.Rounds.{Rounds}
-use Rattle.model.specs.Propagation.{Work, JoiningRule, done_neighbours}
-use Rattle.model.specs.Job.{Job, HD, read_job}
+use Rattle.model.specs.Propagation.{JoiningRule, done_neighbours}
+use Rattle.model.specs.Job.{HD, read_job}
 use Rattle.model.specs.Answer.{
   Verdict,
   within_lengths,

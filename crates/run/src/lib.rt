@@ -2,11 +2,15 @@
 // operation only: a job on standard input, and on standard output what the operation writes, or RF
 // and the number of the refusal.
 #![tactic(auto)]
-ghost use Rattle.std.specs.Prelude.{◌≡◌, ◌≤◌, length, take};
+
+ghost use Rattle.std.specs.Prelude.{◌≡◌, ◌≤◌, ◌<◌, length, take, IfOk};
+ghost use Rattle.std.specs.Io.KnownBytes.{Consumes, IsAtEnd};
 ghost use Rattle.stage.specs.Jobs.{Meets};
 ghost use Rattle.run.specs.Programs.{operation_of, bytes_read, bytes_lent, Responds, GivesToWrite};
 
 use stage::Outcome;
+use std::io;
+use std::io::Read;
 
 // A program, by its operation.
 #[derive(Clone, Copy)]
@@ -49,16 +53,37 @@ fn respond(program: Program, space: &[u8], got: usize, out: &mut [u8]) -> usize
     }
 }
 
-// The program. Of a job longer than 65,536 bytes the rest is not read: the program writes the same
-// of its first bytes (`first_bytes`). How many bytes were given to be written: as many as the
-// program writes of the job that was read, of which no contract of input and output says more.
-pub fn run(program: Program) -> usize
-    ensures { GivesToWrite program result }
+// Reads until the space is full, the input ends or a read fails, and returns how many bytes it put
+// at the space's start. An error is the reader's own, and is returned at once.
+pub fn read_full<R: Read>(reader: &mut R, space: &mut [u8]) -> io::Result<usize>
+    ensures room { IfOk result (λ n. n ≤ length space.new) }
+    ensures bytes { IfOk result (λ n. Consumes (R.remaining reader.old) (R.remaining reader.new)
+        (take n space.new)) }
+    ensures end { IfOk result (λ n. n < length space.new → IsAtEnd (R.remaining reader.new)) }
 {
-    let mut space = io::large_buffer();
-    let got = io::read_full(0, &mut space);
+    let mut got = 0;
+    while got < space.len() {
+        let n = reader.read(&mut space[got..])?;
+        if n == 0 {
+            break;
+        }
+        got += n;
+    }
+    Ok(got)
+}
+
+// The program. Of a job longer than 65,536 bytes the rest is not read: the program writes the same
+// of its first bytes (`first_bytes`). How many bytes were written: as many as the program writes of
+// the job that was read, of which no contract of input and output says more. An error is that of a
+// read, before which nothing was written, or of a write, before which a part may have been.
+pub fn run(rt: &(impl Input + Print), program: Program) -> io::Result<usize>
+    ensures { IfOk result (GivesToWrite program) }
+{
+    let mut space = [0u8; 65536];
+    let mut reader = rt.reader();
+    let got = read_full(&mut reader, &mut space)?;
     let mut out = [0u8; 32768];
     let n = respond(program, &space, got, &mut out);
-    io::write_all(1, &out[..n]);
-    n
+    rt.write_all(&out[..n])?;
+    Ok(n)
 }

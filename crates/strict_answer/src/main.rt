@@ -2,7 +2,9 @@
 // standard output.
 #![tactic(auto)]
 use run::Program;
+use std::io;
 
-fn main() {
-    run::run(Program::StrictAnswer);
+fn main(rt: HostRuntime) -> io::Result<()> {
+    run::run(&rt, Program::StrictAnswer)?;
+    Ok(())
 }

@@ -2,7 +2,9 @@
 // output.
 #![tactic(auto)]
 use run::Program;
+use std::io;
 
-fn main() {
-    run::run(Program::StrictSheet);
+fn main(rt: HostRuntime) -> io::Result<()> {
+    run::run(&rt, Program::StrictSheet)?;
+    Ok(())
 }

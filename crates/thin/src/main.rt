@@ -1,7 +1,9 @@
 // Program `thin`: a job on standard input, its thin job on standard output.
 #![tactic(auto)]
 use run::Program;
+use std::io;
 
-fn main() {
-    run::run(Program::Thin);
+fn main(rt: HostRuntime) -> io::Result<()> {
+    run::run(&rt, Program::Thin)?;
+    Ok(())
 }
