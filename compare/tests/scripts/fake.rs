@@ -8,12 +8,14 @@ use std::process::{Command, Output};
 use std::time::SystemTime;
 
 /// The commands that the scripts may use beside the toolchain and cargo.
-const TOOLS: [&str; 26] = [
+const TOOLS: [&str; 28] = [
     "awk",
+    "basename",
     "bash",
     "cat",
     "chmod",
     "cmp",
+    "cp",
     "cut",
     "dirname",
     "env",
@@ -47,14 +49,15 @@ const SCRIPTS: [&str; 7] = [
     "demo",
 ];
 
-const FILES: [(&str, &str); 16] = [
+const FILES: [(&str, &str); 17] = [
     (
         "crates.txt",
-        "# a comment: none\nleaf:\nstage: leaf\nrun: stage io\nanswer: run\nsheet: run\nthin: run\n\
-         strict_answer: run\nstrict_sheet: run\nother:\n",
+        "# a comment: none\nleaf:\nstage: leaf\nstage_c staticlib: stage\nrun: stage io\nanswer: run\nsheet: run\n\
+         thin: run\nstrict_answer: run\nstrict_sheet: run\nother:\n",
     ),
     ("crates/leaf/src/lib.rt", "leaf\n"),
     ("crates/stage/src/lib.rt", "stage\n"),
+    ("crates/stage_c/src/lib.rt", "stage_c\n"),
     ("crates/run/src/lib.rt", "run\n"),
     ("crates/answer/src/main.rt", "answer\n"),
     ("crates/sheet/src/main.rt", "sheet\n"),
@@ -70,25 +73,31 @@ const FILES: [(&str, &str); 16] = [
     ("shared/docs/src/src/react_compiler_hir/mod.rs", "types\n"),
 ];
 
-/// Proves each crate without the word `unproved`. FAKE_EDIT stands for an edit made meanwhile.
+/// Proves the crate in whose folder it is called, and those below it, where they changed since it
+/// proved them, or one below them did, and are without the word `unproved`. FAKE_EDIT stands for an edit made meanwhile.
 const RT: &str = r#"#!/usr/bin/env bash
 [ "$1" != version ] || { echo "${FAKE_KIT:-kit 1}"; exit; }
 echo "rt $*" >>"$FAKE_CALLS"
-case $1 in staticlib) crates=leaf ;; check) crates='leaf stage run answer sheet thin strict_answer strict_sheet' ;; esac
-mkdir -p target/staticlib target/bin
-for crate in $crates; do
-  if grep -q unproved "crates/$crate/src/"*; then echo "rt: $crate NOT PROVED (exit 1, 0 s)"; exit 1; fi
-  printf '%s\n' "fn $crate::f: proved" "rt: $crate proved (0 s)"
+crate=${PWD##*/} verb=$1 anew=''
+say() { if [ "$verb" = run ]; then echo "$1" >&2; else echo "$1"; fi; }
+for below in leaf stage $([ "$verb" = lib ] || echo run) "$crate"; do
+  mkdir -p "../$below/out"
+  [ -z "$anew" ] && cmp -s "../$below/src/"* "../$below/out/proved" && continue
+  anew=yes
+  say "rt: chose --jobs 2 for $below"
+  if grep -q unproved "../$below/src/"*; then say "fn $below::f: no proof: it is false"; say logic=not-proved; exit 1; fi
+  say "fn $below::f: proved"
+  say "crate $below: modules loaded=0 checked=1"
+  say "logic=proved functions=1"
+  cat "../$below/src/"* >"../$below/out/proved"
 done
-[ -z "${FAKE_EDIT:-}" ] || echo "$FAKE_EDIT" >>crates/leaf/src/lib.rt
-if [ "$1" = check ]; then
-  for program in answer sheet thin strict_answer strict_sheet; do
-    printf '%s\n' '#!/usr/bin/env bash' 'cat >/dev/null' "printf '${FAKE_ANSWER:-RF\\003}'" >target/bin/$program
-    chmod +x target/bin/$program
-  done
+[ -z "${FAKE_EDIT:-}" ] || echo "$FAKE_EDIT" >>../leaf/src/lib.rt
+if [ "$verb" = run ]; then
+  printf '%s\n' '#!/usr/bin/env bash' 'cat >/dev/null' "printf '${FAKE_ANSWER:-RF\\003}'" >"out/$crate"
+  chmod +x "out/$crate"
+  "out/$crate"
 else
-  cat crates/leaf/src/lib.rt crates/stage/src/lib.rt >target/staticlib/libstage.a
-  echo 'rt: target/staticlib/libstage.a has the functions of stage'
+  cat ../leaf/src/lib.rt ../stage/src/lib.rt >"out/lib$crate.a"
 fi
 "#;
 
@@ -140,12 +149,18 @@ impl Said {
     }
 }
 
+impl Drop for Fake {
+    fn drop(&mut self) {
+        let _ = fs::remove_dir_all(&self.folder);
+    }
+}
+
 impl Fake {
-    /// A new repository, in a folder of this name. It is in the toolchain's own directory: anywhere
-    /// else in the repository the toolchain would take its crates for files that nothing proves.
+    /// A new repository, in a folder of this name outside the real one, in which the toolchain would
+    /// take its crates for files that nothing proves.
     pub fn new(name: &str) -> Self {
-        let real = Path::new(env!("CARGO_MANIFEST_DIR")).parent().unwrap();
-        let folder = real.join("target/scripts").join(name);
+        let folder = format!("scope-deps-scripts-{}-{name}", std::process::id());
+        let folder = std::env::temp_dir().canonicalize().unwrap().join(folder);
         let _ = fs::remove_dir_all(&folder);
         let root = folder.join("a repository");
         let path = ["rt", "cargo", "tools"].map(|part| folder.join(part)).to_vec();

@@ -42,9 +42,9 @@ fn the_library_is_made_once_with_a_line_for_each_crate() {
     let first = "library: the stage's library is missing; proving it takes about ";
     let log = format!(" minutes from nothing (log: {})\n", fake.root.join("target/library.log").display());
     failing(fake.run("bin/library", &["--check"]), &[first, &log]);
-    let progress = "library: proved leaf, 1 of 2\nlibrary: proved stage, 2 of 2\n";
+    let progress = "library: proved leaf, 1 of 3\nlibrary: proved stage, 2 of 3\nlibrary: proved stage_c, 3 of 3\n";
     assert_eq!(saying(fake.run("bin/library", &[]), &[first, &log, progress]), archive_of(&fake));
-    assert_eq!(fake.calls(), ["rt staticlib"]);
+    assert_eq!(fake.calls(), ["rt lib"]);
     assert!(fake.read("target/library.log").contains("fn leaf::f: proved"));
     let files = fake.files();
     assert_eq!(quiet(fake.run("bin/library", &[])), archive_of(&fake));
@@ -65,7 +65,7 @@ fn a_library_of_other_sources_is_seen_and_made_anew() {
             &["library was made from other sources; proving it takes"],
         );
         saying(fake.run("bin/library", &[]), &["was made from other sources; "]);
-        assert_eq!(fake.calls(), ["rt staticlib"]);
+        assert_eq!(fake.calls(), ["rt lib"]);
         quiet(fake.run("bin/library", &["--check"]));
     }
     assert_eq!(fake.read(ARCHIVE), "edited\nstage\n");
@@ -108,9 +108,9 @@ fn a_proof_that_fails_leaves_no_record() {
     for _ in 0..2 {
         failing(
             fake.run("bin/library", &[]),
-            &["leaf NOT PROVED", "could not be made; the toolchain's log is ", &log],
+            &["fn leaf::f: no proof", "could not be made; the toolchain's log is ", &log],
         );
-        assert_eq!(fake.calls(), ["rt staticlib"]);
+        assert_eq!(fake.calls(), ["rt lib"]);
     }
 }
 
@@ -134,7 +134,7 @@ fn a_library_is_made_elsewhere_where_the_repositorys_cannot_be_used() {
         &["is missing; ", "cargo's folder/target/"],
     );
     assert!(!place.exists());
-    let made = saying(fake.run("bin/library", &words), &["is missing; ", "proved stage, 2 of 2"]);
+    let made = saying(fake.run("bin/library", &words), &["is missing; ", "proved stage, 2 of 3"]);
     assert_eq!(made, format!("{}\n", place.join(ARCHIVE).display()));
     assert_eq!(quiet(fake.run("bin/library", &words)), made);
     assert_eq!(fake.files(), files);
@@ -149,7 +149,7 @@ fn a_library_is_made_elsewhere_where_the_repositorys_cannot_be_used() {
         fake.run("bin/library", &[&["--check"][..], &words].concat()),
         &[first, "another folder/target/"],
     );
-    saying(fake.run("bin/library", &words), &[first, "another folder/target/", "proved stage, 2 of 2"]);
+    saying(fake.run("bin/library", &words), &[first, "another folder/target/", "proved stage, 2 of 3"]);
 }
 
 #[test]
@@ -179,7 +179,7 @@ fn the_programs_are_made_once_and_anew_from_other_sources() {
         folder
     );
     assert_eq!(quiet(fake.run("bin/programs", &[])), folder);
-    assert_eq!(fake.calls(), ["rt check"]);
+    assert_eq!(fake.calls(), ["rt run"; 5]);
     fake.write("crates/run/src/lib.rt", "edited\n");
     failing(fake.run("bin/programs", &["--check"]), &["was made from other sources; "]);
     saying(fake.run("bin/programs", &[]), &["was made from other sources; "]);
@@ -243,12 +243,12 @@ fn what_asks_nothing_of_the_stage_needs_no_library() {
 fn what_asks_the_stage_has_the_library_made_first() {
     for command in ["answer", "sheet", "thin", "explain", "draw"] {
         let mut fake = Fake::new(&format!("whole-{command}"));
-        let parts = ["library is missing", "proved stage, 2 of 2", "scope-deps: building"];
+        let parts = ["library is missing", "proved stage, 2 of 3", "scope-deps: building"];
         assert_eq!(
             saying(fake.run("bin/scope-deps", &[command, "x"]), &parts),
             format!("whole: {command} x\n")
         );
-        assert_eq!(fake.calls(), ["cargo build", "rt staticlib", "cargo build"]);
+        assert_eq!(fake.calls(), ["cargo build", "rt lib", "cargo build"]);
         // All is built: nothing is needed and nothing is written.
         fake.without("rt");
         fake.without("cargo");
@@ -289,7 +289,7 @@ fn the_tool_is_built_anew_where_it_belongs_to_other_sources() {
     assert_eq!(fake.calls(), ["cargo build"]);
     fake.write("crates/leaf/src/lib.rt", "edited\n");
     saying(fake.run("bin/scope-deps", &["answer"]), &["was made from other sources", "building"]);
-    assert_eq!(fake.calls(), ["cargo build", "rt staticlib", "cargo build"]);
+    assert_eq!(fake.calls(), ["cargo build", "rt lib", "cargo build"]);
     // Something else than the script has built the program since.
     fake.write("bindings/rust/target/release/scope-deps", "#!/usr/bin/env bash\n");
     saying(fake.run("bin/scope-deps", &["answer"]), &["building"]);
@@ -311,13 +311,13 @@ fn the_harness_has_made_what_its_command_needs() {
             fake.run("compare/oracle", &[command]),
             &["the stage's library ", "proved stage", "oracle: building"],
         );
-        assert_eq!(fake.calls(), ["rt staticlib", "cargo build"]);
+        assert_eq!(fake.calls(), ["rt lib", "cargo build"]);
     }
     saying(
         fake.run("compare/oracle", &["programs"]),
         &["a program of the stage is missing", "strict_sheet, 8 of 8"],
     );
-    assert_eq!(fake.calls(), ["rt check"]);
+    assert_eq!(fake.calls(), ["rt run"; 5]);
     fake.without("rt");
     fake.without("cargo");
     let files = fake.files();
@@ -363,7 +363,7 @@ fn cargo_warns_of_a_proof_and_has_it_done_in_its_own_directory() {
     let warning =
         "warning: scope-deps@0.1.0: library: the stage's library is missing; proving it takes about ";
     saying(said, &[warning, "/out/target/library.log"]);
-    assert_eq!(fake.calls(), ["rt staticlib"]);
+    assert_eq!(fake.calls(), ["rt lib"]);
     assert!(!fake.has("target"));
     // The same build once more has nothing to prove and nothing to say.
     let again = fake.check_package();
@@ -377,5 +377,5 @@ fn cargo_warns_of_a_proof_and_has_it_done_in_its_own_directory() {
         fake.check_package(),
         &["warning: scope-deps@0.1.0: library: the stage's library was made from other sources; "],
     );
-    assert_eq!(fake.calls(), ["rt staticlib"]);
+    assert_eq!(fake.calls(), ["rt lib"]);
 }
