@@ -20,6 +20,12 @@ fn lines(records: &[Record], operation: Operation, written: &str, refused: &str)
     format!("{written}: {}\n{}", count(0), refusals.collect::<String>())
 }
 
+/// Program `replay` reads the stored list.
+#[test]
+fn the_replays_input_is_the_stored_list() {
+    assert!(bytes("replay/stdin") == bytes("../compare/stored/jobs.bin"));
+}
+
 /// Program `replay` prints counts, and those due follow from the list.
 #[test]
 fn the_replays_counts_are_those_of_the_list() {

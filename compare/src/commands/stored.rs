@@ -10,6 +10,8 @@ use std::fs;
 
 const JOBS: &str = "compare/stored/jobs.bin";
 const INDEX: &str = "compare/stored/index.txt";
+/// The same list as program `replay`'s input.
+const INPUT: &str = "crates/replay/stdin";
 
 /// The records of the stored list, of which there is at least one.
 pub fn records() -> Result<Vec<Record>, Failure> {
@@ -46,5 +48,6 @@ pub fn store() -> Result<(), Failure> {
     fs::write(repository(JOBS), &jobs)
         .and_then(|()| fs::write(repository(INDEX), index))
         .map_err(|why| failed(format!("compare/stored cannot be written: {why}")))?;
+    fs::write(repository(INPUT), &jobs).map_err(|why| failed(format!("{INPUT} cannot be written: {why}")))?;
     say!("stored jobs: {} in {} bytes", chosen.len(), jobs.len())
 }

@@ -73,8 +73,9 @@ const FILES: [(&str, &str); 17] = [
     ("shared/docs/src/src/react_compiler_hir/mod.rs", "types\n"),
 ];
 
-/// Proves the crate in whose folder it is called, and those below it, where they changed since it
-/// proved them, or one below them did, and are without the word `unproved`. FAKE_EDIT stands for an edit made meanwhile.
+/// Proves the crate in whose folder it is called, and those below it, where they or one below them
+/// changed since it proved them, and are without the word `unproved`. FAKE_EDIT stands for an edit
+/// made meanwhile.
 const RT: &str = r#"#!/usr/bin/env bash
 [ "$1" != version ] || { echo "${FAKE_KIT:-kit 1}"; exit; }
 echo "rt $*" >>"$FAKE_CALLS"
@@ -156,8 +157,8 @@ impl Drop for Fake {
 }
 
 impl Fake {
-    /// A new repository, in a folder of this name outside the real one, in which the toolchain would
-    /// take its crates for files that nothing proves.
+    /// A new repository, in a folder of this name outside the real one, in which the toolchain
+    /// would take its crates for files that nothing proves.
     pub fn new(name: &str) -> Self {
         let folder = format!("scope-deps-scripts-{}-{name}", std::process::id());
         let folder = std::env::temp_dir().canonicalize().unwrap().join(folder);

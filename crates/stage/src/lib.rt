@@ -306,8 +306,8 @@ impl Outcome {
     }
 }
 
-// What the C interface returns and leaves: a slice is a pointer and a length. `stage_c` exports these
-// under the same names; from a crate that other crates use nothing is exported.
+// What the C interface returns and leaves: a slice is a pointer and a length. `stage_c` exports
+// these under the same names; from a crate that other crates use nothing is exported.
 
 #[unsafe(no_mangle)]
 pub extern "C" fn scope_deps_answer(job: &[u8], out: &mut [u8]) -> i64
