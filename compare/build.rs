@@ -17,9 +17,12 @@ const TYPES: &str = "src/react_compiler_hir/mod.rs";
 
 const LIBRARY_VARIABLE: &str = "SCOPE_DEPS_LIBRARY";
 const LIBRARY_SCRIPT: &str = "../bin/library";
-/// The library, and what it is made from.
-const LIBRARY_SOURCES: [&str; 4] =
-    ["../target/staticlib/libstage.a", "../target/staticlib/libstage.a.digest", "../crates", "../crates.txt"];
+/// The library, and what it is made from, beside the crates.
+const LIBRARY_SOURCES: [&str; 3] =
+    ["../target/staticlib/libstage.a", "../target/staticlib/libstage.a.digest", "../crates.txt"];
+const CRATES: &str = "../crates";
+/// What of a crate its proof reads. What the toolchain leaves beside these is no source.
+const PARTS: [&str; 3] = ["src", "specs", "proofs"];
 
 /// Items of the types file.
 const TYPE_ITEMS: &[&str] = &[
@@ -119,6 +122,11 @@ fn library() -> Result<PathBuf, String> {
     }
     for input in LIBRARY_SOURCES {
         println!("cargo::rerun-if-changed={}", watched(Path::new(input)).display());
+    }
+    for folder in fs::read_dir(CRATES).into_iter().flatten().flatten() {
+        for part in PARTS.map(|part| folder.path().join(part)).iter().filter(|part| part.is_dir()) {
+            println!("cargo::rerun-if-changed={}", part.display());
+        }
     }
     let run = Command::new("bash").args([LIBRARY_SCRIPT, "--check"]).output();
     let output = run.map_err(|why| format!("{LIBRARY_SCRIPT} cannot be run: {why}"))?;

@@ -16,6 +16,9 @@ mod library {
 
     const VARIABLE: &str = "SCOPE_DEPS_LIBRARY";
     const SCRIPT: &str = "../../bin/library";
+    const CRATES: &str = "../../crates";
+    /// What of a crate its proof reads. What the toolchain leaves beside these is no source.
+    const PARTS: [&str; 3] = ["src", "specs", "proofs"];
 
     pub fn link() {
         println!("cargo::rerun-if-env-changed={VARIABLE}");
@@ -40,8 +43,12 @@ mod library {
         if !Path::new(SCRIPT).is_file() {
             fail(&format!("{VARIABLE} names no file, and the stage's library is not in this package"));
         }
-        println!("cargo::rerun-if-changed=../../crates");
         println!("cargo::rerun-if-changed=../../crates.txt");
+        for folder in fs::read_dir(CRATES).into_iter().flatten().flatten() {
+            for part in PARTS.map(|part| folder.path().join(part)).iter().filter(|part| part.is_dir()) {
+                println!("cargo::rerun-if-changed={}", part.display());
+            }
+        }
         warn(folder);
         let run = Command::new("bash").args([SCRIPT, "--into"]).arg(folder).stderr(terminal()).output();
         let output = run.unwrap_or_else(|why| {

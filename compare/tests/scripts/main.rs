@@ -42,7 +42,8 @@ fn the_library_is_made_once_with_a_line_for_each_crate() {
     let first = "library: the stage's library is missing; proving it takes about ";
     let log = format!(" minutes from nothing (log: {})\n", fake.root.join("target/library.log").display());
     failing(fake.run("bin/library", &["--check"]), &[first, &log]);
-    let progress = "library: proved leaf, 1 of 3\nlibrary: proved stage, 2 of 3\nlibrary: proved stage_c, 3 of 3\n";
+    let progress =
+        "library: proved leaf, 1 of 3\nlibrary: proved stage, 2 of 3\nlibrary: proved stage_c, 3 of 3\n";
     assert_eq!(saying(fake.run("bin/library", &[]), &[first, &log, progress]), archive_of(&fake));
     assert_eq!(fake.calls(), ["rt lib"]);
     assert!(fake.read("target/library.log").contains("fn leaf::f: proved"));
