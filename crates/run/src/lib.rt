@@ -3,14 +3,14 @@
 // and the number of the refusal.
 #![tactic(auto)]
 
-ghost use Rattle.std.specs.Prelude.{◌≡◌, ◌≤◌, ◌<◌, length, take, IfOk};
-ghost use Rattle.std.specs.Io.KnownBytes.{Consumes, IsAtEnd};
+ghost use Rattle.std.specs.Prelude.{◌≡◌, ◌≤◌, ◌<◌, length, take, IfOk, OnOk, IfSome};
+ghost use Rattle.std.specs.Io.KnownBytes.{Consumes, Appends, IsAtEnd};
 ghost use Rattle.stage.specs.Jobs.{Meets};
-ghost use Rattle.run.specs.Programs.{operation_of, bytes_read, bytes_lent, Responds, GivesToWrite};
+ghost use Rattle.run.specs.Programs.{program_of, operation_of, bytes_read, bytes_lent, Responds, GivesToWrite};
 
 use stage::Outcome;
 use std::io;
-use std::io::Read;
+use std::io::{Read, Write};
 
 // A program, by its operation.
 #[derive(Clone, Copy)]
@@ -72,18 +72,32 @@ pub fn read_full<R: Read>(reader: &mut R, space: &mut [u8]) -> io::Result<usize>
     Ok(got)
 }
 
-// The program. Of a job longer than 65,536 bytes the rest is not read: the program writes the same
-// of its first bytes (`first_bytes`). How many bytes were written: as many as the program writes of
-// the job that was read, of which no contract of input and output says more. An error is that of a
-// read, before which nothing was written, or of a write, before which a part may have been.
+// The program between a reader and a writer. Of a job longer than 65,536 bytes the rest is not
+// read: the program writes the same of its first bytes (`first_bytes`). An error is that of a read,
+// before which nothing was written, or of a write, before which a part may have been.
+pub fn run_between<R: Read, W: Write>(
+    program: Program,
+    reader: &mut R,
+    writer: &mut W,
+) -> io::Result<usize>
+    ensures size { IfOk result (GivesToWrite program) }
+    ensures bytes { OnOk result (IfSome (R.remaining reader.old)
+        (λ job. Appends (W.contents writer.old) (W.contents writer.new) (program_of program job))) }
+{
+    let mut space = [0u8; 65536];
+    let got = read_full(reader, &mut space)?;
+    let mut out = [0u8; 32768];
+    let n = respond(program, &space, got, &mut out);
+    writer.write_all(&out[..n])?;
+    Ok(n)
+}
+
+// The program, from standard input to standard output, of which no contract says what stands there:
+// how many bytes were written is as many as the program writes of the job that was read.
 pub fn run(rt: &(impl Input + Print), program: Program) -> io::Result<usize>
     ensures { IfOk result (GivesToWrite program) }
 {
-    let mut space = [0u8; 65536];
     let mut reader = rt.reader();
-    let got = read_full(&mut reader, &mut space)?;
-    let mut out = [0u8; 32768];
-    let n = respond(program, &space, got, &mut out);
-    rt.write_all(&out[..n])?;
-    Ok(n)
+    let mut writer = io::writer(rt);
+    run_between(program, &mut reader, &mut writer)
 }
