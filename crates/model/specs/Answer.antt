@@ -59,7 +59,7 @@ flag true = 1
 
 -- "The answer is AN, ..": its mark.
 abbrev pub AN : ℕ
-AN = mark_of 0x41 0x4_e
+AN = mark_of 0x41 0x4E
 
 -- "A DE record per returned path": its mark.
 abbrev pub DE : ℕ
@@ -71,7 +71,7 @@ SH = mark_of 0x53 0x48
 
 -- "Per node NO": its mark.
 abbrev pub NO : ℕ
-NO = mark_of 0x4_e 0x4_f
+NO = mark_of 0x4E 0x4F
 
 -- "Per block in job order SE": its mark.
 abbrev pub SE : ℕ

@@ -38,7 +38,7 @@ HD = mark_of 0x48 0x44
 
 -- "Per block BL": the mark of a block.
 abbrev pub BL : ℕ
-BL = mark_of 0x42 0x4_c
+BL = mark_of 0x42 0x4C
 
 -- "Its assumed paths follow as PA records": the mark of a path that is assumed as it stands, which
 -- E5 calls a ready path.

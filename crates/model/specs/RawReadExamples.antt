@@ -147,7 +147,7 @@ reads_copied = refl
 abbrev front : List ℕ
 front =
     0x48 ∷ 0x44 ∷ 1 ∷ 0 ∷ 0 ∷ 0 ∷ 7 ∷ 0 ∷ 0 ∷ 0 ∷
-    0x42 ∷ 0x4_c ∷ 7 ∷ 0 ∷ 0 ∷ 0 ∷ 0 ∷ 1 ∷ 1 ∷
+    0x42 ∷ 0x4C ∷ 7 ∷ 0 ∷ 0 ∷ 0 ∷ 0 ∷ 1 ∷ 1 ∷
     0x52 ∷ 0x44 ∷ 3 ∷ 0 ∷ 0 ∷ 0 ∷ []
 
 -- a range start of 4,294,967,294, and the one that is refused
@@ -214,7 +214,7 @@ start_before_unknown = refl
 
 pub start_before_repeated :
     as_job (take 2 front ++ (2 ∷ drop 3 (take 10 front)
-    ++ (0x42 ∷ 0x4_c ∷ 7 ∷ 0 ∷ 0 ∷ 0 ∷ 0 ∷ 0 ∷ 0 ∷ drop 10 front ++ (refused_start ++ behind))))
+    ++ (0x42 ∷ 0x4C ∷ 7 ∷ 0 ∷ 0 ∷ 0 ∷ 0 ∷ 0 ∷ 0 ∷ drop 10 front ++ (refused_start ++ behind))))
     ≡ refused LargestStart
 unfolding read_job
 start_before_repeated = refl

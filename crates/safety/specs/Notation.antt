@@ -81,7 +81,7 @@ module _ {operation : List ℕ → List ℕ → Verdict} {Hypothesis : List Bloc
 
 -- AN, 1 path, so many rounds, settled; DE 5, reactive, with these entries
 abbrev answer_by : ℕ → List ℕ → List ℕ
-answer_by rounds entries = 0x41 ∷ 0x4_e ∷ 1 ∷ 0 ∷ rounds ∷ 1 ∷ 0x44 ∷ 0x45 ∷ 5 ∷ 0 ∷ 0 ∷ 0 ∷ 1 ∷ 0 ∷ 0 ∷ 0 ∷ 0 ∷ entries
+answer_by rounds entries = 0x41 ∷ 0x4E ∷ 1 ∷ 0 ∷ rounds ∷ 1 ∷ 0x44 ∷ 0x45 ∷ 5 ∷ 0 ∷ 0 ∷ 0 ∷ 1 ∷ 0 ∷ 0 ∷ 0 ∷ 0 ∷ entries
 
 -- An operation answers a job by one path, after so many rounds.
 abbrev ReturnsOne : (List ℕ → List ℕ → Verdict) → Job → ℕ → ReactiveScopeDependency → List ℕ → Type 0

@@ -22,7 +22,7 @@ repeating_shorter = omega arith
 -- AN, 1 path, 1 round, settled; DE 1.10
 abbrev answer : List ℕ
 answer =
-    0x41 ∷ 0x4_e ∷ 1 ∷ 0 ∷ 1 ∷ 1 ∷
+    0x41 ∷ 0x4E ∷ 1 ∷ 0 ∷ 1 ∷ 1 ∷
     0x44 ∷ 0x45 ∷ 1 ∷ 0 ∷ 0 ∷ 0 ∷ 1 ∷ 6 ∷ 0 ∷ 0 ∷ 0 ∷ 1 ∷ 0 ∷ 0 ∷ 10 ∷ 0 ∷ 0 ∷ 0 ∷ 0 ∷ 0 ∷ 0 ∷ 0 ∷ 6 ∷ 0 ∷ 0 ∷ 0 ∷ []
 
 thin_answered : answer_of thin (replicate least_buffer 0) ≡ writes answer
