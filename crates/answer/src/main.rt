@@ -1,5 +1,6 @@
 // Program `answer`: a job on standard input, its answer on standard output.
 #![tactic(auto)]
+
 use run::Program;
 use std::io;
 

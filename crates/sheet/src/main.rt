@@ -1,5 +1,6 @@
 // Program `sheet`: a job on standard input, its sheet on standard output.
 #![tactic(auto)]
+
 use run::Program;
 use std::io;
 

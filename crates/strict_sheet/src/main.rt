@@ -1,6 +1,7 @@
 // Program `strict_sheet`: a job on standard input, its sheet by the strict propagation on standard
 // output.
 #![tactic(auto)]
+
 use run::Program;
 use std::io;
 

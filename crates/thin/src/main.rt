@@ -1,5 +1,6 @@
 // Program `thin`: a job on standard input, its thin job on standard output.
 #![tactic(auto)]
+
 use run::Program;
 use std::io;
 
