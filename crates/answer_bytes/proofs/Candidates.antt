@@ -14,7 +14,17 @@ use Rattle.model.specs.Job.{CA, read_entry, read_path}
 use Rattle.model.specs.Sets.{NodeSet}
 use Rattle.model.specs.Registry.{PropertyPathRegistry, full_path_of}
 use Rattle.model.specs.Forest.{identifier_key, property_key, Forest, empty, Found, find_key, child_by_key, add, add_all}
-use Rattle.model.specs.Tree.{HoistablePosition, hoistable_key, hoistable_tree, at_non_null, dependency_key, merge_position, root_position, walk_candidate, dependency_tree}
+use Rattle.model.specs.Tree.{
+  HoistablePosition,
+  hoistable_key,
+  hoistable_tree,
+  at_non_null,
+  dependency_key,
+  merge_position,
+  root_position,
+  walk_candidate,
+  dependency_tree,
+}
 use Rattle.job.specs.Head.{read_path_head}
 use Rattle.job.specs.declared.PathHead.{PathHead}
 use Rattle.job.proofs.Many.{many_first}
@@ -30,7 +40,8 @@ use Rattle.tree.proofs.Caller.{path_at_lem, FlagsAt, walk_by_flags}
 use Rattle.answer_bytes.specs.Answers.{CandidatesAt, AddsCandidates}
 
 -- The bits of the levels' number are the flags of a walk.
-flags_at : (m : ℕ) (h : Option (Found HoistablePosition)) (es : List DependencyPathEntry) → length es ≤ m → FlagsAt h es (bits_of m (number_of (levels_of h es)))
+flags_at : (m : ℕ) (h : Option (Found HoistablePosition)) (es : List DependencyPathEntry) → length es ≤ m
+    → FlagsAt h es (bits_of m (number_of (levels_of h es)))
 unfolding levels_of
 flags_at m h [] l = tt
 flags_at zero h (e ∷ es) l = absurd (omega arith)
@@ -56,7 +67,8 @@ pub record Adding (s : List ℕ) (start count : ℕ) (reg : PropertyPathRegistry
   pub room : count_in tree + 17 * left < length tree
   pub on : (cs : List ReactiveScopeDependency) (end : ℕ) → read_many count (read_path 4 CA) s start ≡ got cs end
       → (rest : List ReactiveScopeDependency) × (read_many left (read_path 4 CA) s at ≡ got rest end)
-      × (add_all dependency_key merge_position (forest_of s tree) (map (walk_candidate (tree_of reg set)) rest) ≡ dependency_tree (map (full_path_of reg) set) cs)
+      × (add_all dependency_key merge_position (forest_of s tree) (map (walk_candidate (tree_of reg set)) rest)
+      ≡ dependency_tree (map (full_path_of reg) set) cs)
 
 pub adding : (s : List ℕ) (start count : ℕ) (reg : PropertyPathRegistry) (set : NodeSet) (tree : List ℕ) → 17 * count < length tree
     → Held s tree → forest_of s tree ≡ empty → count_in tree ≡ 0

@@ -155,5 +155,6 @@ module _ (rows : ℕ → List ℕ) (n : ℕ) (order g₀ g₁ g₂ : List ℕ) (
         none_among g b (128 - n) 0 (omega arith) (λ q a l. bit_below b q b< (omega arith))
         ∙ ap (successors_from g b) (zero-add (128 - n))
         ∙ map_select (block_of_rank g) (is_successor g b) (λ j. any_of (eqb b) (rows j)) (places_from (128 - n) (128 - (128 - n)))
-        (places_all (λ q. is_successor g b q ≡ any_of (eqb b) (rows (block_of_rank g q))) (128 - n) (128 - (128 - n)) (λ q a l. bit_from b q b< a (omega arith)))
+        (places_all (λ q. is_successor g b q ≡ any_of (eqb b) (rows (block_of_rank g q))) (128 - n) (128 - (128 - n))
+        (λ q a l. bit_from b q b< a (omega arith)))
         ∙ ap (select (λ j. any_of (eqb b) (rows j))) order_is

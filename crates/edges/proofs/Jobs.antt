@@ -11,7 +11,7 @@ use lib.Seq.{get_or-drop}
 use lib.Dec.{eqb, leb, ltb, leb→le, le→leb}
 use Rattle.entries.specs.declared.BlockId.{BlockId}
 use Rattle.model.specs.Lists.{select, any_of}
-use Rattle.model.specs.ListLaws.{All, all_map, all_get_d, NoRepeats}
+use Rattle.model.specs.ListLaws.{All, all_map, all_get_or, NoRepeats}
 use Rattle.model.specs.Tests.{decide, never, passes_test, test_passes, eqb_same, eqb_equal, eqb-true, eqb_apart, ltb_true, ltb_false}
 use Rattle.model.specs.ReadingBytes.{got, read_many}
 use Rattle.model.specs.Job.{Block, Job, read_block_id, same_block, contains_id, ids_of}
@@ -218,7 +218,7 @@ module _ (s ids places : List ℕ) (n : ℕ) (job : NotedJob s ids places n) (g�
   small : (b i : ℕ) → b < n → get_or (rows_at s ids places n b) i 0 < 128
   small b i l =
       let most = job.few in
-      all_get_d (λ x. x < 128) (rows_at s ids places n b) i 0
+      all_get_or (λ x. x < 128) (rows_at s ids places n b) i 0
       (all_map (λ c. c < n) (λ c. c < 128) (λ c h. omega arith) (rows_at s ids places n b) (row_below b l)) (omega arith)
 
   inside : All (λ k. k < n) (sort_by_number ids (places_from 0 n))

@@ -15,7 +15,8 @@ unequal : (xs ys : List DependencyPathEntry) → eqb (length xs) (length ys) ≡
 unequal [] [] e = e
 unequal [] (y ∷ ys) e = refl
 unequal (x ∷ xs) [] e = refl
-unequal (x ∷ xs) (y ∷ ys) e = ap (λ (r : Bool). same_entry x y && r) (unequal xs ys (sym (eqb-suc-suc (length xs) (length ys)) ∙ e)) ∙ and-false (same_entry x y)
+unequal (x ∷ xs) (y ∷ ys) e =
+    ap (λ (r : Bool). same_entry x y && r) (unequal xs ys (sym (eqb-suc-suc (length xs) (length ys)) ∙ e)) ∙ and-false (same_entry x y)
 
 guarded : (b r : Bool) → (b ≡ false → r ≡ false) → r ≡ (b && r)
 guarded true r f = refl

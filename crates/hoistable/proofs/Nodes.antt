@@ -19,7 +19,8 @@ use Rattle.registry.specs.Words.{stored_node, count_in, nodes_of, registry_of}
 use Rattle.registry.proofs.Stored.{nodes_of_length, nodes_of_at}
 use Rattle.registry.proofs.View.{registry_length, origin_at}
 
-node_over_lem : (before : PropertyPathRegistry) (ns : List Node) (k : ℕ) (d : Node) {i : IdentifierId} {r : Bool} {s : ℕ} → k < length ns → get_or ns k d ≡ Root i r s
+node_over_lem : (before : PropertyPathRegistry) (ns : List Node) (k : ℕ) (d : Node) {i : IdentifierId} {r : Bool} {s : ℕ} → k < length ns
+    → get_or ns k d ≡ Root i r s
     → Placed.node_at (nodes_over before ns) k ≡ root_node i r s
 node_over_lem before [] k d l e = absurd (not-suc-le-zero l)
 node_over_lem before (n ∷ ns) zero d l e = ap (node_over before) e

@@ -50,7 +50,11 @@ pub record IsWord (word k parent : ℕ) (optional : Bool) : Type 0 where
 
 -- The position of a word, with its parent's number.
 abbrev pub node_of : List ℕ → ℕ → Flat.Node HoistablePosition
-node_of ws word = record { parent = parent_in word; here = position_of (key_of (stored_node ws (maker_in word))) (access_of (optional_in word)) }
+node_of ws word = record {
+  parent = parent_in word;
+  here =
+      position_of (key_of (stored_node ws (maker_in word))) (access_of (optional_in word));
+}
 
 -- Position j of the words.
 abbrev pub position_at : List ℕ → List ℕ → ℕ → Flat.Node HoistablePosition

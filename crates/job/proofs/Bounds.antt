@@ -49,7 +49,8 @@ candidates_most mark s at =
     rw header_fields
     (holds_after P (read_mark mark s at) _ (λ _ blocks_at.
     holds_after P (read_within 1 128 (read_number 2) s blocks_at) _ (λ blocks candidates_at.
-    holds_then (λ x. x ≤ 64) P (read_within 0 64 (read_number 2) s candidates_at) _ (within_most 0 64 (read_number 2) s candidates_at) (λ candidates scope_at few.
+    holds_then (λ x. x ≤ 64) P (read_within 0 64 (read_number 2) s candidates_at) _ (within_most 0 64 (read_number 2) s candidates_at)
+    (λ candidates scope_at few.
     holds_after P (read_block_id s scope_at) _ (λ scope next. few)))))
 
 pub predecessors_most : (s : List ℕ) (at : ℕ) → HoldsIfRead (λ (h : BlockHead). h.predecessors ≤ 64) (read_block_head s at)

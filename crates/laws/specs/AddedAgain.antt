@@ -15,7 +15,20 @@ use Rattle.entries.specs.Path.{same_entry, are_equal_paths, ReactiveScopeDepende
 use Rattle.entries.specs.Access.{is_optional_access, is_dependency_access, merge_access}
 use Rattle.model.specs.Tests.{by_cond, never, eqb-true, and_first, and_second}
 use Rattle.model.proofs.RegistryLaws.{entry_property, entry_optional}
-use Rattle.model.specs.Forest.{Key, identifier_key, property_key, same_key, Forest, empty, position, Found, find_key, child_by_key, add, add_all}
+use Rattle.model.specs.Forest.{
+  Key,
+  identifier_key,
+  property_key,
+  same_key,
+  Forest,
+  empty,
+  position,
+  Found,
+  find_key,
+  child_by_key,
+  add,
+  add_all,
+}
 use Rattle.model.specs.Tree.{
   HoistablePosition,
   hoistable_key,
@@ -214,7 +227,8 @@ entries_alike {h} {g} there p q k a (e ∷ es) (f ∷ fs) same =
     let step = ap (λ (o : Option (Found HoistablePosition)). step_access (at_non_null o)) there in
     either_related AlikeWalks (at_non_null h || e.optional) (at_non_null g || f.optional) (λ i. at_non_null (there i) || optional i) (
       positions_alike p q k a,
-      entries_alike {h = child_by_key hoistable_key h (property_key e.property)} {g = child_by_key hoistable_key g (property_key f.property)}
+      entries_alike {h = child_by_key hoistable_key h (property_key e.property)} {g =
+          child_by_key hoistable_key g (property_key f.property)}
           (λ i. child_by_key hoistable_key (there i) (property_key (property i)))
           (step_to e (step_access (at_non_null h))) (step_to f (step_access (at_non_null g))) (ap property_key property) step es fs
           (and_second (same_entry e f) _ same),
@@ -234,7 +248,8 @@ candidates_alike t d e same equal =
 pub walk_again : (t : Forest HoistablePosition) (f : Forest DependencyPosition) (d e : ReactiveScopeDependency)
     (vs : List (List DependencyPosition)) → eqb d.identifier.0 e.identifier.0 ≡ true
     → are_equal_paths d.path e.path ≡ true
-    → add dependency_key merge_position (add_all dependency_key merge_position (add dependency_key merge_position f (walk_candidate t d)) vs)
+    → add dependency_key merge_position
+    (add_all dependency_key merge_position (add dependency_key merge_position f (walk_candidate t d)) vs)
     (walk_candidate t e) ≡ add_all dependency_key merge_position (add dependency_key merge_position f (walk_candidate t d)) vs
 walk_again t f d e vs same equal = added_again dependency_key merge_position (λ p s. refl) merged_stays f (walk_candidate t d)
     (walk_candidate t e) vs (candidates_alike t d e same equal)

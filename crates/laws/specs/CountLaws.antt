@@ -58,7 +58,8 @@ module _ {A B : Type 0} (test : A → B → Bool) where
   pairs_swap [] ys = sym (pairs_nil ys)
   pairs_swap (x ∷ xs) ys = let h = pairs_swap xs ys in let c = pairs_cons x xs ys in omega arith
 
-  ones : (ys : List B) (xs : List A) → All (λ y. count_of (λ x. test x y) xs ≡ 1) ys → sum_of (λ y. count_of (λ x. test x y) xs) ys ≡ length ys
+  ones : (ys : List B) (xs : List A) → All (λ y. count_of (λ x. test x y) xs ≡ 1) ys
+      → sum_of (λ y. count_of (λ x. test x y) xs) ys ≡ length ys
   ones [] xs h = refl
   ones (y ∷ ys) xs h = let rest = ones ys xs h.1 in let e = h.0 in omega arith
 

@@ -14,7 +14,7 @@ use Rattle.model.specs.Reduction.{reduce_maybe_optional_chains}
 use Rattle.model.specs.Propagation.{JoiningRule, has_changed, round_start, round, propagate_with, propagate_non_null}
 use Rattle.model.specs.Stage.{graph_of, start_of, propagated}
 use Rattle.model.specs.Tests.{by_cond, never, test_passes, eqb-false, and_first, and_second}
-use Rattle.model.specs.ListLaws.{All, all_map, all_both, all_get_d}
+use Rattle.model.specs.ListLaws.{All, all_map, all_both, all_get_or}
 use Rattle.model.specs.ReadingBytes.{
   Read,
   got,
@@ -165,7 +165,7 @@ pub record Acceptable (span_bytes : ℕ) (j : Job) : Type 0 where
 module _ (s : List ℕ) (bytes : All (λ b. b < 256) s) where
   byte_fits : (at : ℕ) → HoldsIfRead (λ x. x < 256) (read_byte s at)
   unfolding read_byte
-  byte_fits at = by_cond (HoldsIfRead (λ x. x < 256)) (ltb at (length s)) (λ e. all_get_d (λ b. b < 256) s at 0 bytes (omega arith))
+  byte_fits at = by_cond (HoldsIfRead (λ x. x < 256)) (ltb at (length s)) (λ e. all_get_or (λ b. b < 256) s at 0 bytes (omega arith))
       (λ e. tt)
 
   number_fits : (n at : ℕ) → HoldsIfRead (λ x. x < 256 ^ n) (read_number n s at)
@@ -240,11 +240,14 @@ module _ (s : List ℕ) (bytes : All (λ b. b < 256) s) where
   unfolding read_raw_read
   raw_read_fits w at =
       holds_then (λ x. Unit {0}) (RawReadFits w) (read_mark RD s at) _ (any_value (read_mark RD s at)) (λ _ instruction_at _.
-      holds_then (λ x. x < 256 ^ 4) (RawReadFits w) (read_number 4 s instruction_at) _ (number_fits 4 instruction_at) (λ instruction start_at i.
+      holds_then (λ x. x < 256 ^ 4) (RawReadFits w) (read_number 4 s instruction_at) _ (number_fits 4 instruction_at)
+      (λ instruction start_at i.
       holds_then (λ x. x < largest_start) (RawReadFits w) (read_range_start s start_at) _ (start_fits start_at) (λ start end_at a.
       holds_then (λ x. x < 256 ^ 4) (RawReadFits w) (read_number 4 s end_at) _ (number_fits 4 end_at) (λ end has_scope_at e.
-      holds_then (λ x. Unit {0}) (RawReadFits w) (read_flag s has_scope_at) _ (any_value (read_flag s has_scope_at)) (λ has_scope scope_start_at _.
-      holds_then (λ x. x < 256 ^ 4) (RawReadFits w) (read_number 4 s scope_start_at) _ (number_fits 4 scope_start_at) (λ scope_start scope_end_at b.
+      holds_then (λ x. Unit {0}) (RawReadFits w) (read_flag s has_scope_at) _ (any_value (read_flag s has_scope_at))
+      (λ has_scope scope_start_at _.
+      holds_then (λ x. x < 256 ^ 4) (RawReadFits w) (read_number 4 s scope_start_at) _ (number_fits 4 scope_start_at)
+      (λ scope_start scope_end_at b.
       holds_then (λ x. x < 256 ^ 4) (RawReadFits w) (read_number 4 s scope_end_at) _ (number_fits 4 scope_end_at) (λ scope_end known_at c.
       holds_then (λ x. Unit {0}) (RawReadFits w) (read_flag s known_at) _ (any_value (read_flag s known_at)) (λ known fields_at _.
       holds_mapped (PathFits w) (RawReadFits w) _ (read_path_fields w s fields_at) (fields_fit w fields_at) (λ d p.
@@ -278,7 +281,8 @@ module _ (s : List ℕ) (bytes : All (λ b. b < 256) s) where
   header_fits mark at =
       holds_then (λ x. Unit {0}) HeaderFits (read_mark mark s at) _ (any_value (read_mark mark s at)) (λ _ blocks_at _.
       holds_then _ HeaderFits (read_within 1 128 read_u16 s blocks_at) _ (within_fits 1 128 read_u16 blocks_at) (λ blocks candidates_at b.
-      holds_then _ HeaderFits (read_within 0 64 read_u16 s candidates_at) _ (within_fits 0 64 read_u16 candidates_at) (λ candidates scope_at c.
+      holds_then _ HeaderFits (read_within 0 64 read_u16 s candidates_at) _ (within_fits 0 64 read_u16 candidates_at)
+      (λ candidates scope_at c.
       holds_then IdFits HeaderFits (read_block_id s scope_at) _ (id_fits scope_at) (λ scope next i.
       record { some = b.0; few = b.1; few_candidates = c.1; scope = i }))))
 
@@ -417,7 +421,8 @@ fields w hs cs fit =
     (all_map (PathFits w) (λ c. WayAlong dependency_key same (Fit w) tt (walk_candidate (hoistable_tree hs) c))
     (λ c f. walk_fits w _ (root_position c) c.path (record { key = f.identifier; span = f.span }) f.entries) cs fit)))))
 
-pub returned_fit : (w : ℕ) (hs cs : List ReactiveScopeDependency) → All (PathFits w) cs → All (PathFits w) (derive_minimal_dependencies hs cs)
+pub returned_fit : (w : ℕ) (hs cs : List ReactiveScopeDependency) → All (PathFits w) cs
+    → All (PathFits w) (derive_minimal_dependencies hs cs)
 returned_fit w hs cs fit =
     let returned = derive_minimal_dependencies hs cs in
     all_map (λ d. Fields w d × (any_of (prefix_of d) cs ≡ true)) (PathFits w)

@@ -10,7 +10,7 @@ use Rattle.std.proofs.lemmas.Bool.{not-false}
 use Rattle.entries.specs.declared.BlockId.{BlockId}
 use Rattle.model.specs.Lists.{any_of}
 use Rattle.model.specs.Tests.{by_cond, decide, never, eqb_same, eqb-true}
-use Rattle.model.specs.ListLaws.{All, all_map, all_both, all_select, all_get_d, NoRepeats, no_repeats_select}
+use Rattle.model.specs.ListLaws.{All, all_map, all_both, all_select, all_get_or, NoRepeats, no_repeats_select}
 use Rattle.model.specs.Rounds.{job_order}
 use Rattle.model.specs.Job.{Block, Job, same_block, contains_id, repeats, ids_of, has_repeat, has_unknown}
 use Rattle.model.specs.Stage.{block_at, place_of, predecessors_of, insert_by_id, sort_by_id, by_ascending_id, successors_of}
@@ -29,7 +29,7 @@ use Rattle.laws.specs.Membership.{
   any_some,
   some_any,
   none_any,
-  member_get_d,
+  member_get_or,
   all_of_map,
   some_of_map,
   some_unmap,
@@ -73,7 +73,7 @@ pub place_own : (bs : List Block) (k : ℕ) → repeats (ids_of bs) ≡ false �
 place_own [] k d h = absurd (not-suc-le-zero h)
 place_own (c ∷ cs) zero d h = rw (eqb_same c.id.0)
 place_own (c ∷ cs) (suc k) d h =
-    rw (first_apart c cs (block_at cs k).id d (member_id (block_at cs k) cs (member_get_d cs k _ (omega arith))))
+    rw (first_apart c cs (block_at cs k).id d (member_id (block_at cs k) cs (member_get_or cs k _ (omega arith))))
     (ap suc (place_own cs k (later_distinct c cs d) (omega arith)))
 
 -- a block has a place
@@ -91,7 +91,8 @@ place_member b bs d m =
     rw own (h, e)
 
 -- the place of a known id
-pub place_known : (bs : List Block) (i : BlockId) → Member i (ids_of bs) → (place_of bs i < length bs) × ((block_at bs (place_of bs i)).id ≡ i)
+pub place_known : (bs : List Block) (i : BlockId) → Member i (ids_of bs) → (place_of bs i < length bs)
+    × ((block_at bs (place_of bs i)).id ≡ i)
 place_known [] i x' = elim x' [ ]
 place_known (c ∷ cs) i (inl h) = rw (ap (λ k. same_block k i) h ∙ eqb_same i.0) (omega arith, h)
 place_known (c ∷ cs) i (inr m) =
@@ -176,7 +177,7 @@ proper_blocks j r u =
 
 module _ (bs : List Block) (ok : ProperBlocks bs) where
   pub known_at : (b : ℕ) → All (λ i. Member i (ids_of bs)) (block_at bs b).predecessors
-  known_at b = all_get_d (λ c. All (λ i. Member i (ids_of bs)) c.predecessors) bs b _ ok.known tt
+  known_at b = all_get_or (λ c. All (λ i. Member i (ids_of bs)) c.predecessors) bs b _ ok.known tt
 
   pub predecessors_inside : (b : ℕ) → All (λ c. c < length bs) (predecessors_of bs b)
   unfolding predecessors_of
@@ -217,7 +218,8 @@ module _ (bs : List Block) (ok : ProperBlocks bs) where
       contains_member (block_at bs c).predecessors (block_at bs b).id
       (all_at (λ k. contains_id (block_at bs k).predecessors (block_at bs b).id ≡ true) (successors_of bs b) c
       (all_chosen (λ k. contains_id (block_at bs k).predecessors (block_at bs b).id ≡ true)
-      (λ k. contains_id (block_at bs k).predecessors (block_at bs b).id) (by_ascending_id bs) (all_of _ (by_ascending_id bs) (λ k n t. t))) m)
+      (λ k. contains_id (block_at bs k).predecessors (block_at bs b).id) (by_ascending_id bs)
+      (all_of _ (by_ascending_id bs) (λ k n t. t))) m)
 
   pub precedes_successor : (b : ℕ) (P : ℕ → Type 0) (c : ℕ) → c < length bs → P c → Member (block_at bs b).id
       (block_at bs c).predecessors → Some P (successors_of bs b)
@@ -242,7 +244,7 @@ module _ (bs : List Block) (ok : ProperBlocks bs) where
       apart : (k : ℕ) → k < length bs → contains_id (block_at bs k).predecessors (block_at bs b).id ≡ false
       apart k h =
           decide (contains_id (block_at bs k).predecessors (block_at bs b).id)
-          (λ e. absurd (all_at (λ c. Member (block_at bs b).id c.predecessors → ⊥) bs (block_at bs k) none (member_get_d bs k _ h)
+          (λ e. absurd (all_at (λ c. Member (block_at bs b).id c.predecessors → ⊥) bs (block_at bs k) none (member_get_or bs k _ h)
           (contains_member (block_at bs k).predecessors (block_at bs b).id e)))
           (λ e. e)
 
@@ -251,7 +253,7 @@ module _ (bs : List Block) (ok : ProperBlocks bs) where
   pub successor_predecessor : (b c : ℕ) → b < length bs → Member c (successors_of bs b) → Member b (predecessors_of bs c)
   successor_predecessor b c h m =
       subst (λ k. Member k (predecessors_of bs c)) (place_own bs b ok.distinct h)
-      (precedes_predecessor (block_at bs b) c (member_get_d bs b _ h) (successor_precedes b c m))
+      (precedes_predecessor (block_at bs b) c (member_get_or bs b _ h) (successor_precedes b c m))
 
   pub reach_inside : {a b : ℕ} → Reach (successors_of bs) a b → b < length bs
   reach_inside {a} {b} (one m) = all_at (λ c. c < length bs) (successors_of bs a) b (successors_inside a) m
@@ -289,4 +291,4 @@ module _ (bs : List Block) (ok : ProperBlocks bs) where
   unfolding predecessors_of
   predecessors_once b =
       ids_once (block_at bs b).predecessors (known_at b)
-      (all_get_d (λ c. repeats c.predecessors ≡ false) bs b _ ok.predecessors_distinct refl)
+      (all_get_or (λ c. repeats c.predecessors ≡ false) bs b _ ok.predecessors_distinct refl)

@@ -11,7 +11,20 @@ use Rattle.std.proofs.lemmas.List.{length-replicate}
 use Rattle.model.specs.Tests.{decide, never}
 use Rattle.model.specs.Sets.{NodeSet}
 use Rattle.model.specs.Registry.{PropertyPathRegistry}
-use Rattle.model.specs.Visit.{TraversalState, Unmarked, Done, is_marked, Visited, unmarked_in, marked, enter, leave, each, visit_within, visit}
+use Rattle.model.specs.Visit.{
+  TraversalState,
+  Unmarked,
+  Done,
+  is_marked,
+  Visited,
+  unmarked_in,
+  marked,
+  enter,
+  leave,
+  each,
+  visit_within,
+  visit,
+}
 use Rattle.model.specs.Rounds.{job_order, reverse_job_order, walk, rounds_from}
 use Rattle.model.specs.Reduction.{reduce_maybe_optional_chains}
 use Rattle.model.specs.Propagation.{

@@ -68,10 +68,10 @@ module _ {A : Type 0} where
   none_any test [] h = tt
   none_any test (x ∷ xs) h = ((neither (test x) (any_of test xs) h).0, none_any test xs (neither (test x) (any_of test xs) h).1)
 
-  pub member_get_d : (xs : List A) (k : ℕ) (d : A) → k < length xs → Member (get_or xs k d) xs
-  member_get_d [] k d h = absurd (not-suc-le-zero h)
-  member_get_d (x ∷ xs) zero d h = inl refl
-  member_get_d (x ∷ xs) (suc k) d h = inr (member_get_d xs k d (omega arith))
+  pub member_get_or : (xs : List A) (k : ℕ) (d : A) → k < length xs → Member (get_or xs k d) xs
+  member_get_or [] k d h = absurd (not-suc-le-zero h)
+  member_get_or (x ∷ xs) zero d h = inl refl
+  member_get_or (x ∷ xs) (suc k) d h = inr (member_get_or xs k d (omega arith))
 
   pub all_reverse_aux : (P : A → Type 0) (xs ys : List A) → All P xs → All P ys → All P (reverse_aux xs ys)
   all_reverse_aux P [] ys a b = b

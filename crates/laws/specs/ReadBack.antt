@@ -1,7 +1,20 @@
 -- What is written is read back: a reader that stands where a value's bytes begin gives the value
 -- and the place after them, where each number fits its width.
 use Rattle.std.specs.Prelude.{ℕ, zero, suc, ◌+◌, ◌*◌, ◌^◌, ◌/◌, ◌%◌, ◌≤◌, ◌<◌, ◌≡◌, List, [], ◌∷◌, ◌++◌, length, eqb, ltb, leb}
-use Rattle.std.proofs.Common.{div-lt_iff_lt-mul, pow-suc, arith, sym, ap, subst, ◌∙◌, append_assoc, append-nil, length-append, lt→ltb, le→leb}
+use Rattle.std.proofs.Common.{
+  div-lt_iff_lt-mul,
+  pow-suc,
+  arith,
+  sym,
+  ap,
+  subst,
+  ◌∙◌,
+  append_assoc,
+  append-nil,
+  length-append,
+  lt→ltb,
+  le→leb,
+}
 use Rattle.std.proofs.Math.Nat.{pow-zero}
 use mathlib.Core.Bool.{Bool, true, false, cond}
 use Rattle.std.proofs.Math.Seq.{get_or-append_seam}
@@ -10,7 +23,20 @@ use Rattle.entries.specs.Path.{ReactiveScopeDependency}
 use Rattle.model.specs.Lists.{concat_map}
 use Rattle.model.specs.Tests.{passes_test, eqb_same}
 use Rattle.model.specs.ListLaws.{All, all_map}
-use Rattle.model.specs.ReadingBytes.{got, refused, ByteReader, and_then, mapped, read_many, read_byte, read_number, read_u8, read_mark, read_within, read_flag}
+use Rattle.model.specs.ReadingBytes.{
+  got,
+  refused,
+  ByteReader,
+  and_then,
+  mapped,
+  read_many,
+  read_byte,
+  read_number,
+  read_u8,
+  read_mark,
+  read_within,
+  read_flag,
+}
 use Rattle.model.specs.Rounds.{Rounds}
 use Rattle.model.specs.Propagation.{Work}
 use Rattle.entries.specs.Property.{property_of, is_number, value_of, property_back}
@@ -204,7 +230,8 @@ pub path_back : (w mark : ℕ) (d : ReactiveScopeDependency) → mark < 256 ^ 2 
     (path_bytes w mark d)
 unfolding read_path path_bytes
 path_back w mark d m f =
-    then_back (read_mark mark) (λ _. read_path_fields w) tt d (number_bytes 2 mark) (path_field_bytes w d) (mark_back mark m) (fields_back w d f)
+    then_back (read_mark mark) (λ _. read_path_fields w) tt d (number_bytes 2 mark) (path_field_bytes w d) (mark_back mark m)
+    (fields_back w d f)
 
 -- The answer holds the returned paths, the rounds and whether they settled.
 pub answer_back : (w : ℕ) (job : Job) (p : Rounds Work) → length (returned_paths job p.work) < 256 ^ 2 → p.rounds < 256 → All
@@ -224,7 +251,8 @@ answer_back w job p few low fits =
     (made p.rounds p.settled paths) settled_bytes paths_bytes (flag_back p.settled)
     (mapped_back (read_many (length paths) (read_path w DE)) (made p.rounds p.settled) paths paths_bytes
     (many_back (read_path w DE) (path_bytes w DE) paths
-    (all_map (PathFits w) (λ d. ReadsBack (read_path w DE) d (path_bytes w DE d)) (λ d f. path_back w DE d (omega arith) f) paths fits)))))))
+    (all_map (PathFits w) (λ d. ReadsBack (read_path w DE) d (path_bytes w DE d))
+    (λ d f. path_back w DE d (omega arith) f) paths fits)))))))
   where
     paths : List ReactiveScopeDependency
     paths = returned_paths job p.work

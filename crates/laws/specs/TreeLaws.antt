@@ -225,7 +225,8 @@ module _ (t : Forest HoistablePosition) (cs : List ReactiveScopeDependency) wher
       (λ c. prefix_begins ps c f.0) cs ∙ f.1) ways ways_proper)
 
 -- Each candidate has one returned path with its identifier and a prefix of its names ..
-pub returned_one : (hs cs : List ReactiveScopeDependency) → All (λ c. count_of (λ d. prefix_of d c) (derive_minimal_dependencies hs cs) ≡ 1) cs
+pub returned_one : (hs cs : List ReactiveScopeDependency)
+    → All (λ c. count_of (λ d. prefix_of d c) (derive_minimal_dependencies hs cs) ≡ 1) cs
 unfolding derive_minimal_dependencies dependency_tree
 returned_one hs cs = ways_one (hoistable_tree hs) cs
 

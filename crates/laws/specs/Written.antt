@@ -11,8 +11,19 @@ use Rattle.entries.specs.Path.{ReactiveScopeDependency}
 use Rattle.entries.specs.Property.{property_of, is_number, value_of}
 use Rattle.model.specs.Lists.{concat_map}
 use Rattle.model.specs.Tests.{by_cond, test_passes, eqb-true, ltb_true, and_second}
-use Rattle.model.specs.ListLaws.{All, all_get_d}
-use Rattle.model.specs.ReadingBytes.{got, ByteReader, read_many, read_byte, read_number, read_u8, read_u16, read_mark, read_within, read_flag}
+use Rattle.model.specs.ListLaws.{All, all_get_or}
+use Rattle.model.specs.ReadingBytes.{
+  got,
+  ByteReader,
+  read_many,
+  read_byte,
+  read_number,
+  read_u8,
+  read_u16,
+  read_mark,
+  read_within,
+  read_flag,
+}
 use Rattle.model.specs.RawReads.{RawRead}
 use Rattle.model.specs.Job.{
   BL,
@@ -106,7 +117,7 @@ module _ (s : List ℕ) (bytes : All (λ b. b < 256) s) where
       by_cond (HoldsAfter (λ b next. (b < 256) × Stand s at (b ∷ []) next)) (ltb at (length s))
       (λ e.
       let h = ltb_true at (length s) e in
-      (all_get_d (λ b. b < 256) s at 0 bytes (omega arith), record { here = rw (add-one, drop-cons s at 0); place = refl }))
+      (all_get_or (λ b. b < 256) s at 0 bytes (omega arith), record { here = rw (add-one, drop-cons s at 0); place = refl }))
       (λ e. tt)
 
   pub number_stands : (n : ℕ) → Written (number_bytes n) s (read_number n)
@@ -189,7 +200,8 @@ module _ (s : List ℕ) (bytes : All (λ b. b < 256) s) where
       after_then _ _ (read_number 4 s scope_start_at) _ (number_stands 4 scope_start_at) (λ scope_start scope_end_at b.
       after_then _ _ (read_number 4 s scope_end_at) _ (number_stands 4 scope_end_at) (λ scope_end known_at c.
       after_then _ _ (read_flag s known_at) _ (flag_stands known_at) (λ known fields_at k.
-      after_mapped _ (λ r next. Stand s at (raw_read_bytes w r) next) _ (read_path_fields w s fields_at) (fields_stand w fields_at) (λ d next f.
+      after_mapped _ (λ r next. Stand s at (raw_read_bytes w r) next) _ (read_path_fields w s fields_at) (fields_stand w fields_at)
+      (λ d next f.
       stand_then (stand_then (stand_then (stand_then (stand_then (stand_then (stand_then (stand_then m i) a) e) h) b) c) k) f)))))))))
 
   pub block_stands : (w : ℕ) → Written (block_bytes w) s (read_block w)
@@ -236,7 +248,8 @@ module _ (s : List ℕ) (bytes : All (λ b. b < 256) s) where
   records_whole : (head w : ℕ) → HoldsAfter (Whole head w) (read_records head w s)
   records_whole head w =
       rw records_parts
-      (after_then (λ j next. Stand s 0 (job_bytes head w j) next) (Whole head w) (read_parts head w s 0) (ends_there s) (parts_stand head w 0)
+      (after_then (λ j next. Stand s 0 (job_bytes head w j) next) (Whole head w) (read_parts head w s 0) (ends_there s)
+      (parts_stand head w 0)
       (λ j next h. by_cond (HoldsAfter (Whole head w)) (eqb next (length s))
       (λ e. let end = eqb-true next (length s) e in (h.here ∙ rw (end, drop-length, append-nil), end)) (λ e. tt)))
 

@@ -46,7 +46,7 @@ use Rattle.model.specs.Stage.{
   graph_of,
   propagated,
 }
-use Rattle.model.specs.ListLaws.{All, all_map, all_select, all_get_d, all_set, set_here, all_mapped}
+use Rattle.model.specs.ListLaws.{All, all_map, all_select, all_get_or, all_set, set_here, all_mapped}
 use Rattle.model.specs.SetLaws.{insert_from, select_from, union_from, insert_all, union_all}
 use Rattle.model.specs.RegistryLaws.{Extends, Sound}
 use Rattle.model.proofs.RegistryLaws.{property_longer, extends_refl, extends_trans, sound_empty, path_proper, path_extends}
@@ -90,7 +90,7 @@ members_intersection reg [] a = members_empty reg
 members_intersection reg (s ∷ ss) a = members_intersections reg s ss a.0
 
 pub members_set_of : (w : Work) → ProperWork w → (b : ℕ) → Members w.registry (set_of w.sets b)
-members_set_of w p b = all_get_d (Members w.registry) w.sets b [] p.members (members_empty w.registry)
+members_set_of w p b = all_get_or (Members w.registry) w.sets b [] p.members (members_empty w.registry)
 
 pub members_joined : (neighbours : List ℕ) (b : ℕ) (w : Work) → ProperWork w → Members w.registry (joined_set neighbours b w)
 members_joined neighbours b w p =

@@ -1,6 +1,29 @@
 -- Document 01, "Answer and sheet" and "Turning a job back": for any job bytes and any out buffer,
 -- the number returned and the buffer afterwards.
-use Rattle.std.specs.Prelude.{ℕ, zero, suc, ◌+◌, ◌*◌, ◌/◌, ◌%◌, Bool, true, false, cond, List, [], ◌∷◌, ◌++◌, length, drop, replicate, ℤ, pos, neg_ℤ, ltb}
+use Rattle.std.specs.Prelude.{
+  ℕ,
+  zero,
+  suc,
+  ◌+◌,
+  ◌*◌,
+  ◌/◌,
+  ◌%◌,
+  Bool,
+  true,
+  false,
+  cond,
+  List,
+  [],
+  ◌∷◌,
+  ◌++◌,
+  length,
+  drop,
+  replicate,
+  ℤ,
+  pos,
+  neg_ℤ,
+  ltb,
+}
 use Rattle.entries.specs.declared.DependencyPathEntry.{DependencyPathEntry}
 use Rattle.entries.specs.Property.{is_number, value_of}
 use Rattle.entries.specs.declared.Refusal.{Refusal}
@@ -123,7 +146,12 @@ read_answer span_bytes s at =
     and_then (read_u16 s count_at) (λ count rounds_at.
     and_then (read_u8 s rounds_at) (λ rounds settled_at.
     and_then (read_flag s settled_at) (λ settled paths_at.
-    mapped (λ paths. record { paths = paths; rounds = rounds; settled = settled }) (read_many count (read_path span_bytes DE) s paths_at)))))
+    mapped (λ paths. record {
+      paths = paths;
+      rounds = rounds;
+      settled =
+          settled;
+    }) (read_many count (read_path span_bytes DE) s paths_at)))))
 
 -- "Parent u16 (65535 for a root)"
 abbrev pub parent_number : Origin → ℕ
@@ -165,7 +193,8 @@ set_bytes (b ∷ bs) (s ∷ sets) = u16 SE ++ u32 b.id.0 ++ row_bytes s 0 64 ++ 
 -- "SH, nodes u16, blocks u16, rounds u8, settled u8". "The sheet's head gains a u16 at its end:
 -- nodes present before the first round" (E4).
 abbrev pub sheet_head : ℕ → ℕ → ℕ → Bool → ℕ → List ℕ
-sheet_head nodes blocks rounds settled nodes_before = u16 SH ++ u16 nodes ++ u16 blocks ++ u8 rounds ++ u8 (flag settled) ++ u16 nodes_before
+sheet_head nodes blocks rounds settled nodes_before =
+    u16 SH ++ u16 nodes ++ u16 blocks ++ u8 rounds ++ u8 (flag settled) ++ u16 nodes_before
 
 -- "The sheet is SH, ..; per node ..; per block ..". The nodes before the first round are those with
 -- which propagation starts.

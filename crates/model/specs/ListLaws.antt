@@ -29,10 +29,10 @@ module _ {A : Type 0} where
   all_append P [] ys a b = b
   all_append P (x ∷ xs) ys a b = (a.0, all_append P xs ys a.1 b)
 
-  pub all_get_d : (P : A → Type 0) (xs : List A) (k : ℕ) (d : A) → All P xs → P d → P (get_or xs k d)
-  all_get_d P [] k d a h = h
-  all_get_d P (x ∷ xs) zero d a h = a.0
-  all_get_d P (x ∷ xs) (suc k) d a h = all_get_d P xs k d a.1 h
+  pub all_get_or : (P : A → Type 0) (xs : List A) (k : ℕ) (d : A) → All P xs → P d → P (get_or xs k d)
+  all_get_or P [] k d a h = h
+  all_get_or P (x ∷ xs) zero d a h = a.0
+  all_get_or P (x ∷ xs) (suc k) d a h = all_get_or P xs k d a.1 h
 
   pub all_set : (P : A → Type 0) (xs : List A) (k : ℕ) (y : A) → All P xs → P y → All P (set xs k y)
   all_set P [] k y a h = tt

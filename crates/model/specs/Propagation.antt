@@ -33,8 +33,8 @@ unfoldable pub intersection_of : List NodeSet → NodeSet
 intersection_of [] = []
 intersection_of (s ∷ ss) = foldl intersection s ss
 
--- how a set is reduced: `reduce_maybe_optional_chains`, and in the laws any other function that does
--- so
+-- how a set is reduced: `reduce_maybe_optional_chains`, and in the laws any other function that
+-- does so
 abbrev pub Reducer : Type 0
 Reducer = PropertyPathRegistry → NodeSet → Reduced
 

@@ -1,5 +1,6 @@
--- What the laws of propagation speak of (the laws are in `proofs/PropagationLaws`): sound registries
--- with sets of their nodes, sets that are reduced, and registries that only reductions made longer.
+-- What the laws of propagation speak of (the laws are in `proofs/PropagationLaws`): sound
+-- registries with sets of their nodes, sets that are reduced, and registries that only reductions
+-- made longer.
 use Prim.Native.Nat.{ℕ}
 use Rattle.std.specs.Prelude.{◌≡◌}
 use mathlib.Core.List.{List, [], ◌∷◌, map}

@@ -1,5 +1,5 @@
--- What the laws of reduction speak of (the laws are in `proofs/ReductionLaws`): sets of the nodes of
--- a registry, functions that repeat passes, and sets that are reduced already.
+-- What the laws of reduction speak of (the laws are in `proofs/ReductionLaws`): sets of the nodes
+-- of a registry, functions that repeat passes, and sets that are reduced already.
 use Prim.Native.Nat.{◌<◌}
 use Rattle.std.specs.Prelude.{◌≡◌}
 use Rattle.std.proofs.Math.Bool.{true, false}

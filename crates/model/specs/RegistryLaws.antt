@@ -1,6 +1,6 @@
--- What the laws of registries speak of (the laws are in `proofs/RegistryLaws`): a registry keeps its
--- nodes at their places, and in a sound one a node is the only one with its identifier, or with its
--- parent and entry, and a child's path is its parent's and one entry more.
+-- What the laws of registries speak of (the laws are in `proofs/RegistryLaws`): a registry keeps
+-- its nodes at their places, and in a sound one a node is the only one with its identifier, or with
+-- its parent and entry, and a child's path is its parent's and one entry more.
 use Rattle.std.specs.Prelude.{ℕ, zero, ◌<◌, ◌≡◌, false, [], ◌∷◌, ◌++◌, get_or}
 use Rattle.std.proofs.Math.ListN.{length}
 use Rattle.entries.specs.declared.NodeId.{NodeId}

@@ -28,7 +28,8 @@ open_cons Done ms e = absurd (true_not_false e)
     true_not_false : true ≡ false → ⊥
     true_not_false e = subst (λ (b : Bool). cond b ℕ ⊥) e 0
 
-pub open_same : (ms : List TraversalState) (b : ℕ) (m : TraversalState) → is_done (get_or ms b Done) ≡ false → is_done m ≡ false → open_in (set ms b m) ≡ open_in ms
+pub open_same : (ms : List TraversalState) (b : ℕ) (m : TraversalState) → is_done (get_or ms b Done) ≡ false → is_done m ≡ false
+    → open_in (set ms b m) ≡ open_in ms
 unfolding open_in
 open_same [] b m e f = refl
 open_same (x ∷ ms) zero m e f = open_cons m ms f ∙ sym (open_cons x ms e)

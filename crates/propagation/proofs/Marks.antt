@@ -16,10 +16,10 @@ map_set f [] i v = refl
 map_set f (x ∷ l) zero v = refl
 map_set f (x ∷ l) (suc i) v = ap (λ (r : List TraversalState). f x ∷ r) (map_set f l i v)
 
-get_d_any : (l : List ℕ) (i d e : ℕ) → i < length l → get_or l i d ≡ get_or l i e
-get_d_any [] i d e h = omega arith
-get_d_any (x ∷ l) zero d e h = refl
-get_d_any (x ∷ l) (suc i) d e h = get_d_any l i d e (omega arith)
+get_or_any : (l : List ℕ) (i d e : ℕ) → i < length l → get_or l i d ≡ get_or l i e
+get_or_any [] i d e h = omega arith
+get_or_any (x ∷ l) zero d e h = refl
+get_or_any (x ∷ l) (suc i) d e h = get_or_any l i d e (omega arith)
 
 take_replicate : {A : Type 0} (n m : ℕ) (a : A) → n ≤ m → take n (replicate m a) ≡ replicate n a
 take_replicate zero m a h = refl
@@ -41,7 +41,7 @@ module _ (n : ℕ) (marks : List ℕ) (b : ℕ) (inside : b < n) where
 
   pub mark_here : b < length marks → get_or (marks_of n marks) b Done ≡ state_of (get_or marks b 0)
   unfolding marks_of
-  mark_here room = get_or-map state_of (take n marks) b 2 ∙ ap state_of (get_or-take n marks b 2 inside ∙ get_d_any marks b 2 0 room)
+  mark_here room = get_or-map state_of (take n marks) b 2 ∙ ap state_of (get_or-take n marks b 2 inside ∙ get_or_any marks b 2 0 room)
 
   pub zero_unmarked : b < length marks → get_or marks b 0 ≡ 0 → is_marked (get_or (marks_of n marks) b Done) ≡ false
   zero_unmarked room e = ap is_marked (mark_here room ∙ ap state_of e)

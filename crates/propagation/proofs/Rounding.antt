@@ -52,7 +52,8 @@ module _ (rule : JoiningRule) (g : List ℕ) where
 
   module _ (sets ws : List ℕ) where
     -- a round does not look at whether a set has changed before it
-    from_unchanged : (c : Bool) → round_in rule g (work_of (size_in g) sets ws c) ≡ walk_in rule g true (walk_in rule g false (work_of (size_in g) sets ws false))
+    from_unchanged : (c : Bool)
+        → round_in rule g (work_of (size_in g) sets ws c) ≡ walk_in rule g true (walk_in rule g false (work_of (size_in g) sets ws false))
     unfolding work_of
     from_unchanged c = two_walks (work_of (size_in g) sets ws c)
 
@@ -76,7 +77,8 @@ module _ (rule : JoiningRule) (g : List ℕ) where
         leads : walk_in rule g true (work_of (size_in g) ts vs c) ≡ round_in rule g (work_of (size_in g) sets ws true)
         leads = ap (walk_in rule g true) (sym h.holds.same) ∙ sym (from_unchanged true)
 
-        pub round_done : (r : Progress) (o'' d'' us xs os : List ℕ) → Steps rule g true bk d' ts (walk_in rule g true (work_of (size_in g) ts vs c)) r o'' d'' us xs os
+        pub round_done : (r : Progress) (o'' d'' us xs os : List ℕ)
+            → Steps rule g true bk d' ts (walk_in rule g true (work_of (size_in g) ts vs c)) r o'' d'' us xs os
             → Turns rule g f bk (round_in rule g (work_of (size_in g) sets ws true)) r d'' o'' us xs os
         round_done (Changed c'') o'' d'' us xs os k = record {
           holds = subst (λ (w : Work). HoldsWork w (size_in g) c'' us xs os) leads k.holds;

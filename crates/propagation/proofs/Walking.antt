@@ -151,7 +151,8 @@ module _ {joining : Joining} {g : List ℕ} {backward later : Bool} {o other₀ 
           let full =
           steps_full (rule_of joining) g backward o other sets (step_end (rule_of joining) g backward b o sets ws c) r dirty' other' sets' ws' os' h e in
           subst (λ (w : Work). node_limit < length w.registry) comes
-          (lt_of_lt_of_le full (steps_add (rule_of joining) g backward (steps_from (size_in g) o (i + 1)) (step_end (rule_of joining) g backward b o sets ws c)))
+          (lt_of_lt_of_le full
+          (steps_add (rule_of joining) g backward (steps_from (size_in g) o (i + 1)) (step_end (rule_of joining) g backward b o sets ws c)))
 
       pub walk_more : (c' : Bool) → r ≡ Changed c' → Along joining g backward later o other₀ sets₀ (i + 1) end dirty' other' sets' ws' os' c'
       walk_more c' e =

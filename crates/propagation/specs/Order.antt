@@ -1,5 +1,27 @@
 -- The order in which a walk leaves the blocks, as bytes note it.
-use Rattle.std.specs.Prelude.{ℕ, zero, suc, ◌+◌, ◌-◌, ◌≤◌, ◌<◌, ◌≡◌, Bool, true, false, cond, List, [], ◌∷◌, map, length, get_or, set, take, ltb}
+use Rattle.std.specs.Prelude.{
+  ℕ,
+  zero,
+  suc,
+  ◌+◌,
+  ◌-◌,
+  ◌≤◌,
+  ◌<◌,
+  ◌≡◌,
+  Bool,
+  true,
+  false,
+  cond,
+  List,
+  [],
+  ◌∷◌,
+  map,
+  length,
+  get_or,
+  set,
+  take,
+  ltb,
+}
 use Rattle.model.specs.Visit.{TraversalState, Unmarked, Active, Done, Visited}
 use Rattle.model.specs.Rounds.{places_from, job_order, reverse_job_order}
 use Rattle.laws.specs.WalkSteps.{Step, steps_of}

@@ -138,7 +138,8 @@ module _ {end : Reduced} {ws os : List ℕ} {r : PassSet} (a : Repeating end ws 
 
 -- An answer by its case.
 
-pub reduces_to : (want : Reduced) (r : ReducedSet) (ws os : List ℕ) → r.full ≡ false → Reduces want r ws os → Held ws os × (want ≡ reduced_of (registry_of ws) r)
+pub reduces_to : (want : Reduced) (r : ReducedSet) (ws os : List ℕ) → r.full ≡ false → Reduces want r ws os → Held ws os
+    × (want ≡ reduced_of (registry_of ws) r)
 reduces_to want r ws os e a = subst (λ b. ReducesBy b want r ws os) e a
 
 pub reduces_full : (want : Reduced) (r : ReducedSet) (ws os : List ℕ) → r.full ≡ true → Reduces want r ws os → node_limit < length want.registry

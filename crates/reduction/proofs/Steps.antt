@@ -18,7 +18,25 @@ use Rattle.registry.specs.declared.NodeEntered.TheVariants.{At, Full}
 use Rattle.registry.specs.Nodes.{origin_of}
 use Rattle.registry.specs.Words.{stored_node, count_in, registry_of, Held, Arrives}
 use Rattle.registry.proofs.View.{registry_length, origin_at}
-use Rattle.model.specs.Registry.{node_limit, PropertyPathRegistry, PropertyPathNode, Reached, Origin, child_of, find, find_or_make, full_path_of, with_optional, after_making, step_from, get_or_create_property_entry, is_child, is_child_by, child_node, walk_path}
+use Rattle.model.specs.Registry.{
+  node_limit,
+  PropertyPathRegistry,
+  PropertyPathNode,
+  Reached,
+  Origin,
+  child_of,
+  find,
+  find_or_make,
+  full_path_of,
+  with_optional,
+  after_making,
+  step_from,
+  get_or_create_property_entry,
+  is_child,
+  is_child_by,
+  child_node,
+  walk_path,
+}
 use Rattle.model.specs.RegistryLaws as Placed
 use Rattle.model.specs.RegistryLaws.{Sound, Proper, Extends}
 use Rattle.model.proofs.RegistryLaws.{

@@ -132,7 +132,8 @@ fields_below false h v s link = simp (parent_below h link, number_below_lem h li
 pub linked_word : (h v s link : ℕ) → unpack (h + link * link_unit) v s ≡ unpack h v s
 unfolding unpack
 linked_word h v s link =
-    ap (λ (p : ℕ). unpack_by (eqb p root_mark) (h + link * link_unit) v s) (parent_below h link) ∙ fields_below (eqb (h / parent_unit % 65536) root_mark) h v s link
+    ap (λ (p : ℕ). unpack_by (eqb p root_mark) (h + link * link_unit) v s) (parent_below h link)
+    ∙ fields_below (eqb (h / parent_unit % 65536) root_mark) h v s link
 
 pub link_back : (h link : ℕ) → h < link_unit → (h + link * link_unit) / link_unit ≡ link
 link_back h link l = omega arith

@@ -89,7 +89,8 @@ test_over before (m ∷ ms) (suc k) d n l = test_over (before ++ (node_over befo
 
 test_at : (ws : List ℕ) (k : ℕ) (n : Node) → k < count_in ws → test_for n (Placed.node_at (registry_of ws) k) ≡ same_key (stored_node ws k) n
 unfolding registry_of registry_from
-test_at ws k n l = let size = nodes_of_length ws in test_over [] (nodes_of ws) k (stored_node ws k) n (omega arith) ∙ ap (λ m. same_key m n) (nodes_of_at ws k l)
+test_at ws k n l = let size =
+    nodes_of_length ws in test_over [] (nodes_of ws) k (stored_node ws k) n (omega arith) ∙ ap (λ m. same_key m n) (nodes_of_at ws k l)
 
 sound_only : (reg : PropertyPathRegistry) (k : ℕ) (n : Node) (o : Origin) (d : ReactiveScopeDependency) → StandsAt reg k o d
     → test_for n (record { origin = o; full_path = d }) ≡ true → find (test_for n) reg ≡ k
@@ -110,7 +111,8 @@ sound_only reg k (Child p e) (child_of q f) d st t = find_same (is_child_by p e)
     alike root = refl
     alike (child_of x g) = rw (number, entry_property f e same, entry_optional f e same)
 
-pub found_at : (ws : List ℕ) (k : ℕ) (n : Node) → Sound (registry_of ws) → k < count_in ws → same_key (stored_node ws k) n ≡ true → find_node (nodes_of ws) n ≡ k
+pub found_at : (ws : List ℕ) (k : ℕ) (n : Node) → Sound (registry_of ws) → k < count_in ws → same_key (stored_node ws k) n ≡ true
+    → find_node (nodes_of ws) n ≡ k
 found_at ws k n h l t =
     let size = registry_length ws in
     let m = Placed.node_at (registry_of ws) k in
@@ -129,11 +131,23 @@ module _ (ws : List ℕ) (n : Node) where
       go (inr m) = absurd (let a = m.last in let b = find_view ws n in let c = registry_length ws in omega arith)
 
   pub made_new : count_in ws ≤ find_node (nodes_of ws) n
-      → reached_for (registry_of ws) n ≡ record { registry = registry_of ws ++ (node_over (registry_of ws) n ∷ []); node = record { 0 = count_in ws }; made = 1 }
+      → reached_for (registry_of ws) n ≡ record {
+        registry = registry_of ws ++ (node_over (registry_of ws) n ∷ []);
+        node = record { 0 = count_in ws };
+        made =
+            1;
+      }
   made_new l = go (found_or_made (test_for n) (node_over (registry_of ws) n) (registry_of ws))
     where
       go : WasFound (test_for n) (node_over (registry_of ws) n) (registry_of ws) ⊎ WasMade (test_for n) (node_over (registry_of ws) n) (registry_of ws)
-          → reached_for (registry_of ws) n ≡ record { registry = registry_of ws ++ (node_over (registry_of ws) n ∷ []); node = record { 0 = count_in ws }; made = 1 }
+          → reached_for (registry_of ws) n ≡ record {
+            registry = registry_of ws ++ (node_over (registry_of ws) n ∷ []);
+            node = record {
+              0 =
+                  count_in ws;
+            };
+            made = 1;
+          }
       go (inl f) = absurd (let a = f.inside in let b = find_view ws n in let c = registry_length ws in omega arith)
       go (inr m) = λ i. record { registry = m.appended i; node = record { 0 = (m.last ∙ registry_length ws) i }; made = m.one i }
 

@@ -3,7 +3,17 @@ use Rattle.std.specs.Prelude.{ℕ, zero, suc, ◌<◌, Bool, false, ◌&&◌, �
 use Rattle.entries.specs.declared.NodeId.{NodeId}
 use Rattle.entries.specs.Path.{same_entry}
 use Rattle.model.specs.Sets.{NodeSet, contains, insert}
-use Rattle.model.specs.Registry.{PropertyPathNode, PropertyPathRegistry, is_root_for, is_child_by, Origin, root, child_of, Reached, find_or_make}
+use Rattle.model.specs.Registry.{
+  PropertyPathNode,
+  PropertyPathRegistry,
+  is_root_for,
+  is_child_by,
+  Origin,
+  root,
+  child_of,
+  Reached,
+  find_or_make,
+}
 use Rattle.model.specs.Registry.{root_node, child_node, full_path_of}
 use Rattle.registry.specs.declared.Node.{Node}
 use Rattle.registry.specs.declared.Node.TheVariants.{Root, Child}

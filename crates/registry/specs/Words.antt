@@ -1,6 +1,28 @@
 -- The nodes that a list of words holds: three words a node, how many there are in word 1536, and
 -- behind it 128 words for the ends of the 512 buckets.
-use Rattle.std.specs.Prelude.{ℕ, zero, suc, ◌+◌, ◌*◌, ◌/◌, ◌%◌, ◌^◌, ◌≤◌, ◌<◌, ◌≡◌, ◌≢◌, Bool, true, false, List, [], ◌∷◌, length, get_or, eqb}
+use Rattle.std.specs.Prelude.{
+  ℕ,
+  zero,
+  suc,
+  ◌+◌,
+  ◌*◌,
+  ◌/◌,
+  ◌%◌,
+  ◌^◌,
+  ◌≤◌,
+  ◌<◌,
+  ◌≡◌,
+  ◌≢◌,
+  Bool,
+  true,
+  false,
+  List,
+  [],
+  ◌∷◌,
+  length,
+  get_or,
+  eqb,
+}
 use Rattle.entries.specs.declared.NodeId.{NodeId}
 use Rattle.model.specs.Registry.{node_limit, root_mark, PropertyPathRegistry, Reached}
 use Rattle.model.specs.RegistryLaws.{Sound}
@@ -64,7 +86,8 @@ key_in (Child p e) = p.0 * parent_unit + (flag e.optional + flag (is_number e.pr
 -- have a factor each, so that the buckets still differ where parents and values go up together, as
 -- along a chain of new names.
 unfoldable pub bucket_by : ℕ → ℕ → ℕ
-bucket_by key value = (key / parent_unit * 21013597 + (key % parent_unit + value / parent_unit + value % parent_unit) * 165902235) / 524288 % 512
+bucket_by key value =
+    (key / parent_unit * 21013597 + (key % parent_unit + value / parent_unit + value % parent_unit) * 165902235) / 524288 % 512
 
 -- the node that three words hold, a root or a child
 abbrev pub unpack_by : Bool → ℕ → ℕ → ℕ → Node

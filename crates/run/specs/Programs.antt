@@ -83,7 +83,8 @@ read_and_thin s = on_thin_job HD span_width (read_job HD span_width s)
 
 -- So what a program writes of a job's first bytes, it writes of the job.
 pub first_bytes : (p : Program) (s : List ℕ) → program_of p (take bytes_read s) ≡ program_of p s
-unfolding answer_program answer_of sheet_program sheet_of strict_answer_program strict_answer_of strict_sheet_program strict_sheet_of thin_program thin_of
+unfolding answer_program answer_of sheet_program sheet_of strict_answer_program strict_answer_of
+    strict_sheet_program strict_sheet_of thin_program thin_of
 first_bytes program.Answer s =
     ap program_output (first_bytes_verdict least_buffer (read_and done_neighbours answer_writing) s (replicate least_buffer 0))
 first_bytes program.Sheet s =

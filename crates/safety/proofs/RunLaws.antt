@@ -7,7 +7,7 @@ use Rattle.entries.specs.declared.BlockId.{BlockId}
 use Rattle.model.specs.Job.{Block}
 use Rattle.model.specs.Stage.{block_at, place_of, predecessors_of, successors_of, graph_of}
 use Rattle.model.specs.ListLaws.{All}
-use Rattle.laws.specs.Membership.{Some, Member, all_at, some_of, member_get_d}
+use Rattle.laws.specs.Membership.{Some, Member, all_at, some_of, member_get_or}
 use Rattle.safety.specs.Runs.{Precedes, Linked, WithoutLoops, NoPredecessor, NoSuccessor, FirstHas, LastHas, RunVia}
 use Rattle.laws.specs.VisitOrder.{Reach, one, more}
 use Rattle.safety.specs.PropagationSafe.{Beside}
@@ -57,13 +57,13 @@ module _ (bs : List Block) (ok : ProperBlocks bs) where
     blocks : All (λ c. Member c bs) (block_at bs b ∷ (between ++ (block_at bs a ∷ [])))
 
   inside_block : (c b : ℕ) → Member c (predecessors_of bs b) → Member (block_at bs c) bs
-  inside_block c b m = member_get_d bs c _ (all_at (λ k. k < length bs) (predecessors_of bs b) c (predecessors_inside bs ok b) m)
+  inside_block c b m = member_get_or bs c _ (all_at (λ k. k < length bs) (predecessors_of bs b) c (predecessors_inside bs ok b) m)
 
   reach_sequence : {a b : ℕ} → Reach (predecessors_of bs) a b → Sequence a b
   reach_sequence {a} {b} (one m) = record {
     between = [];
     linked = (predecessor_precedes bs ok b a m, tt);
-    blocks = (inside_block b a m, (member_get_d bs a _ (predecessor_block bs ok b a m), tt));
+    blocks = (inside_block b a m, (member_get_or bs a _ (predecessor_block bs ok b a m), tt));
   }
   reach_sequence {b = c} (more {b = b} r m) =
       let s = reach_sequence r in

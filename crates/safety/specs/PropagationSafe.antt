@@ -13,7 +13,20 @@ use Rattle.model.specs.Registry.{PropertyPathRegistry}
 use Rattle.model.specs.Visit.{TraversalState, Unmarked, is_done}
 use Rattle.model.specs.Rounds.{job_order, reverse_job_order, walk}
 use Rattle.model.specs.Reduction.{reduce_maybe_optional_chains}
-use Rattle.model.specs.Propagation.{Work, JoiningRule, done_neighbours, join, Graph, forward, backward, round_start, round, has_changed, propagate_with, propagate_non_null}
+use Rattle.model.specs.Propagation.{
+  Work,
+  JoiningRule,
+  done_neighbours,
+  join,
+  Graph,
+  forward,
+  backward,
+  round_start,
+  round,
+  has_changed,
+  propagate_with,
+  propagate_non_null,
+}
 use Rattle.model.specs.Strict.{all_done, strict_neighbours}
 use Rattle.model.specs.ListLaws.{All}
 use Rattle.model.specs.VisitLaws.{Preorder}

@@ -50,7 +50,8 @@ module _ {X : Type 0} (S : Store X) where
   pass_safe : (reg : PropertyPathRegistry) (s : NodeSet) → Sound reg → NonNullSet S reg s → NonNullSet S (pass reg s).registry
       (pass reg s).set
   unfolding pass
-  pass_safe reg s h a = nodes_safe (pass_start reg s) (select (has_optional reg) s) h a (all_select (NonNullNode S reg) (has_optional reg) s a)
+  pass_safe reg s h a =
+      nodes_safe (pass_start reg s) (select (has_optional reg) s) h a (all_select (NonNullNode S reg) (has_optional reg) s a)
 
   passes_safe : (most : ℕ) (reg : PropertyPathRegistry) (s : NodeSet) → Sound reg → NonNullSet S reg s → NonNullSet S
       (passes most reg s).registry (passes most reg s).set

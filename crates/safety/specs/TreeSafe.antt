@@ -97,7 +97,8 @@ module _ {X : Type 0} (S : Store X) where
   hoistable_along hs safe =
       let ahead : ReactiveScopeDependency → Bool = λ d. starts_optional d.path in
       let behind : ReactiveScopeDependency → Bool = λ d. not (starts_optional d.path) in
-      along_add_all hoistable_key next SolidHere first_made (λ a b. refl) (λ b n s g h. g) none empty (map hoistable_positions (ordered hs)) tt
+      along_add_all hoistable_key next SolidHere first_made (λ a b. refl) (λ b n s g h. g) none empty
+      (map hoistable_positions (ordered hs)) tt
       (all_of_map (WayAlong hoistable_key next SolidHere none) hoistable_positions (ordered hs)
       (all_map (NonNull S) (λ d. WayAlong hoistable_key next SolidHere none (hoistable_positions d)) solid_path (ordered hs)
       (all_append (NonNull S) (Rattle.model.specs.Lists.select ahead hs) (Rattle.model.specs.Lists.select behind hs)
@@ -131,7 +132,8 @@ module _ {X : Type 0} (S : Store X) where
       (λ e. subst (λ j. Solid (next b j) × HoistableAlong (next b j) c) (key_true n.key k e) (h.0, h.1))
       (λ _. find_cursor b r k h.2)
 
-  child_cursor : (b : Base) (h : Option (Found HoistablePosition)) (k : Key) → Cursor b h → Cursor (next b k) (child_by_key hoistable_key h k)
+  child_cursor : (b : Base) (h : Option (Found HoistablePosition)) (k : Key) → Cursor b h
+      → Cursor (next b k) (child_by_key hoistable_key h k)
   child_cursor b none k c = tt
   child_cursor b (some f) k c = find_cursor b f.children k c.1
 

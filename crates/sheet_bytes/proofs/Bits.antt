@@ -68,7 +68,8 @@ word_agrees sets b i l m k =
 
 -- what is to come of a row from word i on: this word's bytes, and those from the next on
 pub row_more : (sets : List ℕ) (b i : ℕ) → i < 8
-    → row_bytes (row_of sets b) (64 * i) (8 * (8 - i)) ≡ number_bytes 8 (get_or sets (b * 8 + i) 0) ++ row_bytes (row_of sets b) (64 * (i + 1)) (8 * (8 - (i + 1)))
+    → row_bytes (row_of sets b) (64 * i) (8 * (8 - i))
+    ≡ number_bytes 8 (get_or sets (b * 8 + i) 0) ++ row_bytes (row_of sets b) (64 * (i + 1)) (8 * (8 - (i + 1)))
 row_more sets b i l =
     let e : 8 * (8 - i) ≡ 8 + 8 * (8 - (i + 1)) = omega arith in
     let f : 64 * i + 8 * 8 ≡ 64 * (i + 1) = omega arith in

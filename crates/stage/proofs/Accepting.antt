@@ -21,16 +21,16 @@ use Rattle.job.proofs.Stored.{stored}
 use Rattle.edges.specs.Fills.{IdsAt}
 use Rattle.stage.specs.Jobs.{AcceptedJob}
 
-get_d_map : {A B : Type 0} (f : A → B) (l : List A) (k : ℕ) (d : A) → get_or (map f l) k (f d) ≡ f (get_or l k d)
-get_d_map f [] k d = refl
-get_d_map f (x ∷ l) zero d = refl
-get_d_map f (x ∷ l) (suc k) d = get_d_map f l k d
+get_or_map : {A B : Type 0} (f : A → B) (l : List A) (k : ℕ) (d : A) → get_or (map f l) k (f d) ≡ f (get_or l k d)
+get_or_map f [] k d = refl
+get_or_map f (x ∷ l) zero d = refl
+get_or_map f (x ∷ l) (suc k) d = get_or_map f l k d
 
 -- numbers that are listed stand at their places
 ids_at : (ids : List ℕ) (n : ℕ) (j : Job) → length j.blocks ≡ n → map block_id (take n ids) ≡ ids_of j.blocks → IdsAt ids j
 ids_at ids n j count listed k l =
     sym (get_or-take n ids k 0 (omega arith))
-    ∙ ap (λ (i : BlockId). i.0) (sym (get_d_map block_id (take n ids) k 0) ∙ ap (λ (is : List BlockId). get_or is k (block_id 0)) listed ∙ get_d_map
+    ∙ ap (λ (i : BlockId). i.0) (sym (get_or_map block_id (take n ids) k 0) ∙ ap (λ (is : List BlockId). get_or is k (block_id 0)) listed ∙ get_or_map
     (λ (b : Block). b.id) j.blocks k (record { id = record { 0 = 0 }; predecessors = []; raw_reads = []; ready_paths = [] }))
 
 pub accepts : (s : List ℕ) {head : JobHead} → Value head ≡ kept_of s (read_job HD 4 s) → length s ≤ longest_job → (l₁ l₂ ids places : List ℕ)

@@ -97,7 +97,8 @@ module _ (rule : JoiningRule) (op : Operation) (s out : List ℕ) where
     unfolding verdict_of job_verdict
     by_job h = rw (ltb_not_less (length out) least_buffer wide, ltb_not_less longest_job (length s) h)
 
-pub read_refused : (rule : JoiningRule) (op : Operation) (s : List ℕ) {r : Refusal} → read_job HD span_width s ≡ refused r → job_verdict rule op s ≡ turns_back r
+pub read_refused : (rule : JoiningRule) (op : Operation) (s : List ℕ) {r : Refusal} → read_job HD span_width s ≡ refused r
+    → job_verdict rule op s ≡ turns_back r
 unfolding job_verdict
 read_refused rule op s e = ap (on_job rule (operation_bytes op span_width)) e
 

@@ -9,7 +9,7 @@ use lib.ListN.{length, get_or, length-append}
 use borrow.Author.Tests.{not-false}
 use Rattle.entries.specs.Path.{ReactiveScopeDependency}
 use Rattle.model.specs.Lists.{concat_map, any_of}
-use Rattle.model.specs.ListLaws.{All, all_get_d}
+use Rattle.model.specs.ListLaws.{All, all_get_or}
 use Rattle.model.specs.Sets.{NodeSet}
 use Rattle.model.specs.ReadingBytes.{got, read_many}
 use Rattle.model.specs.Job.{HD, CA, Block, Job, read_path, read_job, contains_id, ids_of, has_unknown}
@@ -117,7 +117,7 @@ module _ {s ids places : List ℕ} {head : JobHead} (acc : AcceptedJob s ids pla
     pub scope_members : (set : NodeSet) → set ≡ row_of sets place → Members (registry_of ws) set
     scope_members set e =
         subst (Members (registry_of ws)) (row_is ∙ sym e)
-        (all_get_d (Members (registry_of ws)) (rows_of sets n) (place_of job.blocks job.scope) [] stands.members (members_empty (registry_of ws)))
+        (all_get_or (Members (registry_of ws)) (rows_of sets n) (place_of job.blocks job.scope) [] stands.members (members_empty (registry_of ws)))
 
     -- the answer over the words is the job's
     pub puts_answer : (set : NodeSet) → set ≡ row_of sets place → (run : RoundsRun) (before after : List ℕ) (next : ℕ)

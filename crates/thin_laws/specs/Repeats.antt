@@ -108,7 +108,10 @@ thinned_each earlier (d ∷ ds) =
     let kept = thinned_after (d ∷ earlier) ds in
     by_cond (λ (ts : List ReactiveScopeDependency). All (Held earlier ts) (d ∷ ds)) (any_of (same_path d) earlier)
     (λ t. (or_second (any_of (same_path d) kept) _ t, all_map _ _ (λ x. dropped t x) ds (thinned_each (d ∷ earlier) ds)))
-    (λ _. (rw (same_path_own d), all_map _ _ (λ x. or_moved (any_of (same_path x) kept) (same_path x d) _) ds (thinned_each (d ∷ earlier) ds)))
+    (λ _. (
+      rw (same_path_own d),
+      all_map _ _ (λ x. or_moved (any_of (same_path x) kept) (same_path x d) _) ds (thinned_each (d ∷ earlier) ds),
+    ))
   where
     or_moved : (a b c : Bool) → a || (b || c) ≡ true → (b || a) || c ≡ true
     or_moved true true c h = refl

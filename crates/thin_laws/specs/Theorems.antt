@@ -69,7 +69,8 @@ record WithinLengths (least_out most_job : ℕ) (job out t : List ℕ) (rest : V
   short : length job ≤ most_job
   after : rest ≡ writes t
 
-within_lengths_lem : (least_out most_job : ℕ) (job out t : List ℕ) (rest : Verdict) → within_lengths least_out most_job job out rest ≡ writes t
+within_lengths_lem : (least_out most_job : ℕ) (job out t : List ℕ) (rest : Verdict)
+    → within_lengths least_out most_job job out rest ≡ writes t
     → WithinLengths least_out most_job job out t rest
 within_lengths_lem least_out most_job job out t rest e =
     decide (ltb (length out) least_out) (λ b. absurd (refused_writes (rw b at e)))

@@ -437,7 +437,8 @@ module _ {s ws : List ℕ} {parent : ℕ} {way now : List ℕ} {depth : ℕ} {be
 module _ (s ws way : List ℕ) where
   pub paths_all : paths_from s ws 0 0 way 0 ≡ returned_of s ws
   unfolding paths_from returned_of forest_of nodes_of
-  paths_all = let e : count_in ws - 0 ≡ count_in ws = omega arith in rw e (ap (map dependency_of) (flat_firsts_lem is_dependency (nodes_from s ws 0 (count_in ws)) 0 0))
+  paths_all = let e : count_in ws - 0 ≡ count_in ws =
+      omega arith in rw e (ap (map dependency_of) (flat_firsts_lem is_dependency (nodes_from s ws 0 (count_in ws)) 0 0))
 
   pub derivable : (out : List ℕ) (at : ℕ) → length way ≡ 17 → Held s ws → at + length (bytes_of (returned_of s ws)) ≤ length out
       → Derivable s ws 0 way 0 out (record { at = at; count = 0 })

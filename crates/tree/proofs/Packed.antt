@@ -177,7 +177,12 @@ module _ (s : List ℕ) (w step : ℕ) where
   pub by_key : (b : Bool) → parent_in w ≡ parent_in step → same_key (key_at s (parent_in step) (place_in w)) (key_at s (parent_in step) (place_in step)) ≡ b
       → matches (node_of s w) (parent_in step) (position_of s step) ≡ b
   by_key b h e =
-      rw (position_key s (parent_in w) (place_in w) (access_in w), position_key s (parent_in step) (place_in step) (access_in step), h, eqb_same (parent_in step)) e
+      rw (
+        position_key s (parent_in w) (place_in w) (access_in w),
+        position_key s (parent_in step) (place_in step) (access_in step),
+        h,
+        eqb_same (parent_in step),
+      ) e
 
   -- the two keys, as the code has them
   pub keys_told : (parent here : ℕ) (key other : Key) → parent ≡ parent_in step → key_of key ≡ key_at s (parent_in step) (place_in step) → here ≡ place_in w

@@ -72,7 +72,8 @@ pub entry_room : (e : DependencyPathEntry) (rest out : List ℕ) (at : ℕ) → 
 entry_room e rest out at h = let a = length-append (entry_bytes 4 e) rest in let b = entry_length e in omega arith
 
 -- the span of a way's last position
-last_span_lem : (s ws : List ℕ) (k n : ℕ) → last_span (position_of s (get_or ws k 0)) (positions_from s ws (suc k) n) ≡ (position_of s (get_or ws (k + n) 0)).span
+last_span_lem : (s ws : List ℕ) (k n : ℕ)
+    → last_span (position_of s (get_or ws k 0)) (positions_from s ws (suc k) n) ≡ (position_of s (get_or ws (k + n) 0)).span
 last_span_lem s ws k zero = rw (add-zero k)
 last_span_lem s ws k (suc n) = let e : k + suc n ≡ suc k + n = omega arith in rw e (last_span_lem s ws (suc k) n)
 

@@ -140,7 +140,8 @@ module _ {s ws : List ℕ} (parent place : ℕ) (access : PropertyAccessType) (s
     merged_count = let h = inside in let r = sized.room in count_kept ws i _ (omega arith)
 
     -- a field that merging keeps
-    field_kept : (f : ℕ → ℕ) → f (merged_word (get_or ws i 0) access) ≡ f (get_or ws i 0) → (j : ℕ) → j < count_in ws → f (get_or merged j 0) ≡ f (get_or ws j 0)
+    field_kept : (f : ℕ → ℕ) → f (merged_word (get_or ws i 0) access) ≡ f (get_or ws i 0) → (j : ℕ) → j < count_in ws
+        → f (get_or merged j 0) ≡ f (get_or ws j 0)
     field_kept f e j h =
         let r = sized.room in
         decide (eqb i j)

@@ -1,5 +1,27 @@
 -- The forest that the words of a tree hold, and what the operations on it leave.
-use Rattle.std.specs.Prelude.{ℕ, zero, suc, ◌+◌, ◌-◌, ◌≤◌, ◌<◌, ◌≡◌, Bool, true, cond, ◌&&◌, List, ◌∷◌, ◌++◌, map, length, get_or, set, eqb, leb}
+use Rattle.std.specs.Prelude.{
+  ℕ,
+  zero,
+  suc,
+  ◌+◌,
+  ◌-◌,
+  ◌≤◌,
+  ◌<◌,
+  ◌≡◌,
+  Bool,
+  true,
+  cond,
+  ◌&&◌,
+  List,
+  ◌∷◌,
+  ◌++◌,
+  map,
+  length,
+  get_or,
+  set,
+  eqb,
+  leb,
+}
 use Rattle.entries.specs.Path.{ReactiveScopeDependency}
 use Rattle.model.specs.Lists.{concat_map}
 use Rattle.model.specs.Answer.{DE, path_bytes, span_width}

@@ -23,7 +23,8 @@ tests_agree : (test : List BlockId → Bool) (s : List ℕ) (n at : ℕ) {all : 
     → any_of (λ at. test (block_ids (predecessors_at s at))) (notes note_place n (read_block 4) s at) ≡ any_of (λ (b : Block). test b.predecessors) all
 tests_agree test s =
     many_all (read_block 4) s
-    (λ n at all. any_of (λ at. test (block_ids (predecessors_at s at))) (notes note_place n (read_block 4) s at) ≡ any_of (λ (b : Block). test b.predecessors) all)
+    (λ n at all. any_of (λ at. test (block_ids (predecessors_at s at))) (notes note_place n (read_block 4) s at)
+    ≡ any_of (λ (b : Block). test b.predecessors) all)
     (λ at. refl)
     (λ n at next a rest e q.
     rw (e, holds_got (λ (b : Block). block_ids (predecessors_at s at) ≡ b.predecessors) e (predecessors_are s at))

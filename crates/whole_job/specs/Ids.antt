@@ -25,7 +25,8 @@ BlocksRead s places = (k : ℕ) → k < length places → IsRead (read_block spa
 
 -- the numbers of the predecessors of the block at a place
 unfoldable pub predecessors_at : List ℕ → ℕ → List ℕ
-predecessors_at s at = or_none (read_block_head s at) (λ (head : BlockHead) ids_at. notes note_value head.predecessors (read_number 4) s ids_at)
+predecessors_at s at =
+    or_none (read_block_head s at) (λ (head : BlockHead) ids_at. notes note_value head.predecessors (read_number 4) s ids_at)
 
 -- A predecessor of the block at a place stands twice.
 abbrev pub repeats_at : List ℕ → ℕ → Bool

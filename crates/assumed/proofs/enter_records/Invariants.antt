@@ -8,7 +8,8 @@ use Rattle.assumed.proofs.enter_records.Given as goal
 
 abbrev pub invariant-loop-left : goal.invariant-loop-left
 invariant-loop-left l =
-    Filling (enter_paths (entered_so_far (registry_of l.initial.ws) l.initial.so_far) (all_of (values_at l.s l.initial.so_far.at l.count))) (end_at l.s l.initial.so_far.at l.count) l.s l.ws l.optional l.so_far l.left
+    Filling (enter_paths (entered_so_far (registry_of l.initial.ws) l.initial.so_far) (all_of (values_at l.s l.initial.so_far.at l.count)))
+    (end_at l.s l.initial.so_far.at l.count) l.s l.ws l.optional l.so_far l.left
 
 abbrev pub decreases-loop-left : goal.decreases-loop-left
 decreases-loop-left l = l.left

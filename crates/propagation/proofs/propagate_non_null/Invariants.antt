@@ -14,7 +14,8 @@ use Rattle.propagation.proofs.propagate_non_null.Given as goal
 abbrev pub invariant-loop-rounds : goal.invariant-loop-rounds
 invariant-loop-rounds l =
     (length l.sets ≡ length l.initial.sets) × Rounding (rule_of l.joining) l.graph l.forward l.backward
-    (propagate_non_null (rule_of l.joining) (graph_in l.graph) (registry_of l.initial.ws) (rows_of l.initial.sets (size_in l.graph))) l.dirty_forward l.dirty_backward l.sets l.ws l.optional l.rounds
+    (propagate_non_null (rule_of l.joining) (graph_in l.graph) (registry_of l.initial.ws)
+    (rows_of l.initial.sets (size_in l.graph))) l.dirty_forward l.dirty_backward l.sets l.ws l.optional l.rounds
 
 abbrev pub decreases-loop-rounds : goal.decreases-loop-rounds
 decreases-loop-rounds l =

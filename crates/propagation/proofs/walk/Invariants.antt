@@ -13,7 +13,8 @@ use Rattle.propagation.proofs.walk.Given as goal
 abbrev pub invariant-loop-i : goal.invariant-loop-i
 invariant-loop-i l =
     (length l.sets ≡ length l.initial.sets) × Along l.joining l.graph l.backward l.later l.order l.initial.other l.initial.sets l.i
-    (walk_in (rule_of l.joining) l.graph l.backward (work_of (size_in l.graph) l.initial.sets l.initial.ws l.initial.so_far)) l.dirty l.other l.sets l.ws l.optional l.so_far
+    (walk_in (rule_of l.joining) l.graph l.backward
+    (work_of (size_in l.graph) l.initial.sets l.initial.ws l.initial.so_far)) l.dirty l.other l.sets l.ws l.optional l.so_far
 
 abbrev pub decreases-loop-i : goal.decreases-loop-i
 decreases-loop-i l = l.left - l.i

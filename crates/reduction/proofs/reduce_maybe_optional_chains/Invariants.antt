@@ -11,7 +11,8 @@ use Rattle.reduction.proofs.reduce_maybe_optional_chains.Given as goal
 
 abbrev pub invariant-loop-r : goal.invariant-loop-r
 invariant-loop-r l =
-    Repeating (reduce_maybe_optional_chains (registry_of l.initial.ws) (members_of l.initial.r.set.words)) l.ws l.optional l.r × KnownReduced l.known (registry_of l.ws)
+    Repeating (reduce_maybe_optional_chains (registry_of l.initial.ws) (members_of l.initial.r.set.words)) l.ws l.optional l.r
+    × KnownReduced l.known (registry_of l.ws)
     (members_of l.before.words)
 
 abbrev pub decreases-loop-r : goal.decreases-loop-r

@@ -54,7 +54,10 @@ returns-then-end-lt-LIMIT c =
         noted =
             noted_new w _ os _ (unpack h v t) _ c.requires.0 counted c.push.ensures.3
             (c.note.ensures.1
-            ∙ ap (λ (b : Bool). cond b (insert (record { 0 = c.count-end.result }) (members_of os)) (members_of os)) (optional_by_head (members_of os) h 0 0 v t));
+            ∙ ap (λ (b : Bool). cond b (insert (record {
+              0 =
+                  c.count-end.result;
+            }) (members_of os)) (members_of os)) (optional_by_head (members_of os) h 0 0 v t));
       },
       arrived,
     )

@@ -1,5 +1,5 @@
--- The tests are the clauses of `optional_over`: a root has none, then the entry's own mark, then the
--- parent's bit.
+-- The tests are the clauses of `optional_over`: a root has none, then the entry's own mark, then
+-- the parent's bit.
 use mathlib.Core.Path.{sym}
 use Rattle.rows.specs.Members.{has_bit}
 use Rattle.rows.proofs.Members.{contains_members}

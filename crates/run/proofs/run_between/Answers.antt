@@ -5,4 +5,5 @@ use Rattle.run.proofs.run_between.Goals as goal
 
 pub returns-clause-bytes : goal.returns-clause-bytes
 returns-clause-bytes g c =
-    appended c.args.program _ _ _ _ _ _ _ (search rules) c.in_ok-got.ensures.room c.in_ok-got.ensures.bytes c.in_ok-got.ensures.end c.respond-n.ensures c.in_ok-write_all.ensures.bytes
+    appended c.args.program _ _ _ _ _ _ _
+    (search rules) c.in_ok-got.ensures.room c.in_ok-got.ensures.bytes c.in_ok-got.ensures.end c.respond-n.ensures c.in_ok-write_all.ensures.bytes

@@ -20,13 +20,31 @@ pub put_number-identifier_at-requires : goal.put_number-identifier_at-requires
 put_number-identifier_at-requires c = omega (arith, (room_after 2 21 c.put_number-parent_at.ensures (number_length _ _) (search rules)))
 
 pub put_number-origin_at-requires : goal.put_number-origin_at-requires
-put_number-origin_at-requires c = omega (arith, (room_after 2 19 c.put_number-identifier_at.ensures (number_length _ _) (omega (arith, (room_after 2 21 c.put_number-parent_at.ensures (number_length _ _) (search rules))))))
+put_number-origin_at-requires c =
+    let room1 = room_after 2 21 c.put_number-parent_at.ensures (number_length _ _) (search rules) in
+    let room2 = room_after 2 19 c.put_number-identifier_at.ensures (number_length _ _) (omega (arith, room1)) in
+    omega (arith, room2)
 
 pub put_origin-span_at-requires : goal.put_origin-span_at-requires
-put_origin-span_at-requires c = omega (arith, (room_after 4 15 c.put_number-origin_at.ensures (number_length _ _) (omega (arith, (room_after 2 19 c.put_number-identifier_at.ensures (number_length _ _) (omega (arith, (room_after 2 21 c.put_number-parent_at.ensures (number_length _ _) (search rules)))))))))
+put_origin-span_at-requires c =
+    let room1 = room_after 2 21 c.put_number-parent_at.ensures (number_length _ _) (search rules) in
+    let room2 = room_after 2 19 c.put_number-identifier_at.ensures (number_length _ _) (omega (arith, room1)) in
+    let room3 = room_after 4 15 c.put_number-origin_at.ensures (number_length _ _) (omega (arith, room2)) in
+    omega (arith, room3)
 
 pub put_number-reactive_at-requires : goal.put_number-reactive_at-requires
-put_number-reactive_at-requires c = omega (arith, (room_after 10 5 c.put_origin-span_at.ensures (origin_length (origin_of c.load-n.result)) (omega (arith, (room_after 4 15 c.put_number-origin_at.ensures (number_length _ _) (omega (arith, (room_after 2 19 c.put_number-identifier_at.ensures (number_length _ _) (omega (arith, (room_after 2 21 c.put_number-parent_at.ensures (number_length _ _) (search rules))))))))))))
+put_number-reactive_at-requires c =
+    let room1 = room_after 2 21 c.put_number-parent_at.ensures (number_length _ _) (search rules) in
+    let room2 = room_after 2 19 c.put_number-identifier_at.ensures (number_length _ _) (omega (arith, room1)) in
+    let room3 = room_after 4 15 c.put_number-origin_at.ensures (number_length _ _) (omega (arith, room2)) in
+    let room4 = room_after 10 5 c.put_origin-span_at.ensures (origin_length (origin_of c.load-n.result)) (omega (arith, room3)) in
+    omega (arith, room4)
 
 pub put_number-requires : goal.put_number-requires
-put_number-requires c = (room_after 4 1 c.put_number-reactive_at.ensures (number_length _ _) (omega (arith, (room_after 10 5 c.put_origin-span_at.ensures (origin_length (origin_of c.load-n.result)) (omega (arith, (room_after 4 15 c.put_number-origin_at.ensures (number_length _ _) (omega (arith, (room_after 2 19 c.put_number-identifier_at.ensures (number_length _ _) (omega (arith, (room_after 2 21 c.put_number-parent_at.ensures (number_length _ _) (search rules))))))))))))))
+put_number-requires c =
+    let room1 = room_after 2 21 c.put_number-parent_at.ensures (number_length _ _) (search rules) in
+    let room2 = room_after 2 19 c.put_number-identifier_at.ensures (number_length _ _) (omega (arith, room1)) in
+    let room3 = room_after 4 15 c.put_number-origin_at.ensures (number_length _ _) (omega (arith, room2)) in
+    let room4 = room_after 10 5 c.put_origin-span_at.ensures (origin_length (origin_of c.load-n.result)) (omega (arith, room3)) in
+    let room5 = room_after 4 1 c.put_number-reactive_at.ensures (number_length _ _) (omega (arith, room4)) in
+    room5

@@ -9,7 +9,8 @@ use Rattle.sheet_bytes.proofs.put_row.Given as goal
 
 abbrev pub invariant-loop-i : goal.invariant-loop-i
 invariant-loop-i l =
-    (l.i ≤ 8) × (l.at + 8 * (8 - l.i) ≤ length l.out) × Coming l.initial.out l.out l.start l.at (row_bytes (row_of l.sets l.b) 0 64) (row_bytes (row_of l.sets l.b) (64 * l.i) (8 * (8 - l.i)))
+    (l.i ≤ 8) × (l.at + 8 * (8 - l.i) ≤ length l.out)
+    × Coming l.initial.out l.out l.start l.at (row_bytes (row_of l.sets l.b) 0 64) (row_bytes (row_of l.sets l.b) (64 * l.i) (8 * (8 - l.i)))
 
 abbrev pub decreases-loop-i : goal.decreases-loop-i
 decreases-loop-i l = 8 - l.i

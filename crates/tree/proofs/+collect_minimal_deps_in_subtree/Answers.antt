@@ -3,7 +3,19 @@ use native.Mathlib.Omega.{arith}
 use mathlib.Core.Path.{refl, ap, subst, ◌∙◌}
 use Rattle.entries.specs.Access.{is_dependency_access}
 use Rattle.tree.specs.Tree.{count_in}
-use Rattle.tree.proofs.Deriving.{deriving_start, at_child, child_behind, child_over, child_short, child_asked_put, child_put, child_asked_derived, child_derived, child_next, child_less}
+use Rattle.tree.proofs.Deriving.{
+  deriving_start,
+  at_child,
+  child_behind,
+  child_over,
+  child_short,
+  child_asked_put,
+  child_put,
+  child_asked_derived,
+  child_derived,
+  child_next,
+  child_less,
+}
 use Rattle.tree.proofs.+collect_minimal_deps_in_subtree.Goals as goal
 use Rattle.tree.proofs.+collect_minimal_deps_in_subtree.Goals.{then-is_dependency, else-is_dependency}
 
@@ -42,8 +54,8 @@ loop-number-preserved t c =
           (child_put x c.loop-number-test.true _ refl c.is_dependency.result tested w.if-is_dependency.true _ w.put_next-done.result w.put_next-done.ensures)
       | else-is_dependency w ↦
           rw (w.way'-is, w.out-is, w.done-is)
-          (child_derived x c.loop-number-test.true _ refl c.is_dependency.result tested w.if-is_dependency.false _ _ w.collect_minimal_deps_in_subtree-done.result
-          w.collect_minimal_deps_in_subtree-done.ensures.0 w.collect_minimal_deps_in_subtree-done.ensures.1)
+          (child_derived x c.loop-number-test.true _ refl c.is_dependency.result tested w.if-is_dependency.false _ _
+          w.collect_minimal_deps_in_subtree-done.result w.collect_minimal_deps_in_subtree-done.ensures.0 w.collect_minimal_deps_in_subtree-done.ensures.1)
     ])
 
 pub returns : goal.returns

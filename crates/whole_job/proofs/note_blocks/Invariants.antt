@@ -13,7 +13,8 @@ abbrev pub invariant-loop-i : goal.invariant-loop-i
 invariant-loop-i l =
     (passed (read_many (l.count - l.i) (read_block 4) l.s l.at) ≡ passed (read_many l.count (read_block 4) l.s l.start))
     × (sets l.ids l.i (notes note_number (l.count - l.i) (read_block 4) l.s l.at) ≡ sets l.initial.ids 0 (notes note_number l.count (read_block 4) l.s l.start))
-    × (sets l.places l.i (notes note_place (l.count - l.i) (read_block 4) l.s l.at) ≡ sets l.initial.places 0 (notes note_place l.count (read_block 4) l.s l.start))
+    × (sets l.places l.i (notes note_place (l.count - l.i) (read_block 4) l.s l.at)
+    ≡ sets l.initial.places 0 (notes note_place l.count (read_block 4) l.s l.start))
     × (l.count ≤ 128)
 
 abbrev pub decreases-loop-i : goal.decreases-loop-i

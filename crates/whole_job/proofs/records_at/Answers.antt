@@ -40,7 +40,8 @@ returns-in_default-past_candidates c =
     let head = behind _ _ c.requires c.in-Value.is in
     let past = seen got_place c.note_blocks-past_blocks.ensures.result_value c.in-To.is in
     let told = c.in_default-past_candidates.is in record {
-      value = rw (candidates_refused _ head past (seen got_place c.past_paths-past_candidates.ensures told), c.refusal-in_default-past_candidates.ensures, told);
+      value = rw
+          (candidates_refused _ head past (seen got_place c.past_paths-past_candidates.ensures told), c.refusal-in_default-past_candidates.ensures, told);
       ids_after = rw head c.note_blocks-past_blocks.ensures.ids_after;
       places_after = rw head c.note_blocks-past_blocks.ensures.places_after;
     }

@@ -9,7 +9,8 @@ use Rattle.writer.proofs.put_number.Given as goal
 
 abbrev pub invariant-loop-i : goal.invariant-loop-i
 invariant-loop-i l =
-    (l.i ≤ l.end) × (l.end ≤ length l.out) × (length l.out ≡ length l.initial.out) × (sets l.out l.i (number_bytes (l.end - l.i) l.rest) ≡ sets l.initial.out l.at (number_bytes l.bytes l.x))
+    (l.i ≤ l.end) × (l.end ≤ length l.out) × (length l.out ≡ length l.initial.out)
+    × (sets l.out l.i (number_bytes (l.end - l.i) l.rest) ≡ sets l.initial.out l.at (number_bytes l.bytes l.x))
 
 abbrev pub decreases-loop-i : goal.decreases-loop-i
 decreases-loop-i l = l.end - l.i

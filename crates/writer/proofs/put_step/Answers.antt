@@ -10,7 +10,10 @@ pub put_number-value_at-requires : goal.put_number-value_at-requires
 put_number-value_at-requires c = omega (arith, (room_after 1 9 c.put_number-kind_at.ensures (number_length _ _) (search rules)))
 
 pub put_number-requires : goal.put_number-requires
-put_number-requires c = (room_after 1 8 c.put_number-value_at.ensures (number_length _ _) (omega (arith, (room_after 1 9 c.put_number-kind_at.ensures (number_length _ _) (search rules)))))
+put_number-requires c =
+    let room1 = room_after 1 9 c.put_number-kind_at.ensures (number_length _ _) (search rules) in
+    let room2 = room_after 1 8 c.put_number-value_at.ensures (number_length _ _) (omega (arith, room1)) in
+    room2
 
 pub returns : goal.returns
 returns c =
