@@ -1,5 +1,6 @@
 #!/usr/bin/env python3
-"""Respells the names that port.py leaves: run once, at the top, after /opt/rattle/port/port.py.
+"""Respells the names that port.py leaves: run once, at the top, after the
+toolchain's own script.
 
 Definitions, fields and local names of the form fooBar become foo_bar; lemmas and fields of the
 form foo-bar that a file of specs/ or proofs/ declares become foo_bar, but for those whose name

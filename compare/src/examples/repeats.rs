@@ -10,7 +10,7 @@ pub fn of_paths() -> Named {
     let one_block = |assumed, candidates| job(7, vec![block(7, &[], assumed)], candidates);
     let two_blocks = vec![block(7, &[8], "1, 2, 1"), block(8, &[], "1, 2, 2")];
     vec![
-        // The job of `repeating-thinned` in crates/model/specs/ThinExamples.antt.
+        // The job of `repeating_thinned` in crates/model/specs/ThinExamples.antt.
         ("repeats-in-block-and-candidates", one_block("reactive 1, 1@9", REPEATED_CANDIDATES)),
         ("repeat-of-other-span", one_block("1@3.10, 1@4.10, 1.10", "2@3, 2@4")),
         ("repeat-of-other-entry-span", one_block("1.10@3.11, 1.10@4.11@5", "1.10, 1.10@6")),
