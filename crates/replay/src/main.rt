@@ -3,7 +3,7 @@
 // stored, and the rest of the buffer is to be as it was.
 #![tactic(auto)]
 
-ghost use Rattle.std.specs.Prelude.{◌≡◌, ◌≤◌, true, length, IfOk};
+ghost use Rattle.std.specs.Prelude.{◌≡◌, ◌≤◌, true, length, IfOk, OnErr};
 ghost use Rattle.replay.specs.Parts.{Fits};
 
 use fields::ReadU32;
@@ -61,9 +61,11 @@ fn next_length(list: &mut impl Read) -> io::Result<Length> {
     }
 }
 
-// Reads n bytes of the list, and answers whether they were there and had room.
+// Reads n bytes of the list, and answers whether they were there and had room. Where a read fails,
+// the space keeps its length alone.
 fn fill(list: &mut impl Read, space: &mut [u8], n: usize) -> io::Result<bool>
-    ensures { IfOk result (λ filled. (filled ≡ true) → (n ≤ length space.new)) }
+    ensures room { IfOk result (λ filled. (filled ≡ true) → (n ≤ length space.new)) }
+    ensures err { OnErr result (length space.new ≡ length space.old) }
 {
     if space.len() < n {
         return Ok(false);
@@ -74,7 +76,8 @@ fn fill(list: &mut impl Read, space: &mut [u8], n: usize) -> io::Result<bool>
 
 // The next part of the list, a length and so many bytes, which are put at the buffer's start.
 fn next_part(list: &mut impl Read, space: &mut [u8]) -> io::Result<Length>
-    ensures { IfOk result (λ part. Fits part space.new) }
+    ensures fits { IfOk result (λ part. Fits part space.new) }
+    ensures err { OnErr result (length space.new ≡ length space.old) }
 {
     let Length::Of(n) = next_length(list)? else {
         return Ok(Length::End);

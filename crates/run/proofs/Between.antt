@@ -24,7 +24,7 @@ use Rattle.std.proofs.Common.{
 }
 use Rattle.std.proofs.lemmas.List.{take-append-le}
 use Rattle.std.proofs.Math.Seq.{take-append_seam}
-use Rattle.std.specs.Io.KnownBytes.{Consumes, Appends, IsAtEnd}
+use Rattle.std.specs.Io.KnownBytes.{Consumes, IsAtEnd}
 use Rattle.std.specs.declared.option.Option.{Option}
 use Rattle.model.specs.Tests.{decide, ltb_true, ltb_false}
 use Rattle.std.specs.Prelude.{ltb}
@@ -41,19 +41,21 @@ firsts s xs ys few e end =
     (λ full. take-append-le bytes_read s ys (ltb_false (length s) bytes_read full))
     ∙ take_all bytes_read s few
 
-pub appended : (p : Program) (a b v w : Option (List ℕ)) (space before after : List ℕ) {n m : ℕ} → length space ≡ bytes_read
+-- What holds of the bytes that are to be written holds of what the program writes of all.
+pub of_job : (P : List ℕ → Type 0) (p : Program) (a b : Option (List ℕ)) (space before after : List ℕ) {n m : ℕ}
+    → length space ≡ bytes_read
     → n ≤ length space
     → Consumes a b (take n space)
     → (n < length space → IsAtEnd b)
     → Responds p (take n space) before after m
-    → Appends v w (take m after)
-    → IfSome a (λ job. Appends v w (program_of p job))
-appended p None b v w space before after size room c end r h = tt
-appended p (Some xs) None v w space before after size room c end r h = absurd c
-appended p (Some xs) (Some ys) v w space before after {n} {m} size room c end r h =
+    → P (take m after)
+    → IfSome a (λ job. P (program_of p job))
+of_job P p None b space before after size room c end r h = tt
+of_job P p (Some xs) None space before after size room c end r h = absurd c
+of_job P p (Some xs) (Some ys) space before after {n} {m} size room c end r h =
     let s = take n space in
     let long : length s ≡ n = length-take-le n space room in
     let first = firsts s xs ys (omega arith) c (λ less. end (omega arith)) in
     let written : take m after ≡ program_of p s =
     ap (take m) r.buffer ∙ ap (λ k. take k (program_of p s ++ drop m before)) r.size ∙ take-append_seam (program_of p s) (drop m before) in
-    subst (Appends v w) (written ∙ ap (program_of p) (sym first) ∙ first_bytes p xs) h
+    subst P (written ∙ ap (program_of p) (sym first) ∙ first_bytes p xs) h

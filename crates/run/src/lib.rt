@@ -3,9 +3,10 @@
 // and the number of the refusal.
 #![tactic(auto)]
 
-ghost use Rattle.std.specs.Prelude.{◌≡◌, ◌≤◌, ◌<◌, length, take, IfOk, OnOk, IfSome};
+ghost use Rattle.std.specs.Prelude.{◌≡◌, ◌≤◌, ◌<◌, length, take, IfOk, OnOk, OnErr, IfSome};
 ghost use Rattle.std.specs.Io.KnownBytes.{Consumes, Appends, IsAtEnd};
 ghost use Rattle.stage.specs.Jobs.{Meets};
+ghost use Rattle.run.specs.Fronts.{ConsumesFront, AppendsFront};
 ghost use Rattle.run.specs.Programs.{program_of, operation_of, bytes_read, bytes_lent, Responds, GivesToWrite};
 
 use stage::Outcome;
@@ -54,12 +55,15 @@ fn respond(program: Program, space: &[u8], got: usize, out: &mut [u8]) -> usize
 }
 
 // Reads until the space is full, the input ends or a read fails, and returns how many bytes it put
-// at the space's start. An error is the reader's own, and is returned at once.
+// at the space's start. An error is the reader's own, and is returned at once: what the reader has
+// lost by then stands at the space's start, too.
 pub fn read_full<R: Read>(reader: &mut R, space: &mut [u8]) -> io::Result<usize>
     ensures room { IfOk result (λ n. n ≤ length space.new) }
     ensures bytes { IfOk result (λ n. Consumes (R.remaining reader.old) (R.remaining reader.new)
         (take n space.new)) }
     ensures end { IfOk result (λ n. n < length space.new → IsAtEnd (R.remaining reader.new)) }
+    ensures err { OnErr result (ConsumesFront (R.remaining reader.old) (R.remaining reader.new)
+        space.new) }
 {
     let mut got = 0;
     while got < space.len() {
@@ -72,9 +76,28 @@ pub fn read_full<R: Read>(reader: &mut R, space: &mut [u8]) -> io::Result<usize>
     Ok(got)
 }
 
+// Writes all bytes, or stops at the first write that fails or takes nothing: then those before
+// have been written. An error is the writer's own, or that it takes nothing.
+pub fn write_full<W: Write>(writer: &mut W, bytes: &[u8]) -> io::Result<()>
+    ensures all { OnOk result (Appends (W.contents writer.old) (W.contents writer.new) bytes.now) }
+    ensures err { OnErr result (AppendsFront (W.contents writer.old) (W.contents writer.new)
+        bytes.now) }
+{
+    let mut done = 0;
+    while done < bytes.len() {
+        let taken = writer.write(&bytes[done..])?;
+        if taken == 0 {
+            return Err(io::ErrorKind::WriteZero.into());
+        }
+        done += taken;
+    }
+    Ok(())
+}
+
 // The program between a reader and a writer. Of a job longer than 65,536 bytes the rest is not
-// read: the program writes the same of its first bytes (`first_bytes`). An error is that of a read,
-// before which nothing was written, or of a write, before which a part may have been.
+// read: the program writes the same of its first bytes (`first_bytes`). An error is that of
+// `read_full`, before which nothing was written, or of `write_full`: what was written is the
+// beginning of what the program writes.
 pub fn run_between<R: Read, W: Write>(
     program: Program,
     reader: &mut R,
@@ -83,17 +106,21 @@ pub fn run_between<R: Read, W: Write>(
     ensures size { IfOk result (GivesToWrite program) }
     ensures bytes { OnOk result (IfSome (R.remaining reader.old)
         (λ job. Appends (W.contents writer.old) (W.contents writer.new) (program_of program job))) }
+    ensures err { OnErr result (IfSome (R.remaining reader.old)
+        (λ job. AppendsFront (W.contents writer.old) (W.contents writer.new)
+        (program_of program job))) }
 {
     let mut space = [0u8; 65536];
     let got = read_full(reader, &mut space)?;
     let mut out = [0u8; 32768];
     let n = respond(program, &space, got, &mut out);
-    writer.write_all(&out[..n])?;
+    write_full(writer, &out[..n])?;
     Ok(n)
 }
 
 // The program, from standard input to standard output, of which no contract says what stands there:
-// how many bytes were written is as many as the program writes of the job that was read.
+// how many bytes were written is as many as the program writes of the job that was read. An error
+// is that of `run_between`.
 pub fn run(rt: &(impl Input + Print), program: Program) -> io::Result<usize>
     ensures { IfOk result (GivesToWrite program) }
 {
