@@ -62,7 +62,7 @@ fn next_length(list: &mut impl Read) -> io::Result<Length> {
 }
 
 // Reads n bytes of the list, and answers whether they were there and had room. Where a read fails,
-// the space keeps its length alone.
+// of the space only the length is promised.
 fn fill(list: &mut impl Read, space: &mut [u8], n: usize) -> io::Result<bool>
     ensures room { IfOk result (λ filled. (filled ≡ true) → (n ≤ length space.new)) }
     ensures err { OnErr result (length space.new ≡ length space.old) }

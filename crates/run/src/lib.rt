@@ -55,8 +55,8 @@ fn respond(program: Program, space: &[u8], got: usize, out: &mut [u8]) -> usize
 }
 
 // Reads until the space is full, the input ends or a read fails, and returns how many bytes it put
-// at the space's start. An error is the reader's own, and is returned at once: what the reader has
-// lost by then stands at the space's start, too.
+// at the space's start. An error is the reader's own, and is returned at once. Where the reader's
+// bytes are known, what it has lost by then stands at the space's start, too.
 pub fn read_full<R: Read>(reader: &mut R, space: &mut [u8]) -> io::Result<usize>
     ensures room { IfOk result (λ n. n ≤ length space.new) }
     ensures bytes { IfOk result (λ n. Consumes (R.remaining reader.old) (R.remaining reader.new)
@@ -76,8 +76,9 @@ pub fn read_full<R: Read>(reader: &mut R, space: &mut [u8]) -> io::Result<usize>
     Ok(got)
 }
 
-// Writes all bytes, or stops at the first write that fails or takes nothing: then those before
-// have been written. An error is the writer's own, or that it takes nothing.
+// Writes all bytes, or stops at the first write that fails or takes nothing. Where the writer's bytes
+// are known, it has got all of them, or after an error a beginning of them, or none. An error is the
+// writer's own, or that it takes nothing.
 pub fn write_full<W: Write>(writer: &mut W, bytes: &[u8]) -> io::Result<()>
     ensures all { OnOk result (Appends (W.contents writer.old) (W.contents writer.new) bytes.now) }
     ensures err { OnErr result (AppendsFront (W.contents writer.old) (W.contents writer.new)
@@ -96,8 +97,8 @@ pub fn write_full<W: Write>(writer: &mut W, bytes: &[u8]) -> io::Result<()>
 
 // The program between a reader and a writer. Of a job longer than 65,536 bytes the rest is not
 // read: the program writes the same of its first bytes (`first_bytes`). An error is that of
-// `read_full`, before which nothing was written, or of `write_full`: what was written is the
-// beginning of what the program writes.
+// `read_full` or of `write_full`. Where the bytes of both are known, the writer has then got a
+// beginning of what the program writes, or nothing.
 pub fn run_between<R: Read, W: Write>(
     program: Program,
     reader: &mut R,
