@@ -76,9 +76,9 @@ pub fn read_full<R: Read>(reader: &mut R, space: &mut [u8]) -> io::Result<usize>
     Ok(got)
 }
 
-// Writes all bytes, or stops at the first write that fails or takes nothing. Where the writer's bytes
-// are known, it has got all of them, or after an error a beginning of them, or none. An error is the
-// writer's own, or that it takes nothing.
+// Writes all bytes, or stops at the first write that fails or takes nothing. Where the writer's
+// bytes are known, it has got all of them, or after an error a beginning of them, or none. An error
+// is the writer's own, or that it takes nothing.
 pub fn write_full<W: Write>(writer: &mut W, bytes: &[u8]) -> io::Result<()>
     ensures all { OnOk result (Appends (W.contents writer.old) (W.contents writer.new) bytes.now) }
     ensures err { OnErr result (AppendsFront (W.contents writer.old) (W.contents writer.new)
