@@ -9,19 +9,20 @@ ghost use Rattle.entries.specs.Access.{is_optional_access, is_dependency_access,
 ghost use Rattle.entries.specs.Refusals.{refusal_number};
 
 // A variable of the compiled function (`IdentifierId` of the Rust).
-#[derive(Clone, Copy)]
+#[derive(Clone, Copy, PartialEq, Eq)]
 pub struct IdentifierId(pub u32);
 
 // A block of the compiled function (`BlockId` of the Rust).
-#[derive(Clone, Copy)]
+#[derive(Clone, Copy, PartialEq, Eq)]
 pub struct BlockId(pub u32);
 
 // A node of the registry: its place in the order of making.
-#[derive(Clone, Copy)]
+#[derive(Clone, Copy, PartialEq, Eq)]
 pub struct NodeId(pub usize);
 
-// A property: the host's number for a name, or the stored bits of a number.
-#[derive(Clone, Copy)]
+// A property: the host's number for a name, or the stored bits of a number. Two are equal where kind
+// and 64 bits are.
+#[derive(Clone, Copy, PartialEq, Eq)]
 pub enum PropertyLiteral {
     String(u64),
     Number(u64),
@@ -56,22 +57,6 @@ impl PropertyLiteral {
             PropertyLiteral::Number(v) => v,
         }
     }
-
-    // The same kind and the same 64 bits.
-    pub fn same(self, other: PropertyLiteral) -> bool
-        ensures { result ≡ same_property self other }
-    {
-        match self {
-            PropertyLiteral::String(a) => match other {
-                PropertyLiteral::String(b) => a == b,
-                PropertyLiteral::Number(_) => false,
-            },
-            PropertyLiteral::Number(a) => match other {
-                PropertyLiteral::String(_) => false,
-                PropertyLiteral::Number(b) => a == b,
-            },
-        }
-    }
 }
 
 // One step of a path: `.property`, or `?.property` where `optional`. The span is the host's number
@@ -88,13 +73,7 @@ impl DependencyPathEntry {
     pub fn same(self, other: DependencyPathEntry) -> bool
         ensures { result ≡ same_entry self other }
     {
-        let a = self.property;
-        let b = other.property;
-        if a.same(b) {
-            self.optional == other.optional
-        } else {
-            false
-        }
+        self.property == other.property && self.optional == other.optional
     }
 }
 
@@ -113,7 +92,7 @@ pub fn are_equal_paths(a: &[DependencyPathEntry], b: &[DependencyPathEntry]) -> 
 }
 
 // How a position of the dependency tree is reached, and whether a dependency ends there.
-#[derive(Clone, Copy)]
+#[derive(Clone, Copy, PartialEq, Eq)]
 pub enum PropertyAccessType {
     OptionalAccess,
     UnconditionalAccess,
@@ -126,58 +105,40 @@ impl PropertyAccessType {
     pub fn of(optional: bool, dependency: bool) -> PropertyAccessType
         ensures { result ≡ access_of optional dependency }
     {
-        if optional {
-            if dependency {
-                PropertyAccessType::OptionalDependency
-            } else {
-                PropertyAccessType::OptionalAccess
-            }
-        } else {
-            if dependency {
-                PropertyAccessType::UnconditionalDependency
-            } else {
-                PropertyAccessType::UnconditionalAccess
-            }
+        match (optional, dependency) {
+            (true, true) => PropertyAccessType::OptionalDependency,
+            (true, false) => PropertyAccessType::OptionalAccess,
+            (false, true) => PropertyAccessType::UnconditionalDependency,
+            (false, false) => PropertyAccessType::UnconditionalAccess,
         }
     }
 
     pub fn is_optional(self) -> bool
         ensures { result ≡ is_optional_access self }
     {
-        match self {
-            PropertyAccessType::OptionalAccess => true,
-            PropertyAccessType::UnconditionalAccess => false,
-            PropertyAccessType::OptionalDependency => true,
-            PropertyAccessType::UnconditionalDependency => false,
-        }
+        matches!(
+            self,
+            PropertyAccessType::OptionalAccess | PropertyAccessType::OptionalDependency
+        )
     }
 
     pub fn is_dependency(self) -> bool
         ensures { result ≡ is_dependency_access self }
     {
-        match self {
-            PropertyAccessType::OptionalAccess => false,
-            PropertyAccessType::UnconditionalAccess => false,
-            PropertyAccessType::OptionalDependency => true,
-            PropertyAccessType::UnconditionalDependency => true,
-        }
+        matches!(
+            self,
+            PropertyAccessType::OptionalDependency | PropertyAccessType::UnconditionalDependency
+        )
     }
 
     // `merge_access` of the Rust: optional only if both are, a dependency if either is.
     pub fn merge(self, other: PropertyAccessType) -> PropertyAccessType
         ensures { result ≡ merge_access self other }
     {
-        let dependency = if self.is_dependency() {
-            true
-        } else {
-            other.is_dependency()
-        };
-        let optional = if self.is_optional() {
-            other.is_optional()
-        } else {
-            false
-        };
-        PropertyAccessType::of(optional, dependency)
+        PropertyAccessType::of(
+            self.is_optional() && other.is_optional(),
+            self.is_dependency() || other.is_dependency(),
+        )
     }
 }
 
@@ -190,7 +151,7 @@ pub enum HoistableAccessType {
 
 // Why a job is turned back, in the order of the numbers: document 01's 1 to 9, and document 02's
 // 10.
-#[derive(Clone, Copy)]
+#[derive(Clone, Copy, PartialEq, Eq)]
 pub enum Refusal {
     ShortBuffer,
     LongJob,
@@ -204,12 +165,12 @@ pub enum Refusal {
     LargestStart,
 }
 
-impl Refusal {
-    // The number of document 01, or of document 02.
-    pub fn number(self) -> u8
-        ensures { result ≡ refusal_number self }
-    {
-        match self {
+// The number of document 01, or of document 02.
+impl From<Refusal> for u8 {
+    ghost from_gives = { λ refusal number. number ≡ refusal_number refusal };
+
+    fn from(refusal: Refusal) -> u8 {
+        match refusal {
             Refusal::ShortBuffer => 1,
             Refusal::LongJob => 2,
             Refusal::MissingByte => 3,
