@@ -6,10 +6,10 @@
 use Prim.Native.Nat.{◌-◌, ◌≤◌}
 use mathlib.Core.Path.{◌≡◌}
 use Rattle.graph.specs.Bytes.{successors_from}
-use Rattle.graph.proofs.next_successor.Given as goal
+use Rattle.graph.proofs.Graph.next_successor.Given as goal
 
 abbrev pub invariant-loop-r : goal.invariant-loop-r
-invariant-loop-r l = (l.from ≤ l.r) × (successors_from l.graph l.b l.from ≡ successors_from l.graph l.b l.r)
+invariant-loop-r l = (l.from ≤ l.r) × (successors_from l.self.bytes.now l.b l.from ≡ successors_from l.self.bytes.now l.b l.r)
 
 abbrev pub decreases-loop-r : goal.decreases-loop-r
 decreases-loop-r l = 128 - l.r

@@ -1,10 +1,11 @@
 -- What is still to come of a block's neighbours: at a predecessor, at a rank whose bit is set, past
 -- ranks whose bits are not, and at the end.
-use Prim.Native.Nat.{ℕ, zero, suc, ◌+◌, ◌*◌, ◌-◌, ◌/◌, ◌%◌, ◌≤◌, ◌<◌}
+use Prim.Native.Nat.{ℕ, zero, suc, max, ◌+◌, ◌*◌, ◌-◌, ◌/◌, ◌%◌, ◌≤◌, ◌<◌}
 use native.Mathlib.Omega.{arith}
+use native.Mathlib.Decide.{dec_le}
 use native.Mathlib.Numerals.{add-one}
 use mathlib.Core.Bool.{Bool, true, false}
-use mathlib.Core.Path.{◌≡◌, sym, ap, subst, ◌∙◌}
+use mathlib.Core.Path.{◌≡◌, sym, ap, ◌∙◌}
 use mathlib.Core.List.{List, [], ◌∷◌, map}
 use lib.ListN.{length}
 use Rattle.model.specs.Lists.{select}
@@ -21,12 +22,10 @@ use Rattle.graph.specs.Bytes.{
   neighbours_from,
   GraphFits,
   Next,
-  Finds,
   HoldsBits,
-  Lowest,
+  NoneBelow,
+  LowestAt,
 }
-use Rattle.graph.specs.declared.Neighbour.{Neighbour}
-use Rattle.graph.specs.declared.Neighbour.TheVariants.{At, Nothing}
 
 -- the places from k to an end
 pub places_more : (k n : ℕ) → k < n → places_from k (n - k) ≡ k ∷ places_from (k + 1) (n - (k + 1))
@@ -81,44 +80,40 @@ module _ {g : List ℕ} {b : ℕ} (fits : GraphFits g) (here : b < size_in g) wh
       }
 
   -- below the blocks' ranks no bit is set
-  pub none_low : (from first : ℕ) → first ≤ 128 - size_in g → from ≤ first → successors_from g b from ≡ successors_from g b first
-  none_low from first le l =
-      none_among g b (first - from) from (omega arith) (λ j h less. fits.low b j here (omega arith)) ∙ ap (successors_from g b) (omega arith)
+  pub none_low : (from r : ℕ) → r ≡ max from (128 - size_in g) → successors_from g b from ≡ successors_from g b r
+  none_low from r e = elim (dec_le from (128 - size_in g)) [
+    | yes l ↦ (
+        none_among g b (r - from) from (omega arith) (λ j h less. fits.low b j here (omega arith)) ∙ ap (successors_from g b) (omega arith)
+        )
+    | no other ↦ ap (successors_from g b) (omega arith)
+  ]
 
   pub none_past : (backward : Bool) (from : ℕ) → 128 ≤ from → neighbours_from g backward b from ≡ []
   none_past false from l = let d = fits.degree b here in no_predecessor g b from (omega arith)
   none_past true from l = no_successor g b from l
 
-  -- the word of rank r, whose lowest bit from there on is bit m
-  module _ (r w m : ℕ) (small : r < 128) (holds : HoldsBits g b (r / 64) w) (lowest : Lowest w (r % 64) m) where
+  -- the word of rank r
+  module _ (r w : ℕ) (small : r < 128) (holds : HoldsBits g b (r / 64) w) where
     in_word : (j : ℕ) → r ≤ j → j < r / 64 * 64 + 64 → is_successor g b j ≡ bit w (j % 64)
     in_word j h l = let e : j ≡ r / 64 * 64 + j % 64 = omega arith in ap (is_successor g b) e ∙ sym (holds (j % 64) (omega arith))
 
-    pub passed : successors_from g b r ≡ successors_from g b (r / 64 * 64 + m)
-    passed =
-        let a = lowest.above in
-        let i = lowest.within in
+    -- up to bit m of it none is set from that rank on
+    pub passed : (m : ℕ) → r % 64 ≤ m → m ≤ 64 → NoneBelow w (r % 64) m → successors_from g b r ≡ successors_from g b (r / 64 * 64 + m)
+    passed m a i none =
         none_among g b (r / 64 * 64 + m - r) r (omega arith)
-        (λ j h l. in_word j h (omega arith) ∙ lowest.none (j % 64) (omega arith) (omega arith))
+        (λ j h l. in_word j h (omega arith) ∙ none (j % 64) (omega arith) (omega arith))
         ∙ ap (successors_from g b) (omega arith)
 
-    pub successor_next : (start k : ℕ) → start ≤ r → successors_from g b start ≡ successors_from g b r → m < 64 → k ≡ block_of_rank g (r / 64 * 64 + m)
-        → Next g true b start k (r / 64 * 64 + m + 1)
-    successor_next start k le same l found =
+    pub successor_next : (start m k : ℕ) → start ≤ r → successors_from g b start ≡ successors_from g b r → LowestAt w (r % 64) m
+        → k ≡ block_of_rank g (r / 64 * 64 + m) → Next g true b start k (r / 64 * 64 + m + 1)
+    successor_next start m k le same lowest found =
         let a = lowest.above in
+        let l = lowest.within in
         let e : (r / 64 * 64 + m) % 64 ≡ m = omega arith in
-        let set : is_successor g b (r / 64 * 64 + m) ≡ true = in_word (r / 64 * 64 + m) (omega arith) (omega arith) ∙ rw e (lowest.found l) in
+        let set : is_successor g b (r / 64 * 64 + m) ≡ true = in_word (r / 64 * 64 + m) (omega arith) (omega arith) ∙ rw e lowest.found in
         record {
           inside = rw found (fits.successor b (r / 64 * 64 + m) here (omega arith) set);
           onward = omega arith;
           within = omega arith;
-          rest = same ∙ passed ∙ successor_here g b (r / 64 * 64 + m) (omega arith) set ∙ rw found;
+          rest = same ∙ passed m a (omega arith) lowest.none ∙ successor_here g b (r / 64 * 64 + m) (omega arith) set ∙ rw found;
         }
-
--- An answer by its case.
-module _ (g : List ℕ) (backward : Bool) (b from : ℕ) (r : Neighbour) (found : Finds g backward b from r) where
-  pub found_at : (k next : ℕ) → r ≡ At k next → Next g backward b from k next
-  found_at k next e = subst (Finds g backward b from) e found
-
-  pub found_nothing : r ≡ Nothing → neighbours_from g backward b from ≡ []
-  found_nothing e = subst (Finds g backward b from) e found
