@@ -1,23 +1,19 @@
-use mathlib.Core.Path.{refl, sym, ap, ◌∙◌}
-use Rattle.fields.proofs.Reading.{seen}
+use mathlib.Core.Path.{sym, ap, ◌∙◌}
+use Rattle.std.proofs.lemmas.Result.{err_from_is_err_and}
 use Rattle.job.specs.Passing.{passed}
-use Rattle.job.specs.Answer.{got_entry}
-use Rattle.job.proofs.Passing.{many_end, many_step, many_stop}
+use Rattle.job.proofs.Passing.{many_done, many_next, many_halt}
 use Rattle.job.proofs.past_entries.Goals as goal
 
-pub loop-left-init : goal.loop-left-init
-loop-left-init c = refl
+pub returns-in_err-next : goal.returns-in_err-next
+returns-in_err-next c =
+    let p = err_from_is_err_and c.from_residual.result c.from_residual.ensures.1 in
+    let halt = many_halt _ _ _ _ _ c.loop-test.true (sym (ap passed c.in_err-next.ensures)) in
+    rw (p.1, p.2) (sym halt ∙ c.loop.invariant)
 
-pub returns-in_default : goal.returns-in_default
-returns-in_default c =
-    let told = c.in_default.is in
-    let stop = many_stop _ _ _ _ c.loop-left-test.true (ap passed (seen got_entry c.entry_at-entry.ensures told)) in
-    rw (c.refusal.ensures, told) (sym stop ∙ c.loop-left.invariant)
-
-pub loop-left-preserved : goal.loop-left-preserved
-loop-left-preserved c =
-    let step = many_step _ _ _ _ c.loop-left-test.true (ap passed (seen got_entry c.entry_at-entry.ensures c.in-Value.is)) in
-    sym step ∙ c.loop-left.invariant
+pub loop-preserved : goal.loop-preserved
+loop-preserved c =
+    let step = many_next _ _ _ _ _ c.loop-test.true (sym (ap passed c.in_ok-next.ensures)) in
+    sym step ∙ c.loop.invariant
 
 pub returns : goal.returns
-returns c = sym (many_end _ _ _ _ c.loop-left-test.false) ∙ c.loop-left.invariant
+returns c = sym (many_done _ _ _ _ _ c.loop-test.false) ∙ c.loop.invariant

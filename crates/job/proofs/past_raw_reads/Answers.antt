@@ -1,22 +1,18 @@
-use mathlib.Core.Path.{refl, sym, ◌∙◌}
-use Rattle.fields.specs.Answer.{got_place}
-use Rattle.fields.proofs.Reading.{seen}
-use Rattle.job.proofs.Passing.{many_end, many_step, many_stop}
+use mathlib.Core.Path.{sym, ◌∙◌}
+use Rattle.std.proofs.lemmas.Result.{err_from_is_err_and}
+use Rattle.job.proofs.Passing.{many_done, many_next, many_halt}
 use Rattle.job.proofs.past_raw_reads.Goals as goal
 
-pub loop-left-init : goal.loop-left-init
-loop-left-init c = refl
+pub returns-in_err-at : goal.returns-in_err-at
+returns-in_err-at c =
+    let p = err_from_is_err_and c.from_residual.result c.from_residual.ensures.1 in
+    let halt = many_halt _ _ _ _ _ c.loop-test.true (sym (c.in_err-at.ensures)) in
+    rw (p.1, p.2) (sym halt ∙ c.loop.invariant)
 
-pub returns-in_default : goal.returns-in_default
-returns-in_default c =
-    let told = c.in_default.is in
-    let stop = many_stop _ _ _ _ c.loop-left-test.true (seen got_place c.past_raw_read-read.ensures told) in
-    rw told (sym stop ∙ c.loop-left.invariant)
-
-pub loop-left-preserved : goal.loop-left-preserved
-loop-left-preserved c =
-    let step = many_step _ _ _ _ c.loop-left-test.true (seen got_place c.past_raw_read-read.ensures c.in-To.is) in
-    sym step ∙ c.loop-left.invariant
+pub loop-preserved : goal.loop-preserved
+loop-preserved c =
+    let step = many_next _ _ _ _ _ c.loop-test.true (sym (c.in_ok-at.ensures)) in
+    sym step ∙ c.loop.invariant
 
 pub returns : goal.returns
-returns c = sym (many_end _ _ _ _ c.loop-left-test.false) ∙ c.loop-left.invariant
+returns c = sym (many_done _ _ _ _ _ c.loop-test.false) ∙ c.loop.invariant
