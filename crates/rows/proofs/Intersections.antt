@@ -1,44 +1,17 @@
 -- The intersection of rows: of the rows passed, met word by word, and of those still to come.
-use Prim.Native.Nat.{ℕ, zero, suc, ◌+◌, ◌*◌, ◌≤◌, ◌<◌}
+use Prim.Native.Nat.{ℕ, zero, suc, ◌+◌, ◌≤◌, ◌<◌}
 use native.Mathlib.Omega.{arith}
 use native.Mathlib.Numerals.{add-one}
 use mathlib.Core.Path.{◌≡◌, sym, ap, ◌∙◌}
 use mathlib.Core.List.{List, [], ◌∷◌, map, foldl}
-use lib.Bits.{bit_and}
 use lib.ListN.{length, get_or, drop, drop_of_length-le, replicate, get_or-replicate}
-use lib.Seq.{drop-cons, get_or-drop}
+use lib.Seq.{drop-cons}
 use Rattle.model.specs.ListLaws.{All}
 use Rattle.model.specs.Sets.{NodeSet, intersection}
 use Rattle.model.specs.Propagation.{intersection_of}
 use Rattle.rows.specs.Members.{members_of}
 use Rattle.rows.specs.Rows.{row_of}
-use Rattle.rows.proofs.Members.{no_members, eight, intersected}
-
--- eight words, each with the word of the same number from a place on
-abbrev met_at : List ℕ → List ℕ → ℕ → List ℕ
-met_at words ws at =
-    bit_and (get_or words 0 0) (get_or ws at 0) ∷ bit_and (get_or words 1 0) (get_or ws (at + 1) 0) ∷ bit_and (get_or words 2 0) (get_or ws (at + 2) 0)
-    ∷ bit_and (get_or words 3 0) (get_or ws (at + 3) 0) ∷ bit_and (get_or words 4 0) (get_or ws (at + 4) 0) ∷ bit_and (get_or words 5 0) (get_or ws (at + 5) 0)
-    ∷ bit_and (get_or words 6 0) (get_or ws (at + 6) 0) ∷ bit_and (get_or words 7 0) (get_or ws (at + 7) 0) ∷ []
-
-met_is : (words ws : List ℕ) (at : ℕ) → eight bit_and words (drop at ws) ≡ met_at words ws at
-met_is words ws at =
-    let z : at + 0 ≡ at = omega arith in
-    rw (
-      get_or-drop at ws 0 0,
-      get_or-drop at ws 1 0,
-      get_or-drop at ws 2 0,
-      get_or-drop at ws 3 0,
-      get_or-drop at ws 4 0,
-      get_or-drop at ws 5 0,
-      get_or-drop at ws 6 0,
-      get_or-drop at ws 7 0,
-      z,
-    )
-
-pub row_met : (words ws : List ℕ) (b : ℕ) → members_of (met_at words ws (b * 8)) ≡ intersection (members_of words) (row_of ws b)
-unfolding row_of
-row_met words ws b = ap members_of (sym (met_is words ws (b * 8))) ∙ intersected words (drop (b * 8) ws)
+use Rattle.rows.proofs.Members.{no_members}
 
 -- what holds of every place, at one of them
 pub all_at : (P : ℕ → Type 0) (places : List ℕ) (i : ℕ) → All P places → i < length places → P (get_or places i 0)

@@ -5,4 +5,4 @@ use Rattle.rows.specs.Members.{members_of}
 use Rattle.rows.proofs.NodeBits.is_empty.Goals as goal
 
 pub returns : goal.returns
-returns c = c.same_set.ensures ∙ ap (same_set (members_of c.args.self.words)) c.empty.ensures
+returns c = c.same_set.ensures ∙ ap (same_set (members_of c.args.self.now.words)) c.empty.ensures
