@@ -7,7 +7,7 @@ use mathlib.Core.Path.{◌≡◌, refl, sym, ap, subst, ◌∙◌}
 use mathlib.Core.Bool.{Bool, true, false}
 use mir.Val.{bool_byte}
 use mathlib.Core.List.{List, [], ◌∷◌, ◌++◌, append_assoc, append-nil}
-use lib.ListN.{length, set, take, drop, length-append, length-take, length-drop}
+use lib.ListN.{length, get_or, set, take, drop, length-append, length-take, length-drop}
 use lib.Seq.{sets, sets-eq, length-sets, set_comm, drop-drop}
 use Rattle.std.proofs.lemmas.List.{drop_all}
 use borrow.Rule.Slice.Mut.{set_vals}
@@ -15,6 +15,7 @@ use borrow.Rule.Slice.PartMut.{put_mid}
 use Rattle.entries.specs.declared.IdentifierId.{IdentifierId}
 use Rattle.entries.specs.declared.DependencyPathEntry.{DependencyPathEntry}
 use Rattle.entries.specs.Property.{is_number, value_of}
+use Rattle.model.specs.Lists.{concat_map}
 use Rattle.model.specs.Answer.{number_bytes, flag, step_bytes, entry_bytes}
 use Rattle.writer.specs.declared.Writer.{Writer}
 use Rattle.writer.specs.Writes.{Writes, HasRoom, Puts, path_head_bytes}
@@ -142,6 +143,20 @@ pub puts_flag : {a b : Writer} {x : ℕ} (written is : Bool) → x ≡ bool_byte
     → Puts a b 1 (number_bytes 1 (flag is))
 puts_flag written is e same = puts_number (e ∙ ap bool_byte same ∙ byte_flag is)
 
+pub puts_to : {a b : Writer} {m n : ℕ} {xs ys : List ℕ} → m ≡ n → xs ≡ ys → Puts a b m xs → Puts a b n ys
+puts_to {a} {b} {ys = ys} size e x = subst (λ (k : ℕ). Puts a b k ys) size (puts_as e x)
+
+-- what a writer wrote stands in the buffer that was lent to it
+pub puts_back : {a b : Writer} {n : ℕ} {bytes after : List ℕ} → after ≡ b.out.now → Puts a b n bytes → Writes a.out.now after a.at bytes b.at
+puts_back e x = record { is = e ∙ x.writes.is; ends = x.writes.ends }
+
+-- a writer in a loop: what is written so far, and what one turn writes behind it
+pub puts_more : {a b c : Writer} {m n k : ℕ} {xs ys zs : List ℕ} → m + n ≡ k → xs ++ ys ≡ zs → Puts a b m xs → Puts b c n ys → Puts a c k zs
+puts_more size e x y = puts_to size e (puts_then x y)
+
+pub puts_none : (w : Writer) → Puts w w 0 []
+puts_none w = record { writes = writes_none; next = sym (add-zero w.at); long = refl; same = refl }
+
 -- The writer, at another place of its buffer.
 abbrev pub moved : Writer → ℕ → Writer
 moved w at = record { out = w.out; at = at }
@@ -209,3 +224,14 @@ coming_over {before} {now} {n} {whole} c e = record {
 
 pub coming_as : {before now : Writer} {whole xs ys : List ℕ} → xs ≡ ys → Coming before now whole xs → Coming before now whole ys
 coming_as {before} {now} {whole} e c = subst (λ (l : List ℕ). Coming before now whole l) e c
+
+-- the bytes of the items before k, and those of item k
+pub concat_map_next : {A : Type 0} (f : A → List ℕ) (xs : List A) (k : ℕ) (d : A) → k < length xs
+    → concat_map f (take k xs) ++ f (get_or xs k d) ≡ concat_map f (take (k + 1) xs)
+concat_map_next f [] k d l = absurd (omega arith)
+concat_map_next f (x ∷ xs) zero d l = sym (append-nil (f x))
+concat_map_next f (x ∷ xs) (suc k) d l =
+    let e : suc (k + 1) ≡ suc k + 1 = omega arith in
+    append_assoc (f x) (concat_map f (take k xs)) (f (get_or xs k d))
+    ∙ ap (λ (l : List ℕ). f x ++ l) (concat_map_next f xs k d (omega arith))
+    ∙ ap (λ (i : ℕ). concat_map f (take i (x ∷ xs))) e

@@ -27,3 +27,7 @@ pub record Puts (before after : Writer) (n : ℕ) (bytes : List ℕ) : Type 0 wh
 abbrev pub path_head_bytes : ℕ → IdentifierId → Bool → ℕ → ℕ → List ℕ
 path_head_bytes mark identifier reactive span entries =
     u16 mark ++ u32 identifier.0 ++ u8 (flag reactive) ++ number_bytes span_width span ++ u8 entries
+
+-- "rounds u8, settled u8 (1 or 0)"
+abbrev pub rounds_bytes : ℕ → Bool → List ℕ
+rounds_bytes rounds settled = u8 rounds ++ u8 (flag settled)

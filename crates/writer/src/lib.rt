@@ -4,7 +4,7 @@
 
 ghost use Rattle.std.specs.Prelude.{◌≡◌, ◌<◌, length};
 ghost use Rattle.model.specs.Answer.{number_bytes, flag, step_bytes, entry_bytes, span_width};
-ghost use Rattle.writer.specs.Writes.{HasRoom, Puts, path_head_bytes};
+ghost use Rattle.writer.specs.Writes.{HasRoom, Puts, path_head_bytes, rounds_bytes};
 
 use entries::{DependencyPathEntry, IdentifierId};
 
@@ -13,6 +13,13 @@ pub fn flag(b: bool) -> u64
     ensures { (result ≡ flag b) × (result < 2) }
 {
     if b { 1 } else { 0 }
+}
+
+// How many rounds were run, and whether the last changed nothing.
+#[derive(Clone, Copy)]
+pub struct Ran {
+    pub rounds: u8,
+    pub settled: bool,
 }
 
 // A buffer, and the place in it at which the next bytes are written.
@@ -83,5 +90,14 @@ impl<'a> Writer<'a> {
         self.number(1, u64::from(reactive));
         self.number(4, span);
         self.number(1, entries as u64);
+    }
+
+    // What an answer and a sheet say of the rounds.
+    pub fn rounds(&mut self, run: Ran)
+        requires { HasRoom self.old 2 }
+        ensures { Puts self.old self.new 2 (rounds_bytes run.rounds run.settled) }
+    {
+        self.number(1, u64::from(run.rounds));
+        self.number(1, u64::from(run.settled));
     }
 }
