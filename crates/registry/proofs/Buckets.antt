@@ -27,7 +27,9 @@ use Rattle.registry.specs.Words.{
   nodes_of,
   registry_of,
 }
-use Rattle.registry.specs.Words.{Packed, NodesPacked, Sized, BehindLast, BucketsLinked, KeySought}
+use Rattle.std.proofs.Common.{Some, None}
+use Rattle.entries.specs.declared.NodeId.{NodeId}
+use Rattle.registry.specs.Words.{Packed, NodesPacked, Sized, BehindLast, BucketsLinked, KeyHere, KeySought}
 use Rattle.registry.proofs.Pack.{link_back, linked_word, packed_below, same_words, words_same}
 use Rattle.registry.proofs.Quarters.{raised, others}
 use Rattle.registry.proofs.Stored.{stored, stored_count, elsewhere, first_word, second_word, ends_word, other_ends, stored_long}
@@ -236,41 +238,32 @@ module _ (ws : List ℕ) (key value : ℕ) (linked : BucketsLinked ws) where
 -- the search ends at a node with the key and the value, or has passed all
 
 pub sought_here : (ws : List ℕ) (key value e k : ℕ) → Passed ws key value e → k + 1 ≡ e → eqb (key_at ws k) key && eqb (value_at ws k) value ≡ true
-    → KeySought ws key value e
+    → KeyHere ws key value k
 sought_here ws key value e k p at hit =
     let within = p.within in
     record {
-      within = within;
-      here = λ j l.
-          let same : j ≡ k = omega arith in
-          subst (λ i. (key_at ws i ≡ key) × (value_at ws i ≡ value)) (sym same)
-          (eqb-true (key_at ws k) key (and_first (eqb (key_at ws k) key) _ hit), eqb-true (value_at ws k) value (and_second (eqb (key_at ws k) key) _ hit));
-      none = λ z. absurd (omega arith);
+      within = omega arith;
+      same_key = eqb-true (key_at ws k) key (and_first (eqb (key_at ws k) key) _ hit);
+      same_value = eqb-true (value_at ws k) value (and_second (eqb (key_at ws k) key) _ hit);
     }
 
-pub sought_none : (ws : List ℕ) (key value e : ℕ) → Passed ws key value e → e ≤ 0 → KeySought ws key value e
-sought_none ws key value e p l = record {
-  within = p.within;
-  here = λ k at. absurd (omega arith);
-  none = λ z j m. p.none j (omega arith) m;
-}
+pub sought_none : (ws : List ℕ) (key value e : ℕ) → Passed ws key value e → e ≤ 0 → KeySought ws key value None
+sought_none ws key value e p l j m = p.none j (omega arith) m
 
--- What the search says of the nodes: the node with the key is the one before r, or there is none.
-module _ (ws : List ℕ) (head value span r : ℕ) (packed : NodesPacked ws) (new : Packed head value span)
-    (sought : KeySought ws (head % reactive_unit) value r) where
-  pub sought_found : Sound (registry_of ws) → 0 < r → find_node (nodes_of ws) (unpack head value span) ≡ r - 1
-  sought_found sound some =
-      let within = sought.within in
-      let both = sought.here (r - 1) (omega arith) in
-      found_at ws (r - 1) (unpack head value span) sound (omega arith)
-      (words_same (get_or ws ((r - 1) * 3) 0) head both.0 (value_at ws (r - 1)) value (get_or ws ((r - 1) * 3 + 2) 0) span both.1)
+-- What the search says of the nodes: the node found is the one with the key, or there is none.
+module _ (ws : List ℕ) (head value span : ℕ) (packed : NodesPacked ws) (new : Packed head value span) where
+  pub sought_found : (k : NodeId) → KeySought ws (head % reactive_unit) value (Some k) → Sound (registry_of ws)
+      → find_node (nodes_of ws) (unpack head value span) ≡ k.0
+  sought_found k both sound =
+      found_at ws k.0 (unpack head value span) sound both.within
+      (words_same (get_or ws (k.0 * 3) 0) head both.same_key (value_at ws k.0) value (get_or ws (k.0 * 3 + 2) 0) span both.same_value)
 
-  pub sought_nowhere : r ≤ 0 → find_node (nodes_of ws) (unpack head value span) ≡ count_in ws
+  pub sought_nowhere : KeySought ws (head % reactive_unit) value None → find_node (nodes_of ws) (unpack head value span) ≡ count_in ws
   sought_nowhere none =
       none_found ws (unpack head value span)
       (λ j l.
       decide (same_key (stored_node ws j) (unpack head value span))
       (λ t.
       let words = same_words (stored_node ws j) (unpack head value span) t in
-      absurd (sought.none (omega arith) j l ((packed j l).key ∙ words.0 ∙ sym new.key) ((packed j l).second ∙ words.1 ∙ sym new.second)))
+      absurd (none j l ((packed j l).key ∙ words.0 ∙ sym new.key) ((packed j l).second ∙ words.1 ∙ sym new.second)))
       (λ t. t))

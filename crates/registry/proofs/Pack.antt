@@ -1,6 +1,7 @@
 -- A node that is packed into three words and unpacked again is the node: each field stands in bits
 -- of its own.
 use Prim.Native.Nat.{ℕ, ◌+◌, ◌*◌, ◌/◌, ◌%◌, ◌<◌}
+use mir.Val.{bool_byte}
 use native.Mathlib.Omega.{arith}
 use mathlib.Core.Bool.{Bool, true, false}
 use mathlib.Core.Path.{◌≡◌, refl, sym, ap, ◌∙◌, subst}
@@ -90,6 +91,11 @@ packed_child p e o k p< eo o< ek k< =
       flag_is,
       property_back,
     )
+
+-- the number of a yes or no, as the code makes it
+pub flagged : (b : Bool) (r : ℕ) → r ≡ bool_byte b → (r ≡ flag b) × (r < 2)
+flagged false r e = (e, omega arith)
+flagged true r e = (e, omega arith)
 
 pub packs_child : {n : Node} {p : NodeId} {e : DependencyPathEntry} → ParentFits n → n ≡ Child p e → p.0 < root_mark
 packs_child h e = subst ParentFits e h

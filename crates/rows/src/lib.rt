@@ -2,7 +2,7 @@
 // The contracts speak of the ascending lists that the words stand for.
 #![tactic(auto)]
 
-ghost use Rattle.std.specs.Prelude.{◌≡◌, [], map, ◌+◌, ◌<◌};
+ghost use Rattle.std.specs.Prelude.{◌≡◌, [], map, ◌+◌, ◌<◌, length};
 ghost use Rattle.std.specs.Iterator.{YieldsFirst, item_count};
 ghost use Rattle.model.specs.ListLaws.{All, NoRepeats};
 ghost use Rattle.model.specs.Sets.{contains, insert, remove, union, intersection, same_set};
@@ -17,6 +17,7 @@ use std::array;
 #[derive(Clone, Copy)]
 pub struct NodeBits {
     pub words: [u64; 8],
+    pub ghost eight: { length words ≡ 8 },
 }
 
 impl NodeBits {

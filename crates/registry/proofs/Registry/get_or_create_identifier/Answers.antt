@@ -1,0 +1,13 @@
+-- The root that is looked for is the model's root node of these fields.
+use Rattle.registry.proofs.Pack.{unpacked, packed_words}
+use Rattle.registry.proofs.Registry.get_or_create_identifier.Goals as goal
+
+pub find_or_make-requires : goal.find_or_make-requires
+find_or_make-requires c = (
+  packed_words _ _ _ _ c.head.ensures.0 c.value.ensures c.span.ensures c.head.ensures.2,
+  c.head.ensures.1,
+  rw (unpacked _ _ _ _ c.head.ensures.0 c.value.ensures c.span.ensures) tt,
+)
+
+pub returns : goal.returns
+returns c = rw (unpacked _ _ _ _ c.head.ensures.0 c.value.ensures c.span.ensures) at c.find_or_make.ensures
