@@ -1,5 +1,6 @@
 pub mod Noting
 pub mod Filling
+pub mod Fronts
 pub mod Ordering
 pub mod Marking
 pub mod Succeeding
