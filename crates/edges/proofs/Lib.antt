@@ -1,8 +1,8 @@
 pub mod Noting
 pub mod Filling
-pub mod Fronts
 pub mod Ordering
 pub mod Marking
 pub mod Succeeding
 pub mod Graphs
 pub mod Jobs
+pub mod Fronts

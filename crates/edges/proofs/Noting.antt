@@ -63,7 +63,8 @@ pub block_position : (ids : List ℕ) (i : BlockId) → position (λ x. eqb x i.
 unfolding ids_noted
 block_position ids i = ap₂ (λ (k n : ℕ). cond (ltb k n) (Some k) None) (place_position i ids) (sym (ids_count ids 0 (length ids)))
 
-pub among_or_end : (ids : List ℕ) (i : BlockId) → unwrap_or (block_among (ids_noted ids (length ids)) i) (length ids) ≡ place_among (ids_noted ids (length ids)) i
+pub among_or_end : (ids : List ℕ) (i : BlockId)
+    → unwrap_or (block_among (ids_noted ids (length ids)) i) (length ids) ≡ place_among (ids_noted ids (length ids)) i
 unfolding ids_noted
 among_or_end ids i =
     let l = ids_from ids 0 (length ids) in

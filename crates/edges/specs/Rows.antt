@@ -1,5 +1,26 @@
 -- The predecessors of blocks by place, from a job's bytes and what was noted of its blocks.
-use Rattle.std.specs.Prelude.{ℕ, zero, suc, ◌+◌, ◌*◌, ◌≤◌, ◌<◌, ◌≡◌, refl, cond, List, [], ◌∷◌, length, get_or, set, ltb, Option, Some, None}
+use Rattle.std.specs.Prelude.{
+  ℕ,
+  zero,
+  suc,
+  ◌+◌,
+  ◌*◌,
+  ◌≤◌,
+  ◌<◌,
+  ◌≡◌,
+  refl,
+  cond,
+  Option,
+  Some,
+  None,
+  List,
+  [],
+  ◌∷◌,
+  length,
+  get_or,
+  set,
+  ltb,
+}
 use Rattle.std.proofs.Common.{ap}
 use Rattle.std.proofs.lemmas.List.Edits.{sets}
 use Rattle.entries.specs.declared.BlockId.{BlockId}

@@ -1,6 +1,30 @@
 -- The graph that a list of bytes holds: the predecessors of each block by place, the blocks by
 -- ascending id, and the successors of each as bits.
-use Rattle.std.specs.Prelude.{ℕ, ◌+◌, ◌*◌, ◌-◌, ◌/◌, ◌%◌, ◌≤◌, ◌<◌, ◌≡◌, Bool, true, false, not, List, [], ◌∷◌, map, length, get_or, eqb, Option, Some, None}
+use Rattle.std.specs.Prelude.{
+  ℕ,
+  ◌+◌,
+  ◌*◌,
+  ◌-◌,
+  ◌/◌,
+  ◌%◌,
+  ◌≤◌,
+  ◌<◌,
+  ◌≡◌,
+  Bool,
+  true,
+  false,
+  not,
+  Option,
+  Some,
+  None,
+  List,
+  [],
+  ◌∷◌,
+  map,
+  length,
+  get_or,
+  eqb,
+}
 use Rattle.model.specs.Lists.{select, any_of}
 use Rattle.model.specs.Rounds.{places_from}
 use Rattle.model.specs.Propagation.{Graph}
