@@ -8,7 +8,7 @@ ghost use Rattle.model.specs.ReadingBytes.{read_many};
 ghost use Rattle.model.specs.Job.{HD, read_block_id, read_entry, read_path_fields, read_path, read_raw_read, read_header};
 ghost use Rattle.model.specs.Answer.{span_width};
 ghost use Rattle.fields.specs.Answer.{got_value, got_place};
-ghost use Rattle.job.specs.Passing.{passed};
+ghost use Rattle.job.specs.Passing.{passed, PassesMany};
 ghost use Rattle.job.specs.Head.{read_path_head, read_instruction_and_range, read_scope_and_known, read_raw_head, read_block_head};
 ghost use Rattle.job.specs.Answer.{got_header};
 ghost use Rattle.job.specs.Kept.{after_header};
@@ -114,16 +114,33 @@ pub fn entry_at(s: &[u8], at: usize) -> Read<DependencyPathEntry>
     Ok((entry, next))
 }
 
-// Past `count` entries.
-pub fn past_entries(s: &[u8], start: usize, count: u8) -> Result<usize, Refusal>
-    ensures { got_place result ≡ passed (read_many count (read_entry span_width) s.now start) }
+// Past `count` records of one form, each passed by `past`.
+#[tactic(auto, using(crate::proofs::PassingMany::one_passed, crate::proofs::PassingMany::none_passed))]
+fn past_many<F: Fn(usize) -> Result<usize, Refusal>>(
+    start: usize,
+    count: u16,
+    past: F,
+) -> Result<usize, Refusal>
+    requires { F.IsAlwaysCallable past }
+    ensures { PassesMany (F.post past) count start result }
 {
     let mut at = start;
     for _ in 0..count {
-        let (_, next) = entry_at(s, at)?;
-        at = next;
+        at = past(at)?;
     }
     Ok(at)
+}
+
+// Past `count` entries.
+#[tactic(auto, using(crate::proofs::PassingMany::all_passed))]
+pub fn past_entries(s: &[u8], start: usize, count: u8) -> Result<usize, Refusal>
+    ensures { got_place result ≡ passed (read_many count (read_entry span_width) s.now start) }
+{
+    past_many(
+        start,
+        u16::from(count),
+        |at| entry_at(s, at).map(|(_, next)| next),
+    )
 }
 
 #[tactic(auto, unfolding(crate::specs::Head::read_path_head))]
@@ -161,14 +178,11 @@ pub fn past_path(s: &[u8], at: usize, mark: u16) -> Result<usize, Refusal>
 }
 
 // Past `count` paths under one mark.
+#[tactic(auto, using(crate::proofs::PassingMany::all_passed))]
 pub fn past_paths(s: &[u8], start: usize, count: u16, mark: u16) -> Result<usize, Refusal>
     ensures { got_place result ≡ passed (read_many count (read_path span_width mark) s.now start) }
 {
-    let mut at = start;
-    for _ in 0..count {
-        at = past_path(s, at, mark)?;
-    }
-    Ok(at)
+    past_many(start, count, |at| past_path(s, at, mark))
 }
 
 // A raw read's mark and the fields up to the end of its identifier's mutable range.
@@ -226,17 +240,15 @@ fn past_raw_read(s: &[u8], at: usize) -> Result<usize, Refusal>
 }
 
 // Past `count` raw reads.
+#[tactic(auto, using(crate::proofs::PassingMany::all_passed))]
 pub fn past_raw_reads(s: &[u8], start: usize, count: u8) -> Result<usize, Refusal>
     ensures { got_place result ≡ passed (read_many count (read_raw_read span_width) s.now start) }
 {
-    let mut at = start;
-    for _ in 0..count {
-        at = past_raw_read(s, at)?;
-    }
-    Ok(at)
+    past_many(start, u16::from(count), |at| past_raw_read(s, at))
 }
 
 // Past `count` block ids. Any four bytes are an id, so no byte is looked at.
+#[tactic(auto, using(crate::proofs::IdFields::no_ids, crate::proofs::IdFields::ids_got, crate::proofs::IdFields::ids_missing))]
 pub fn past_ids(s: &[u8], at: usize, count: u8) -> Result<usize, Refusal>
     ensures { got_place result ≡ passed (read_many count read_block_id s.now at) }
 {
