@@ -8,15 +8,15 @@ use mathlib.Core.List.{List, [], ◌∷◌}
 use mathlib.Core.Logic.{◌⊎◌, inl, inr}
 use lib.ListN.{length, length-append}
 use lib.Dec.{eqb}
+use Rattle.std.proofs.Common.{Result}
 use Rattle.entries.specs.declared.IdentifierId.{IdentifierId}
+use Rattle.entries.specs.declared.Refusal.{Refusal}
 use Rattle.entries.specs.declared.NodeId.{NodeId}
 use Rattle.entries.specs.declared.DependencyPathEntry.{DependencyPathEntry}
 use Rattle.registry.specs.declared.Node.{Node}
 use Rattle.registry.specs.declared.Node.TheVariants.{Root, Child}
-use Rattle.registry.specs.declared.NodeEntered.{NodeEntered}
-use Rattle.registry.specs.declared.NodeEntered.TheVariants.{At, Full}
 use Rattle.registry.specs.Nodes.{origin_of}
-use Rattle.registry.specs.Words.{stored_node, count_in, registry_of, Held, Arrives}
+use Rattle.registry.specs.Words.{stored_node, count_in, registry_of, Arrives}
 use Rattle.registry.proofs.View.{registry_length, origin_at}
 use Rattle.model.specs.Registry.{
   node_limit,
@@ -63,15 +63,6 @@ use Rattle.model.specs.ReductionLaws.{LeadsBack}
 use Rattle.model.proofs.ReductionLaws.{node_back}
 use Rattle.model.specs.Tests.{decide, never, beq_same, eqb_same, eqb-true, and_first, and_second}
 use Rattle.reduction.specs.Reduces.{ChildAt, leads_back}
-
--- An answer by its case.
-
-pub arrived_at : (want : Reached) (r : NodeEntered) (k : NodeId) (made : ℕ) (ws os : List ℕ) → r ≡ At k made → Arrives want r ws os → Held ws os ×
-    (want ≡ record { registry = registry_of ws; node = k; made = made })
-arrived_at want r k made ws os e a = subst (λ x. Arrives want x ws os) e a
-
-pub arrived_full : (want : Reached) (r : NodeEntered) (ws os : List ℕ) → r ≡ Full → Arrives want r ws os → node_limit < length want.registry
-arrived_full want r ws os e a = subst (λ x. Arrives want x ws os) e a
 
 -- One entry.
 
@@ -172,7 +163,7 @@ module _ (mark : NodeId → DependencyPathEntry → Bool) {ws : List ℕ} {k : N
           let longer = extends_length extends in
           record { inside = omega arith; first = find_extends (is_child_by p e) extends (omega arith) ∙ f }
 
-      pub walk_child : (r : NodeEntered) (us os : List ℕ)
+      pub walk_child : (r : Result (NodeId × ℕ) Refusal) (us os : List ℕ)
           → Arrives (step_from mark (record { registry = registry_of vs; node = q; made = made }) e) r us os → Arrives (again k) r us os
       walk_child r us os a = subst (λ (y : Reached). Arrives y r us os) (ap (λ (y : Reached). step_from mark y e) (sym walked) ∙ sym on) a
 
