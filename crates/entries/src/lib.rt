@@ -20,8 +20,8 @@ pub struct BlockId(pub u32);
 #[derive(Clone, Copy, PartialEq, Eq)]
 pub struct NodeId(pub usize);
 
-// A property: the host's number for a name, or the stored bits of a number. Two are equal where kind
-// and 64 bits are.
+// A property: the host's number for a name, or the stored bits of a number. Two are equal where
+// kind and 64 bits are.
 #[derive(Clone, Copy, PartialEq, Eq)]
 pub enum PropertyLiteral {
     String(u64),
@@ -30,6 +30,7 @@ pub enum PropertyLiteral {
 
 impl PropertyLiteral {
     // From a kind and a value, and back.
+    // Design: no `From<(bool, u64)>`, since a pair does not say what its mark tells.
     pub fn of(number: bool, value: u64) -> PropertyLiteral
         ensures { result ≡ property_of number value }
     {
@@ -43,10 +44,7 @@ impl PropertyLiteral {
     pub fn is_number(self) -> bool
         ensures { result ≡ is_number self }
     {
-        match self {
-            PropertyLiteral::String(_) => false,
-            PropertyLiteral::Number(_) => true,
-        }
+        matches!(self, PropertyLiteral::Number(_))
     }
 
     pub fn value(self) -> u64
@@ -70,6 +68,7 @@ pub struct DependencyPathEntry {
 
 impl DependencyPathEntry {
     // The same property and the same optional mark; the span does not count.
+    // Design: no derived `==`, which would count the span, or would not show that it does not.
     pub fn same(self, other: DependencyPathEntry) -> bool
         ensures { result ≡ same_entry self other }
     {
@@ -82,13 +81,7 @@ impl DependencyPathEntry {
 pub fn are_equal_paths(a: &[DependencyPathEntry], b: &[DependencyPathEntry]) -> bool
     ensures { result ≡ are_equal_paths a.now b.now }
 {
-    let mut equal = a.len() == b.len();
-    let mut i = 0;
-    while equal && i < a.len() {
-        equal = a[i].same(b[i]);
-        i += 1;
-    }
-    equal
+    a.len() == b.len() && a.iter().zip(b).all(|(x, y)| x.same(*y))
 }
 
 // How a position of the dependency tree is reached, and whether a dependency ends there.
@@ -102,6 +95,7 @@ pub enum PropertyAccessType {
 
 impl PropertyAccessType {
     // The kind that is optional or not, and a dependency or not.
+    // Design: no `From<(bool, bool)>`, since a pair does not say which mark is which.
     pub fn of(optional: bool, dependency: bool) -> PropertyAccessType
         ensures { result ≡ access_of optional dependency }
     {

@@ -36,7 +36,8 @@ pub number_first : (bytes : ℕ) (s : List ℕ) (at : ℕ) → number_at (suc by
 unfolding number_at
 number_first bytes s at = refl
 
-pub number_later : (bytes : ℕ) (s : List ℕ) (at k : ℕ) → number_at (suc bytes) s (at + k) ≡ get_or s (at + k) 0 + 256 * number_at bytes s (at + suc k)
+pub number_later : (bytes : ℕ) (s : List ℕ) (at k : ℕ)
+    → number_at (suc bytes) s (at + k) ≡ get_or s (at + k) 0 + 256 * number_at bytes s (at + suc k)
 number_later bytes s at k =
     let next : at + k + 1 ≡ at + suc k = omega arith in
     rw (number_first, next)
