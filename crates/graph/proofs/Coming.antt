@@ -5,27 +5,15 @@ use native.Mathlib.Omega.{arith}
 use native.Mathlib.Decide.{dec_le}
 use native.Mathlib.Numerals.{add-one}
 use mathlib.Core.Bool.{Bool, true, false}
-use mathlib.Core.Path.{◌≡◌, sym, ap, ◌∙◌}
+use mathlib.Core.Path.{refl, ◌≡◌, sym, ap, ◌∙◌}
 use mathlib.Core.List.{List, [], ◌∷◌, map}
 use lib.ListN.{length}
+use Rattle.model.specs.ListLaws.{All}
+use Rattle.model.specs.Tests.{by_cond}
 use Rattle.model.specs.Lists.{select}
 use Rattle.model.specs.Rounds.{places_from}
 use Rattle.rows.specs.Members.{bit}
-use Rattle.graph.specs.Bytes.{
-  size_in,
-  degree_in,
-  predecessor_in,
-  block_of_rank,
-  is_successor,
-  predecessors_from,
-  successors_from,
-  neighbours_from,
-  GraphFits,
-  Next,
-  HoldsBits,
-  NoneBelow,
-  LowestAt,
-}
+use Rattle.graph.specs.Bytes.{size_in, degree_in, predecessor_in, block_of_rank, is_successor, predecessors_from, successors_from, neighbours, GraphFits, Next, HoldsBits, NoneBelow, LowestAt}
 
 -- the places from k to an end
 pub places_more : (k n : ℕ) → k < n → places_from k (n - k) ≡ k ∷ places_from (k + 1) (n - (k + 1))
@@ -88,10 +76,6 @@ module _ {g : List ℕ} {b : ℕ} (fits : GraphFits g) (here : b < size_in g) wh
     | no other ↦ ap (successors_from g b) (omega arith)
   ]
 
-  pub none_past : (backward : Bool) (from : ℕ) → 128 ≤ from → neighbours_from g backward b from ≡ []
-  none_past false from l = let d = fits.degree b here in no_predecessor g b from (omega arith)
-  none_past true from l = no_successor g b from l
-
   -- the word of rank r
   module _ (r w : ℕ) (small : r < 128) (holds : HoldsBits g b (r / 64) w) where
     in_word : (j : ℕ) → r ≤ j → j < r / 64 * 64 + 64 → is_successor g b j ≡ bit w (j % 64)
@@ -117,3 +101,44 @@ module _ {g : List ℕ} {b : ℕ} (fits : GraphFits g) (here : b < size_in g) wh
           within = omega arith;
           rest = same ∙ passed m a (omega arith) lowest.none ∙ successor_here g b (r / 64 * 64 + m) (omega arith) set ∙ rw found;
         }
+
+-- All neighbours of a block.
+
+all_places : (P : ℕ → Type 0) (f : ℕ → ℕ) (k n : ℕ) → ((i : ℕ) → k ≤ i → i < k + n → P (f i)) → All P (map f (places_from k n))
+unfolding places_from
+all_places P f k zero h = tt
+all_places P f k (suc n) h = (h k (omega arith) (omega arith), all_places P f (suc k) n (λ i l m. h i (omega arith) (omega arith)))
+
+all_chosen : (P : ℕ → Type 0) (f : ℕ → ℕ) (test : ℕ → Bool) (k n : ℕ) → ((i : ℕ) → i < k + n → test i ≡ true → P (f i))
+    → All P (map f (select test (places_from k n)))
+unfolding places_from
+all_chosen P f test k zero h = tt
+all_chosen P f test k (suc n) h =
+    let rest = all_chosen P f test (suc k) n (λ i m t. h i (omega arith) t) in
+    by_cond (λ (xs : List ℕ). All P (map f xs)) (test k) (λ t. (h k (omega arith) t, rest)) (λ t. rest)
+
+places_count : (f : ℕ → ℕ) (k n : ℕ) → length (map f (places_from k n)) ≡ n
+unfolding places_from
+places_count f k zero = refl
+places_count f k (suc n) = ap suc (places_count f (suc k) n)
+
+chosen_count : (f : ℕ → ℕ) (test : ℕ → Bool) (k n : ℕ) → length (map f (select test (places_from k n))) ≤ n
+unfolding places_from
+chosen_count f test k zero = omega arith
+chosen_count f test k (suc n) =
+    let rest = chosen_count f test (suc k) n in
+    by_cond (λ (ks : List ℕ). length (map f ks) ≤ suc n) (test k) (λ t. omega arith) (λ t. omega arith)
+
+module _ {g : List ℕ} {b : ℕ} (fits : GraphFits g) (here : b < size_in g) where
+  pub neighbours_inside : (backward : Bool) → All (λ k. k < size_in g) (neighbours g backward b)
+  unfolding predecessors_from successors_from
+  neighbours_inside false = all_places (λ k. k < size_in g) (predecessor_in g b) 0 (degree_in g b - 0) (λ i l m. fits.predecessor b i here (omega arith))
+  neighbours_inside true = all_chosen (λ k. k < size_in g) (block_of_rank g) (is_successor g b) 0 128 (λ i m t. fits.successor b i here (omega arith) t)
+
+  pub neighbours_few : (backward : Bool) → length (neighbours g backward b) ≤ 128
+  unfolding predecessors_from successors_from
+  neighbours_few false =
+      let few = fits.degree b here in
+      let count = places_count (predecessor_in g b) 0 (degree_in g b - 0) in
+      omega arith
+  neighbours_few true = chosen_count (block_of_rank g) (is_successor g b) 0 128

@@ -1,6 +1,27 @@
 -- The work that the lent arrays hold, which neighbours are to be joined, what a join leaves, and
 -- which joins would have no effect.
-use Rattle.std.specs.Prelude.{ℕ, ◌≤◌, ◌<◌, ◌≡◌, Bool, true, false, ◌||◌, not, List, ◌∷◌, map, length, get_or, set, take, eqb}
+use Rattle.std.specs.Prelude.{
+  ℕ,
+  ◌≤◌,
+  ◌<◌,
+  ◌≡◌,
+  Bool,
+  true,
+  false,
+  ◌||◌,
+  not,
+  Result,
+  Ok,
+  Err,
+  List,
+  ◌∷◌,
+  map,
+  length,
+  get_or,
+  set,
+  take,
+  eqb,
+}
 use Rattle.model.specs.Lists.{any_of}
 use Rattle.model.specs.ListLaws.{All, NoRepeats}
 use Rattle.model.specs.Sets.{NodeSet, contains}
@@ -12,8 +33,8 @@ use Rattle.model.specs.Propagation.{Work, set_of, JoiningRule, intersection_of, 
 use Rattle.rows.specs.Rows.{Lent, rows_of}
 use Rattle.registry.specs.Words.{registry_of, Held}
 use Rattle.graph.specs.Bytes.{size_in, neighbours, GraphFits, NeighboursOnce, NeighboursMutual}
-use Rattle.propagation.specs.declared.Progress.{Progress}
-use Rattle.propagation.specs.declared.Progress.TheVariants.{Changed, Full}
+use Rattle.entries.specs.declared.Refusal.{Refusal}
+use Rattle.entries.specs.declared.Refusal.TheVariants.{ManyNodes}
 use Rattle.propagation.specs.declared.Joined.{Joined}
 use Rattle.propagation.specs.Order.{done_before}
 
@@ -105,11 +126,10 @@ pub record JoinedTo (rule : JoiningRule) (g : List ℕ) (backward : Bool) (b : �
   pub idle : r.idle ≡ true → Idle rule g backward o sets' b
 
 -- What a join leaves; or the definition's registry, which has no limit, is beyond the limit.
-pub record Joins (rule : JoiningRule) (g : List ℕ) (backward : Bool) (b : ℕ) (o sets ws : List ℕ) (r : Joined) (sets' ws' os' : List ℕ)
-    : Type 0 where
-  pub full : r.full ≡ true → (changed : Bool)
-      → node_limit < length (join_in rule g backward b (done_before (size_in g) o b) (work_of (size_in g) sets ws changed)).registry
-  pub to : r.full ≡ false → JoinedTo rule g backward b o sets ws r sets' ws' os'
+abbrev pub Joins : JoiningRule → List ℕ → Bool → ℕ → List ℕ → List ℕ → List ℕ → Result Joined Refusal → List ℕ → List ℕ → List ℕ → Type 0
+Joins rule g backward b o sets ws (Ok r) sets' ws' os' = JoinedTo rule g backward b o sets ws r sets' ws' os'
+Joins rule g backward b o sets ws (Err e) sets' ws' os' = (e ≡ ManyNodes) × ((changed : Bool)
+    → node_limit < length (join_in rule g backward b (done_before (size_in g) o b) (work_of (size_in g) sets ws changed)).registry)
 
 -- The dirty marks of a walk's direction and of the other one.
 pub record Flags (rule : JoiningRule) (g : List ℕ) (backward : Bool) (o dirty other sets : List ℕ) : Type 0 where
@@ -127,8 +147,8 @@ pub record StepsTo (rule : JoiningRule) (g : List ℕ) (backward : Bool) (o othe
 
 -- What a step or a walk leaves; or its work has no room. The definition has no limit and goes on to
 -- its end.
-abbrev pub Steps : JoiningRule → List ℕ → Bool → List ℕ → List ℕ → List ℕ → Work → Progress → List ℕ → List ℕ → List ℕ → List ℕ → List ℕ
-    → Type 0
-Steps rule g backward o other sets want (Changed c) dirty' other' sets' ws' os' =
+abbrev pub Steps : JoiningRule → List ℕ → Bool → List ℕ → List ℕ → List ℕ → Work → Result Bool Refusal → List ℕ → List ℕ → List ℕ → List ℕ
+    → List ℕ → Type 0
+Steps rule g backward o other sets want (Ok c) dirty' other' sets' ws' os' =
     StepsTo rule g backward o other sets want c dirty' other' sets' ws' os'
-Steps rule g backward o other sets want Full dirty' other' sets' ws' os' = node_limit < length want.registry
+Steps rule g backward o other sets want (Err e) dirty' other' sets' ws' os' = (e ≡ ManyNodes) × (node_limit < length want.registry)

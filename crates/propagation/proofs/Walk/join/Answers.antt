@@ -5,49 +5,54 @@
 -- set has all that joined it.
 use mathlib.Core.Path.{sym, ◌∙◌}
 use mathlib.Core.Bool.{true}
+use Rattle.std.proofs.lemmas.Result.{err_from_is_err_and}
 use Rattle.propagation.proofs.JoinLaws.{Made, join_members, join_known, joined_nothing, joined_full, joined_set_lem}
-use Rattle.propagation.proofs.join.Goals as goal
+use Rattle.propagation.proofs.Walk.join.Goals as goal
 
-pub reduce_maybe_optional_chains-r-requires : goal.reduce_maybe_optional_chains-r-requires
-reduce_maybe_optional_chains-r-requires c =
+pub reduce_maybe_optional_chains-requires : goal.reduce_maybe_optional_chains-requires
+reduce_maybe_optional_chains-requires c =
+    let w = c.args.self in
     let made : Made _ _ _ _ _ _ _ _ _ _ _ = record {
-      ready = c.requires.0;
-      inside = c.requires.2;
+      ready = record { fits = w.graph.fits; once = w.once; both_ways = w.both_ways; stands = c.requires.1 };
+      inside = c.requires.0;
       own_is = c.row-own.ensures;
       found_is = c.intersection_of_joining-found.ensures;
       all_is = c.union-all.ensures;
     } in
-    (c.requires.0.stands.held, join_members made true, join_known made true c.requires.1)
+    (join_members made true, join_known made true c.requires.2)
 
 pub returns-then-same_set : goal.returns-then-same_set
 returns-then-same_set c =
+    let w = c.args.self in
     joined_nothing (record {
-      ready = c.requires.0;
-      inside = c.requires.2;
+      ready = record { fits = w.graph.fits; once = w.once; both_ways = w.both_ways; stands = c.requires.1 };
+      inside = c.requires.0;
       own_is = c.row-own.ensures;
       found_is = c.intersection_of_joining-found.ensures;
       all_is = c.union-all.ensures;
-    }) (c.requires.1 c.if-later.true) (sym c.same_set.ensures ∙ c.if-same_set.true)
+    }) (c.requires.2 c.if-self.true) (sym c.same_set.ensures ∙ c.if-same_set.true)
 
-pub returns-then-r : goal.returns-then-r
-returns-then-r c =
-    let r = c.reduce_maybe_optional_chains-r in
-    joined_full (record {
-      ready = c.requires.0;
-      inside = c.requires.2;
+pub returns-in_err-set : goal.returns-in_err-set
+returns-in_err-set c =
+    let w = c.args.self in
+    let full = c.in_err-set.ensures in
+    let p = err_from_is_err_and c.from_residual.result c.from_residual.ensures.1 in
+    rw (p.1, p.2) (joined_full (record {
+      ready = record { fits = w.graph.fits; once = w.once; both_ways = w.both_ways; stands = c.requires.1 };
+      inside = c.requires.0;
       own_is = c.row-own.ensures;
       found_is = c.intersection_of_joining-found.ensures;
       all_is = c.union-all.ensures;
-    }) r.result _ _ r.ensures c.if-r.true _
+    }) full.1 full.0 c.args.sets.now c.args.sets.now c.args.sets.now)
 
 pub returns : goal.returns
 returns c =
-    let r = c.reduce_maybe_optional_chains-r in
+    let w = c.args.self in
     joined_set_lem (record {
-      ready = c.requires.0;
-      inside = c.requires.2;
+      ready = record { fits = w.graph.fits; once = w.once; both_ways = w.both_ways; stands = c.requires.1 };
+      inside = c.requires.0;
       own_is = c.row-own.ensures;
       found_is = c.intersection_of_joining-found.ensures;
       all_is = c.union-all.ensures;
-    }) r.result _ _ r.ensures c.if-r.false c.set_row.ensures
+    }) c.in_ok-set.set.words _ _ c.in_ok-set.ensures c.set_row.ensures
     c.same_set-2.result c.same_set-3.result c.same_set-2.ensures c.same_set-3.ensures
