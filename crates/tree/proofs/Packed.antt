@@ -185,7 +185,6 @@ module _ (s : List ℕ) (w step : ℕ) where
       ) e
 
   -- the two keys, as the code has them
-  pub keys_told : (parent here : ℕ) (key other : Key) → parent ≡ parent_in step → key_of key ≡ key_at s (parent_in step) (place_in step) → here ≡ place_in w
-      → key_of other ≡ key_at s parent here
-      → same_key (key_of other) (key_of key) ≡ same_key (key_at s (parent_in step) (place_in w)) (key_at s (parent_in step) (place_in step))
-  keys_told parent here key other p k h o = rw (k, o, p, h)
+  pub keys_told : (parent here : ℕ) (key : Key) → parent ≡ parent_in step → key_of key ≡ key_at s (parent_in step) (place_in step) → here ≡ place_in w
+      → same_key (key_at s parent here) (key_of key) ≡ same_key (key_at s (parent_in step) (place_in w)) (key_at s (parent_in step) (place_in step))
+  keys_told parent here key p k h = rw (k, p, h)

@@ -134,7 +134,7 @@ puts_as {a} {b} {m} e x = subst (λ (l : List ℕ). Puts a b m l) e x
 pub puts_number : {a b : Writer} {n x y : ℕ} → x ≡ y → Puts a b n (number_bytes n x) → Puts a b n (number_bytes n y)
 puts_number {n = n} e = puts_as (ap (number_bytes n) e)
 
-byte_flag : (b : Bool) → bool_byte b ≡ flag b
+pub byte_flag : (b : Bool) → bool_byte b ≡ flag b
 byte_flag false = refl
 byte_flag true = refl
 
@@ -145,6 +145,9 @@ puts_flag written is e same = puts_number (e ∙ ap bool_byte same ∙ byte_flag
 
 pub puts_to : {a b : Writer} {m n : ℕ} {xs ys : List ℕ} → m ≡ n → xs ≡ ys → Puts a b m xs → Puts a b n ys
 puts_to {a} {b} {ys = ys} size e x = subst (λ (k : ℕ). Puts a b k ys) size (puts_as e x)
+
+pub puts_own : {a b : Writer} {n : ℕ} {bytes : List ℕ} → Puts a b n bytes → Puts a b (length bytes) bytes
+puts_own x = let e = x.next in let f = x.writes.ends in puts_to (omega arith) refl x
 
 -- what a writer wrote stands in the buffer that was lent to it
 pub puts_back : {a b : Writer} {n : ℕ} {bytes after : List ℕ} → after ≡ b.out.now → Puts a b n bytes → Writes a.out.now after a.at bytes b.at
