@@ -1,8 +1,9 @@
 use mathlib.Core.Bool.{true}
-use mathlib.Core.Path.{sym, ap, ◌∙◌}
+use mathlib.Core.Path.{ap, ◌∙◌}
 use Rattle.std.proofs.lemmas.Result.{err_from_is_err_and}
 use Rattle.model.specs.Sets.{insert}
 use Rattle.reduction.proofs.Passes.{along_start, along_back, along_full, along_more, node_inside, node_moved}
+use borrow.Author.Rules.{rules}
 use Rattle.reduction.proofs.pass.Goals as goal
 
 pub loop-k-init : goal.loop-k-init
@@ -14,7 +15,7 @@ loop-k-init c =
 pub loop-k-preserved-then-leads_back : goal.loop-k-preserved-then-leads_back
 loop-k-preserved-then-leads_back c =
     along_back c.loop-k.invariant c.in-Some.k _ c.in-Some.ensures.steps c.loop-k.registry.held.sound
-    (sym c.leads_back.ensures ∙ c.if-leads_back.true)
+    (search rules)
 
 pub returns-in_err-q : goal.returns-in_err-q
 returns-in_err-q c =
