@@ -233,6 +233,7 @@ fn note(optional: &mut NodeBits, head: u64, k: NodeId)
 // The registry: its words, and the set of its nodes with an optional entry.
 // Design: an array of one length, and no list of nodes that grows: the stage has no heap, and 512
 // nodes are all that it has room for (fixed memory).
+#[derive(Drop)]
 pub struct Registry {
     pub words: [u64; 1665],
     pub optional: NodeBits,
