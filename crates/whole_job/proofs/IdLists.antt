@@ -1,10 +1,10 @@
 -- Tests over lists of ids and of places: one turn of a loop over the list.
-use Rattle.std.proofs.Common.{ℕ, ◌+◌, ◌<◌, ◌≤◌, ◌≡◌, Bool, true, false, not, List, [], ◌∷◌, length, get_or, drop, refl, sym, ◌∙◌}
+use Rattle.std.proofs.Common.{ℕ, suc, ◌+◌, ◌-◌, ◌<◌, ◌≡◌, Bool, true, false, not, List, [], ◌∷◌, length, get_or, take, drop, refl, sym, ◌∙◌}
 use Rattle.std.specs.Prelude.{◌==◌}
 use Rattle.std.specs.List.{list_any}
 use native.Mathlib.Numerals.{add-one}
-use lib.ListN.{drop_of_length-le}
 use lib.Seq.{drop-cons}
+use Rattle.std.proofs.lemmas.List.{take_rest}
 use Rattle.model.specs.Lists.{any_of}
 use Rattle.model.specs.Tests.{decide, eqb-true, eqb-false, eqb_equal, eqb_apart}
 use Rattle.model.specs.Job.{contains_id, repeats, block_id}
@@ -30,20 +30,20 @@ unknown_is known [] = refl
 unknown_is known (x ∷ ids) = rw (found_is known x, unknown_is known ids)
 
 module _ (xs : List ℕ) (i : ℕ) where
-  pub repeats_none : length xs ≤ i → repeats (block_ids (drop i xs)) ≡ false
-  repeats_none h = rw (drop_of_length-le xs h)
+  -- `contains` of the ids behind this one
+  abbrev found_behind : Bool
+  found_behind = found_in (take (length xs - (i + 1)) (drop (i + 1) xs)) (get_or xs i 0)
 
-  pub repeats_here : i < length xs → found_in (drop (i + 1) xs) (get_or xs i 0) ≡ true → repeats (block_ids (drop i xs)) ≡ true
-  repeats_here h e = simp (drop-cons xs i 0, simp add-one at (sym (found_is (drop (i + 1) xs) (get_or xs i 0)) ∙ e))
+  behind : {b : Bool} → found_behind ≡ b → contains_id (block_ids (drop (suc i) xs)) (block_id (get_or xs i 0)) ≡ b
+  behind e = rw (← found_is (drop (suc i) xs) (get_or xs i 0)) (simp (take_rest, add-one) at e)
 
-  pub repeats_next : i < length xs → found_in (drop (i + 1) xs) (get_or xs i 0) ≡ false
-      → repeats (block_ids (drop i xs)) ≡ repeats (block_ids (drop (i + 1) xs))
-  repeats_next h e = simp (add-one, drop-cons xs i 0, simp add-one at (sym (found_is (drop (i + 1) xs) (get_or xs i 0)) ∙ e))
+  pub repeats_here : i < length xs → found_behind ≡ true → repeats (block_ids (drop i xs)) ≡ true
+  repeats_here h e = rw (drop-cons xs i 0, behind e)
+
+  pub repeats_next : i < length xs → found_behind ≡ false → repeats (block_ids (drop i xs)) ≡ repeats (block_ids (drop (i + 1) xs))
+  repeats_next h e = rw (add-one, drop-cons xs i 0, behind e)
 
   -- some element passes a test
-  pub any_none : (p : ℕ → Bool) → length xs ≤ i → any_of p (drop i xs) ≡ false
-  any_none p h = rw (drop_of_length-le xs h)
-
   pub any_here : (p : ℕ → Bool) → i < length xs → p (get_or xs i 0) ≡ true → any_of p (drop i xs) ≡ true
   any_here p h e = rw (drop-cons xs i 0, e)
 

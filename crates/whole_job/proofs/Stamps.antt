@@ -1,13 +1,12 @@
 -- Where ids are led to blocks, each to a block of its own, none stands twice, since equal ids are
 -- led to one block. Where the blocks have the ids that led to them, each id is known.
 use Prim.Native.Nat.{ℕ, zero, suc, ◌+◌, ◌-◌, ◌≤◌, ◌<◌}
-use native.Mathlib.Numerals.{add-one}
 use native.Mathlib.Omega.{arith}
 use mathlib.Core.Path.{◌≡◌, refl, sym, ap, ◌∙◌}
 use mathlib.Core.Bool.{Bool, true, false, cond}
 use mathlib.Core.List.{List, [], ◌∷◌}
 use lib.ListN.{length, get_or, set, drop, length-set, drop_of_length-le}
-use lib.Seq.{drop-cons, get_or-set_same, get_or-set_other}
+use lib.Seq.{get_or-set_same, get_or-set_other}
 use lib.Dec.{eqb, ltb}
 use Rattle.std.specs.Prelude.{Option}
 use Rattle.std.specs.Option.{is_some}
@@ -21,7 +20,7 @@ use Rattle.job.specs.Passing.{notes, note_value}
 use Rattle.job.specs.Kept.{block_ids}
 use Rattle.whole_job.specs.Ids.{any_unknown, repeats_at, any_unknown_at, repeated_in, unknown_in}
 use Rattle.whole_job.specs.Stamps.{led_to, Stamped, apart}
-use Rattle.job.proofs.Noting.{one_more, none_left}
+use Rattle.job.proofs.Noting.{one_more}
 
 pub stamped_long : {k n stamp : ℕ} {stamps after : List ℕ} → Stamped k n stamp stamps after → length after ≡ length stamps
 stamped_long {k} {n} {stamp} {stamps} x = ap length x.stamped ∙ length-set stamps k stamp
@@ -34,11 +33,7 @@ module _ (place : ℕ → ℕ) (n stamp : ℕ) where
       rw (ltb_less (place id) n x.there, eqb_apart (get_or stamps (place id) 0) stamp x.new)
       (ap (λ (l : List ℕ). apart place n stamp l ids) (sym x.stamped))
 
-  -- one turn of a loop over a list of ids, and its end
-  pub apart_next : (ids : List ℕ) (k : ℕ) {stamps after : List ℕ} → k < length ids → Stamped (place (get_or ids k 0)) n stamp stamps after
-      → apart place n stamp stamps (drop k ids) ≡ apart place n stamp after (drop (k + 1) ids)
-  apart_next ids k l x = rw (add-one, drop-cons ids k 0) (apart_more (get_or ids k 0) (drop (suc k) ids) x)
-
+  -- the end of a loop over a list of ids
   pub apart_end : (ids : List ℕ) (k : ℕ) (stamps : List ℕ) → length ids ≤ k → apart place n stamp stamps (drop k ids) ≡ true
   apart_end ids k stamps h = rw (drop_of_length-le ids h)
 
@@ -50,9 +45,6 @@ module _ (place : ℕ → ℕ) (n stamp : ℕ) where
     field_next l {id} {next} {stamps} e x =
         ap (apart place n stamp stamps) (one_more (read_number 4) s note_value l e)
         ∙ apart_more id (notes note_value (count - (i + 1)) (read_number 4) s next) x
-
-    pub field_end : (stamps : List ℕ) → count ≤ i → apart place n stamp stamps (notes note_value (count - i) (read_number 4) s at) ≡ true
-    field_end stamps h = ap (apart place n stamp stamps) (none_left (read_number 4) s note_value at h)
 
   -- the first id, and the others
   apart_first : (stamps : List ℕ) (id : ℕ) (ids : List ℕ) → apart place n stamp stamps (id ∷ ids) ≡ true

@@ -71,6 +71,7 @@ impl<'a> Stamps<'a> {
     }
 
     // The same from the predecessors of the block at a place.
+    #[tactic(auto, unfolding(crate::specs::Ids::predecessors_at))]
     fn predecessors_apart(&mut self, s: &[u8], at: usize, stamp: u8) -> bool
         ensures index { self.new.index ≡ self.old.index }
         ensures apart { result ≡ true → Apart self.old.index.ids.now self.old.index.bytes stamp

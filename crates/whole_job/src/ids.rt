@@ -16,6 +16,7 @@ use entries::{BlockId, Refusal};
 use job::JobHead;
 
 // Whether an id stands twice.
+#[tactic(auto, using(crate::proofs::IdLists::repeats_here, crate::proofs::IdLists::repeats_next))]
 fn repeat_in(ids: &[u32]) -> bool
     ensures { result ≡ repeats (block_ids ids.now) }
 {
@@ -41,9 +42,7 @@ fn ids_into(s: &[u8], start: usize, count: u8, out: &mut [u32; 64])
 {
     let mut at = start;
     for i in 0..count {
-        let Ok((id, next)) = fields::number_at::<u32>(s, at) else {
-            return;
-        };
+        let (id, next) = fields::number_at::<u32>(s, at).unwrap();
         out[usize::from(i)] = id;
         at = next;
     }
@@ -54,9 +53,7 @@ fn predecessors_at<'a>(s: &[u8], at: usize, out: &'a mut [u32; 64]) -> &'a [u32]
     requires { IsRead (read_block span_width s.now at) }
     ensures { result.now ≡ predecessors_at s.now at }
 {
-    let Ok((head, ids_at)) = job::block_head_at(s, at) else {
-        return &[];
-    };
+    let (head, ids_at) = job::block_head_at(s, at).unwrap();
     ids_into(s, ids_at, head.predecessors, out);
     &out[..usize::from(head.predecessors)]
 }
@@ -96,6 +93,7 @@ fn unknown(s: &[u8], ids: &[u32], places: &[usize], scope: BlockId) -> bool
 
 // The answer for a job whose records were read, by the ids and the places of its blocks. Ids are
 // compared with each other only where an index of them does not rule both refusals out.
+#[tactic(auto, unfolding(crate::specs::Ids::checked_by))]
 pub fn checked_by(
     s: &[u8],
     ids: &[u32],

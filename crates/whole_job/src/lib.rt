@@ -61,6 +61,7 @@ fn note_blocks(
 
 // The records behind the header, as far as refusal 6, the ids and the places of the blocks being
 // noted.
+#[tactic(auto, unfolding(job::specs::Kept::block_notes))]
 fn records_at(
     s: &[u8],
     at: usize,
