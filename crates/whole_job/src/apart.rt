@@ -8,7 +8,7 @@ ghost use Rattle.model.specs.Job.{repeats};
 ghost use Rattle.job.specs.Passing.{notes, note_value};
 ghost use Rattle.job.specs.Kept.{block_ids};
 ghost use Rattle.whole_job.specs.Ids.{predecessors_at, repeats_at, any_unknown_at, repeated_in, unknown_in};
-ghost use Rattle.whole_job.specs.Stamps.{led_to, Stamped, Apart};
+ghost use Rattle.whole_job.specs.Stamps.{Turned, AllTurned};
 
 use entries::BlockId;
 use id_index::IdIndex;
@@ -23,9 +23,7 @@ struct Stamps<'a> {
 impl<'a> Stamps<'a> {
     // Whether the index leads from an id to a block that has not this stamp; the block has it then.
     fn stamp_block(&mut self, id: u32, stamp: u8) -> bool
-        ensures index { self.new.index ≡ self.old.index }
-        ensures stamped { result ≡ true → Stamped (led_to self.old.index.ids.now self.old.index.bytes id)
-            (length self.old.index.ids.now) stamp self.old.stamps self.new.stamps }
+        ensures { result ≡ true → Turned self.old self.new stamp id }
     {
         let Some(k) = self.index.place_of(id) else {
             return false;
@@ -40,8 +38,8 @@ impl<'a> Stamps<'a> {
     // Whether the index leads from each block's id to a block of its own that has not this stamp
     // before.
     fn ids_apart(&mut self, stamp: u8) -> bool
-        ensures index { self.new.index ≡ self.old.index }
-        ensures once { result ≡ true → repeats (block_ids self.old.index.ids.now) ≡ false }
+        ensures { result ≡ true → (self.new.index ≡ self.old.index)
+            × (repeats (block_ids self.old.index.ids.now) ≡ false) }
     {
         for id in self.index.ids {
             if !self.stamp_block(*id, stamp) {
@@ -52,10 +50,11 @@ impl<'a> Stamps<'a> {
     }
 
     // The same from each of `count` ids, read from a place on.
+    // Design: a loop beside that of `ids_apart`, since one over both would need an iterator of the
+    // ids in bytes, which is longer than this loop.
     fn fields_apart(&mut self, s: &[u8], start: usize, count: u8, stamp: u8) -> bool
-        ensures index { self.new.index ≡ self.old.index }
-        ensures apart { result ≡ true → Apart self.old.index.ids.now self.old.index.bytes stamp
-            (notes note_value count (read_number 4) s.now start) self.old.stamps self.new.stamps }
+        ensures { result ≡ true → AllTurned self.old self.new stamp
+            (notes note_value count (read_number 4) s.now start) }
     {
         let mut at = start;
         for _ in 0..count {
@@ -73,9 +72,7 @@ impl<'a> Stamps<'a> {
     // The same from the predecessors of the block at a place.
     #[tactic(auto, unfolding(crate::specs::Ids::predecessors_at))]
     fn predecessors_apart(&mut self, s: &[u8], at: usize, stamp: u8) -> bool
-        ensures index { self.new.index ≡ self.old.index }
-        ensures apart { result ≡ true → Apart self.old.index.ids.now self.old.index.bytes stamp
-            (predecessors_at s.now at) self.old.stamps self.new.stamps }
+        ensures { result ≡ true → AllTurned self.old self.new stamp (predecessors_at s.now at) }
     {
         let Ok((head, ids_at)) = job::block_head_at(s, at) else {
             return false;
@@ -87,8 +84,7 @@ impl<'a> Stamps<'a> {
     // number, so that those of the blocks before it need not be cleared.
     fn all_apart(&mut self, s: &[u8], places: &[usize]) -> bool
         requires { length places.now ≤ 128 }
-        ensures index { self.new.index ≡ self.old.index }
-        ensures apart { result ≡ true → (any_of (repeats_at s.now) places.now ≡ false)
+        ensures { result ≡ true → (any_of (repeats_at s.now) places.now ≡ false)
             × (any_of (any_unknown_at s.now self.old.index.ids.now) places.now ≡ false) }
     {
         for (b, at) in places.iter().enumerate() {
@@ -112,8 +108,9 @@ pub fn neither_applies(s: &[u8], ids: &[u32], places: &[usize], scope: BlockId) 
         index: IdIndex::new(ids),
         stamps: [255; 128],
     };
-    if !stamps.ids_apart(128) || !stamps.all_apart(s, places) {
+    if stamps.index.place_of(scope.0).is_none() {
         return false;
     }
-    stamps.index.place_of(scope.0).is_some()
+    // No block has the number 128, so that this stamp is none of theirs.
+    stamps.ids_apart(128) && stamps.all_apart(s, places)
 }

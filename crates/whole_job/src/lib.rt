@@ -33,8 +33,8 @@ fn block_at(s: &[u8], at: usize) -> Read<BlockId>
 }
 
 // Past `count` blocks, whose ids and places are noted.
-// Design: two arrays and no struct of both, since those who are given them read ids or places
-// alone; arrays of 128, since memory is fixed.
+// Design: arrays of 128, since memory is fixed; and no struct of both, which would be taken apart
+// again: `assumed` reads the places alone, `sheet_bytes` the ids alone.
 fn note_blocks(
     s: &[u8],
     start: usize,
