@@ -9,12 +9,12 @@ ghost use Rattle.model.specs.Lists.{concat_map};
 ghost use Rattle.model.specs.Answer.{parent_number, origin_bytes, node_bytes, row_bytes, sheet_head, least_buffer, span_width};
 ghost use Rattle.rows.specs.Rows.{Lent, row_of};
 ghost use Rattle.registry.specs.Nodes.{origin_of};
-ghost use Rattle.registry.specs.Words.{count_in, registry_of, HoldsRegistry};
+ghost use Rattle.registry.specs.Words.{count_in, registry_of};
 ghost use Rattle.writer.specs.Writes.{HasRoom, Puts};
 ghost use Rattle.sheet_bytes.specs.Sheet.{root_of, set_record, set_records, WritesSheet};
 
 use entries::{BlockId, IdentifierId, NodeId};
-use registry::Node;
+use registry::{Node, Registry};
 use writer::{Ran, Writer};
 
 // "SH", "NO" and "SE", the marks of a sheet, a node and a set.
@@ -32,13 +32,13 @@ pub struct PathRoot {
 }
 
 // What node k's path has of its root, which is reached from parent to parent.
-fn root_of(ws: &[u64; 1665], k: NodeId) -> PathRoot
-    requires { HoldsRegistry ws.now × (k.0 < count_in ws.now) }
-    ensures { result ≡ root_of (full_path_of (registry_of ws.now) k) }
+fn root_of(registry: &Registry, k: NodeId) -> PathRoot
+    requires { k.0 < count_in registry.now.words }
+    ensures { result ≡ root_of (full_path_of (registry_of registry.now.words) k) }
 {
     let mut at = k;
     loop {
-        match registry::load(ws, at) {
+        match registry.load(at) {
             Node::Root(identifier, reactive, _) => {
                 return PathRoot {
                     identifier,
@@ -75,12 +75,12 @@ fn put_origin(w: &mut Writer, n: Node)
 
 // A node: its parent, its root's identifier, the entry by which it is a child, its span and its
 // root's reactive mark.
-fn put_node(ws: &[u64; 1665], k: NodeId, w: &mut Writer)
-    requires { HoldsRegistry ws.now × (k.0 < count_in ws.now) × HasRoom w.old 23 }
-    ensures { Puts w.old w.new 23 (node_bytes span_width (node_at (registry_of ws.now) k.0)) }
+fn put_node(registry: &Registry, k: NodeId, w: &mut Writer)
+    requires { (k.0 < count_in registry.now.words) × HasRoom w.old 23 }
+    ensures { Puts w.old w.new 23 (node_bytes span_width (node_at (registry_of registry.now.words) k.0)) }
 {
-    let n = registry::load(ws, k);
-    let root = root_of(ws, k);
+    let n = registry.load(k);
+    let root = root_of(registry, k);
     w.number(2, NO);
     w.number(2, parent_number(n));
     w.number(4, u64::from(root.identifier.0));
@@ -90,12 +90,12 @@ fn put_node(ws: &[u64; 1665], k: NodeId, w: &mut Writer)
 }
 
 // All nodes, in the order of their making.
-fn put_nodes(ws: &[u64; 1665], w: &mut Writer)
-    requires { HoldsRegistry ws.now × HasRoom w.old (23 * 512) }
-    ensures { Puts w.old w.new (23 * count_in ws.now) (concat_map (node_bytes span_width) (registry_of ws.now)) }
+fn put_nodes(registry: &Registry, w: &mut Writer)
+    requires { HasRoom w.old (23 * 512) }
+    ensures { Puts w.old w.new (23 * count_in registry.now.words) (concat_map (node_bytes span_width) (registry_of registry.now.words)) }
 {
-    for k in 0..registry::count(ws) {
-        put_node(ws, NodeId(k), w);
+    for k in 0..registry.count() {
+        put_node(registry, NodeId(k), w);
     }
 }
 
@@ -143,7 +143,7 @@ fn put_head(w: &mut Writer, nodes: usize, blocks: usize, run: Ran, nodes_before:
 
 // The whole sheet, from the buffer's start on.
 pub fn put_sheet(
-    ws: &[u64; 1665],
+    registry: &Registry,
     sets: &[u64],
     ids: &[u32; 128],
     blocks: usize,
@@ -151,13 +151,13 @@ pub fn put_sheet(
     nodes_before: usize,
     out: &mut [u8],
 ) -> usize
-    requires { HoldsRegistry ws.now × (blocks ≤ 128) × Lent blocks sets.now × (least_buffer ≤ length out.old) }
-    ensures { WritesSheet ws.now sets.now ids.now blocks run.rounds run.settled nodes_before
+    requires { (blocks ≤ 128) × Lent blocks sets.now × (least_buffer ≤ length out.old) }
+    ensures { WritesSheet registry.now.words sets.now ids.now blocks run.rounds run.settled nodes_before
         out.old out.new result }
 {
     let mut w = Writer { out, at: 0 };
-    put_head(&mut w, registry::count(ws), blocks, run, nodes_before);
-    put_nodes(ws, &mut w);
+    put_head(&mut w, registry.count(), blocks, run, nodes_before);
+    put_nodes(registry, &mut w);
     put_blocks(sets, ids, blocks, &mut w);
     w.at
 }

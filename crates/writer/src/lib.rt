@@ -2,18 +2,11 @@
 // each behind the one before.
 #![tactic(auto)]
 
-ghost use Rattle.std.specs.Prelude.{◌≡◌, ◌<◌, length};
-ghost use Rattle.model.specs.Answer.{number_bytes, flag, step_bytes, entry_bytes, span_width};
+ghost use Rattle.std.specs.Prelude.{length};
+ghost use Rattle.model.specs.Answer.{number_bytes, step_bytes, entry_bytes, span_width};
 ghost use Rattle.writer.specs.Writes.{HasRoom, Puts, path_head_bytes, rounds_bytes};
 
 use entries::{DependencyPathEntry, IdentifierId};
-
-// The number of a yes or no.
-pub fn flag(b: bool) -> u64
-    ensures { (result ≡ flag b) × (result < 2) }
-{
-    if b { 1 } else { 0 }
-}
 
 // How many rounds were run, and whether the last changed nothing.
 #[derive(Clone, Copy)]
