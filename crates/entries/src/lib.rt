@@ -78,6 +78,7 @@ impl DependencyPathEntry {
 
 // `are_equal_paths` of the Rust: as many entries, and the same property and the same optional mark
 // at each place; spans do not count.
+#[tactic(auto, using(crate::proofs::EqualPaths::unequal))]
 pub fn are_equal_paths(a: &[DependencyPathEntry], b: &[DependencyPathEntry]) -> bool
     ensures { result ≡ are_equal_paths a.now b.now }
 {
@@ -107,6 +108,8 @@ impl PropertyAccessType {
         }
     }
 
+    // Design: `is_optional` and `is_dependency` test two marks, each a function of the Rust; one
+    // with the mark as a parameter would be no shorter.
     pub fn is_optional(self) -> bool
         ensures { result ≡ is_optional_access self }
     {

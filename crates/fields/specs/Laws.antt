@@ -28,19 +28,55 @@ number_missing (suc bytes) s at h =
     (λ t. rw t)
 
 -- the bytes of a number one after the other
-pub number_none : (s : List ℕ) (at : ℕ) → number_at 0 s at ≡ 0
+number_none : (s : List ℕ) (at : ℕ) → number_at 0 s at ≡ 0
 unfolding number_at
 number_none s at = refl
 
-pub number_first : (bytes : ℕ) (s : List ℕ) (at : ℕ) → number_at (suc bytes) s at ≡ get_or s at 0 + 256 * number_at bytes s (at + 1)
+number_first : (bytes : ℕ) (s : List ℕ) (at : ℕ) → number_at (suc bytes) s at ≡ get_or s at 0 + 256 * number_at bytes s (at + 1)
 unfolding number_at
 number_first bytes s at = refl
 
-pub number_later : (bytes : ℕ) (s : List ℕ) (at k : ℕ)
+number_later : (bytes : ℕ) (s : List ℕ) (at k : ℕ)
     → number_at (suc bytes) s (at + k) ≡ get_or s (at + k) 0 + 256 * number_at bytes s (at + suc k)
 number_later bytes s at k =
     let next : at + k + 1 ≡ at + suc k = omega arith in
     rw (number_first, next)
+
+pub one_byte : (s : List ℕ) (at : ℕ) → number_at 1 s at ≡ get_or s at 0
+one_byte s at = omega (arith, number_first 0 s at, number_none s (at + 1))
+
+pub two_bytes : (s : List ℕ) (at : ℕ) → number_at 2 s at ≡ get_or s at 0 + 256 * get_or s (at + 1) 0
+two_bytes s at = omega (arith, number_first 1 s at, number_later 0 s at 1, number_none s (at + 2))
+
+pub four_bytes : (s : List ℕ) (at : ℕ)
+    → number_at 4 s at ≡
+    get_or s at 0 + 256 * get_or s (at + 1) 0 + 65536 * get_or s (at + 2) 0 + 16777216 * get_or s (at + 3) 0
+four_bytes s at = omega (
+  arith,
+  number_first 3 s at,
+  number_later 2 s at 1,
+  number_later 1 s at 2,
+  number_later 0 s at 3,
+  number_none s (at + 4),
+)
+
+pub eight_bytes : (s : List ℕ) (at : ℕ)
+    → number_at 8 s at ≡
+    get_or s at 0 + 256 * get_or s (at + 1) 0 + 65536 * get_or s (at + 2) 0 + 16777216 * get_or s (at + 3) 0
+    + 4294967296 * get_or s (at + 4) 0 + 1099511627776 * get_or s (at + 5) 0
+    + 281474976710656 * get_or s (at + 6) 0 + 72057594037927936 * get_or s (at + 7) 0
+eight_bytes s at = omega (
+  arith,
+  number_first 7 s at,
+  number_later 6 s at 1,
+  number_later 5 s at 2,
+  number_later 4 s at 3,
+  number_later 3 s at 4,
+  number_later 2 s at 5,
+  number_later 1 s at 6,
+  number_later 0 s at 7,
+  number_none s (at + 8),
+)
 
 -- a number is at most another where the comparison of the two says so
 le_cmp : (a b : ℕ) → partial_le (λ x y. Some (nat_cmp x y)) a b ≡ leb a b

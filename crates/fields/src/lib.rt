@@ -12,6 +12,8 @@ ghost use Rattle.fields.specs.Answer.{got_value, got_place};
 use entries::Refusal;
 
 // A value and the place after it, or the refusal.
+// Design: bytes and place stay two parameters. The definitions read at both (`ByteReader`), and the
+// later steps read at places that were noted, so a struct of both would be made anew at each call.
 pub type Read<T> = Result<(T, usize), Refusal>;
 
 // The unsigned numbers of a job. Each says how many bytes it has there, and what they make.
@@ -39,6 +41,8 @@ pub trait Number: Copy + PartialOrd {
     ghost reads_within: { ReadsWithin Self.partial_cmp read within };
 }
 
+// Design: four impls that differ in a type and in numbers, since `rt ci` refuses an impl that a
+// macro writes.
 impl Number for u8 {
     ghost BYTES = { 1 };
 
@@ -56,6 +60,7 @@ impl Number for u8 {
 
     ghost reads_within = { number_within (read_number 1) };
 
+    #[tactic(auto, using(crate::specs::Laws::one_byte))]
     fn from_bytes(s: &[u8], at: usize) -> u8 {
         s[at]
     }
@@ -78,6 +83,7 @@ impl Number for u16 {
 
     ghost reads_within = { number_within (read_number 2) };
 
+    #[tactic(auto, using(crate::specs::Laws::two_bytes))]
     fn from_bytes(s: &[u8], at: usize) -> u16 {
         u16::from_le_bytes([s[at], s[at + 1]])
     }
@@ -100,6 +106,7 @@ impl Number for u32 {
 
     ghost reads_within = { number_within (read_number 4) };
 
+    #[tactic(auto, using(crate::specs::Laws::four_bytes))]
     fn from_bytes(s: &[u8], at: usize) -> u32 {
         u32::from_le_bytes([s[at], s[at + 1], s[at + 2], s[at + 3]])
     }
@@ -122,6 +129,7 @@ impl Number for u64 {
 
     ghost reads_within = { number_within (read_number 8) };
 
+    #[tactic(auto, using(crate::specs::Laws::eight_bytes))]
     fn from_bytes(s: &[u8], at: usize) -> u64 {
         u64::from_le_bytes([
             s[at],

@@ -1,7 +1,0 @@
--- The bytes one after the other: each adds its own part to the number.
-use Rattle.std.proofs.Common.{◌+◌, arith}
-use Rattle.fields.specs.Laws.{number_none, number_first, number_later}
-use Rattle.fields.proofs.U16Number.from_bytes.Goals as goal
-
-pub returns : goal.returns
-returns c = omega (arith, c.from_le_bytes.ensures, number_first 1 c.args.s.now c.args.at, number_later 0 c.args.s.now c.args.at 1, number_none c.args.s.now (c.args.at + 2))
