@@ -29,13 +29,13 @@ pub record Apart (known index : List ℕ) (stamp : ℕ) (ids before after : List
   pub led : apart (led_to known index) (length known) stamp before ids ≡ true
   pub long : length after ≡ length before
 
--- What a turn over these stamps says of an id where it answers true: the index stays, and the block
--- to which it leads from the id has the stamp now, and had it not before.
-pub record Turned (before after : Stamps) (stamp id : ℕ) : Type 0 where
+-- The index stays, and the block to which it leads from an id has the stamp now, and had it not
+-- before.
+pub record BlockStamped (before after : Stamps) (stamp id : ℕ) : Type 0 where
   pub index : after.index ≡ before.index
   pub block : Stamped (led_to before.index.ids.now before.index.bytes id) (length before.index.ids.now) stamp before.stamps after.stamps
 
 -- The same of several ids.
-pub record AllTurned (before after : Stamps) (stamp : ℕ) (ids : List ℕ) : Type 0 where
+pub record BlocksStamped (before after : Stamps) (stamp : ℕ) (ids : List ℕ) : Type 0 where
   pub index : after.index ≡ before.index
   pub blocks : Apart before.index.ids.now before.index.bytes stamp ids before.stamps after.stamps

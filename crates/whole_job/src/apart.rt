@@ -8,7 +8,7 @@ ghost use Rattle.model.specs.Job.{repeats};
 ghost use Rattle.job.specs.Passing.{notes, note_value};
 ghost use Rattle.job.specs.Kept.{block_ids};
 ghost use Rattle.whole_job.specs.Ids.{predecessors_at, repeats_at, any_unknown_at, repeated_in, unknown_in};
-ghost use Rattle.whole_job.specs.Stamps.{Turned, AllTurned};
+ghost use Rattle.whole_job.specs.Stamps.{BlockStamped, BlocksStamped};
 
 use entries::BlockId;
 use id_index::IdIndex;
@@ -23,7 +23,7 @@ struct Stamps<'a> {
 impl<'a> Stamps<'a> {
     // Whether the index leads from an id to a block that has not this stamp; the block has it then.
     fn stamp_block(&mut self, id: u32, stamp: u8) -> bool
-        ensures { result ≡ true → Turned self.old self.new stamp id }
+        ensures { result ≡ true → BlockStamped self.old self.new stamp id }
     {
         let Some(k) = self.index.place_of(id) else {
             return false;
@@ -53,7 +53,7 @@ impl<'a> Stamps<'a> {
     // Design: a loop beside that of `ids_apart`, since one over both would need an iterator of the
     // ids in bytes, which is longer than this loop.
     fn fields_apart(&mut self, s: &[u8], start: usize, count: u8, stamp: u8) -> bool
-        ensures { result ≡ true → AllTurned self.old self.new stamp
+        ensures { result ≡ true → BlocksStamped self.old self.new stamp
             (notes note_value count (read_number 4) s.now start) }
     {
         let mut at = start;
@@ -72,7 +72,7 @@ impl<'a> Stamps<'a> {
     // The same from the predecessors of the block at a place.
     #[tactic(auto, unfolding(crate::specs::Ids::predecessors_at))]
     fn predecessors_apart(&mut self, s: &[u8], at: usize, stamp: u8) -> bool
-        ensures { result ≡ true → AllTurned self.old self.new stamp (predecessors_at s.now at) }
+        ensures { result ≡ true → BlocksStamped self.old self.new stamp (predecessors_at s.now at) }
     {
         let Ok((head, ids_at)) = job::block_head_at(s, at) else {
             return false;
