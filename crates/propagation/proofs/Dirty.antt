@@ -1,7 +1,7 @@
 -- Blocks marked dirty, one after the other, and what holds of the blocks that are not.
 use Prim.Native.Nat.{ℕ, ◌<◌}
 use native.Mathlib.Omega.{arith}
-use mathlib.Core.Path.{◌≡◌, refl, sym, ap, ◌∙◌}
+use mathlib.Core.Path.{◌≡◌, refl, sym, ap, subst, ◌∙◌}
 use mathlib.Core.Logic.{◌≢◌}
 use mathlib.Core.Bool.{Bool, ◌||◌}
 use mathlib.Core.List.{List, [], ◌∷◌}
@@ -31,6 +31,10 @@ pub marking_start : (bs dirty : List ℕ) → length dirty ≡ 128 → All (λ k
 marking_start bs dirty long inside = record { long = long; others = λ k e. e; rest = λ k e. refl; inside = inside }
 
 module _ {bs before dirty : List ℕ} where
+  -- the same with the blocks left in another form
+  pub marking_by : {ks js : List ℕ} → ks ≡ js → Marking bs before dirty ks → Marking bs before dirty js
+  marking_by e m = subst (Marking bs before dirty) e m
+
   pub marking_more : {k : ℕ} {ks : List ℕ} → Marking bs before dirty (k ∷ ks) → Marking bs before (set dirty k 1) ks
   marking_more {k} {ks} m =
       let long = m.long in

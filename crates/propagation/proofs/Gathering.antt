@@ -74,6 +74,11 @@ module _ (joining : Joining) {g : List ℕ} (fits : GraphFits g) (backward : Boo
         rest = sym (rule_is joining (done_before (size_in g) o b) (neighbours g backward b));
       }
 
+-- the same with the neighbours to come in another form
+pub gathering_by : {joining : Joining} {g : List ℕ} {backward : Bool} {b : ℕ} {o places : List ℕ} {count : ℕ} {ks js : List ℕ} → ks ≡ js
+    → Gathering joining g backward b o places count ks → Gathering joining g backward b o places count js
+gathering_by {joining} {g} {backward} {b} {o} {places} {count} e a = subst (Gathering joining g backward b o places count) e a
+
 module _ (joining : Joining) (g : List ℕ) (backward : Bool) (b : ℕ) (o : List ℕ) (distinct : NeighboursOnce g) (here : b < size_in g) where
   gathers : (m : ℕ) (ps : List ℕ) → length ps ≡ 128 → take m ps ≡ neighbours_to_join (rule_of joining) g backward b o → m ≤ 128
       → All (λ k. k < size_in g) (take m ps) → Gathers (neighbours_to_join (rule_of joining) g backward b o) (size_in g) m ps

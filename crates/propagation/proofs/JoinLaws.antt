@@ -24,10 +24,12 @@ use Rattle.rows.proofs.Members.{same_self, same_lists}
 use Rattle.registry.specs.Words.{registry_of, Held}
 use Rattle.reduction.specs.Reduces.{KnownReduced}
 use Rattle.graph.specs.Bytes.{size_in}
+use Rattle.propagation.specs.declared.Walk.{Walk}
+use Rattle.propagation.specs.Rules.{rule_of}
 use Rattle.propagation.specs.Order.{done_before}
-use Rattle.propagation.specs.Joins.{work_of, join_in, neighbours_to_join, sets_to_join, Ready, ReducedBefore, AllReduced, HoldsWork, Has, Idle, Joins}
+use Rattle.propagation.specs.Joins.{work_of, join_in, neighbours_to_join, sets_to_join, RowsStand, Ready, ReducedBefore, AllReduced, HoldsWork, Has, Idle, Joins}
 use Rattle.propagation.proofs.Idling.{union_has, has_union, idle_union}
-use Rattle.propagation.proofs.Reductions.{stands_proper}
+use Rattle.propagation.proofs.Reductions.{walk_ready, stands_proper}
 
 -- Where nothing new joins a set that is reduced already, the work stays.
 pub idle_still : (rule : JoiningRule) {g : List ℕ} (backward : Bool) {b : ℕ} (o : List ℕ) {sets ws os : List ℕ} → Ready g sets ws os
@@ -52,6 +54,14 @@ pub record Made (rule : JoiningRule) (g : List ℕ) (backward : Bool) (b : ℕ) 
   pub own_is : members_of own ≡ row_of sets b
   pub found_is : members_of found ≡ intersection_of (sets_to_join rule g backward b o sets)
   pub all_is : members_of all ≡ union (members_of own) (members_of found)
+
+pub walk_made : (w : Walk) {b : ℕ} {sets ws os own found all : List ℕ} → RowsStand (size_in w.graph.bytes.now) sets ws os
+    → b < size_in w.graph.bytes.now → members_of own ≡ row_of sets b
+    → members_of found ≡ intersection_of (sets_to_join (rule_of w.joining) w.graph.bytes.now w.backward b w.order.now sets)
+    → members_of all ≡ union (members_of own) (members_of found)
+    → Made (rule_of w.joining) w.graph.bytes.now w.backward b w.order.now sets ws os own found all
+walk_made w stands inside own-is found-is all-is =
+    record { ready = walk_ready w stands; inside = inside; own_is = own-is; found_is = found-is; all_is = all-is }
 
 abbrev want : JoiningRule → List ℕ → Bool → ℕ → List ℕ → List ℕ → List ℕ → Bool → Work
 want rule g backward b o sets ws changed = join_in rule g backward b (done_before (size_in g) o b) (work_of (size_in g) sets ws changed)

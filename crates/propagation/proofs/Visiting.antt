@@ -74,6 +74,11 @@ pub record Neighbouring (g : List ℕ) (backward : Bool) (b : ℕ) (entered o le
   pub along : Along g backward left (each (visit_in g backward) (neighbours g backward b) (noted_of (size_in g) entered)) entered o
   pub inside : All (λ k. k < size_in g) left
 
+-- the same with the neighbours left in another form
+pub neighbouring_by : {g : List ℕ} {backward : Bool} {b : ℕ} {entered o ks js : List ℕ} → ks ≡ js → Neighbouring g backward b entered o ks
+    → Neighbouring g backward b entered o js
+neighbouring_by {g} {backward} {b} {entered} {o} e a = subst (Neighbouring g backward b entered o) e a
+
 module _ {g : List ℕ} {backward : Bool} {b : ℕ} {entered o : List ℕ} {k : ℕ} {ks : List ℕ} (a : Neighbouring g backward b entered o (k ∷ ks)) where
   pub neighbouring_marked : (get_or o k 0 ≡ 0 → ⊥) → Neighbouring g backward b entered o ks
   neighbouring_marked marked = record { along = along_marked a.along a.inside.0 marked; inside = a.inside.1 }

@@ -162,6 +162,7 @@ impl Walk<'_> {
     // neighbour has to be Done, the first that is not ends the search. Each place is stored behind
     // those gathered so far, and the count goes up only if that neighbour is Done, so that under
     // the existing rule the compiled loop has no branch on the mark.
+    // Design: lent bytes and a count, and no list that grows: fixed memory.
     fn neighbours_to_join(self, b: usize, places: &mut [u8; 128]) -> usize
         requires { (b < size_in self.graph.bytes.now) × (length places.old ≡ 128) }
         ensures { let g = self.entry.graph.bytes.now in
@@ -194,6 +195,9 @@ impl Walk<'_> {
 
     // The block's set is joined with that intersection and reduced. In a walk later than the first
     // it was reduced before, so where nothing new joins, it stays.
+    // Design: the sets and the registry stay two arguments with clauses of their own, here and in
+    // the functions below. Where there is no room, reduction promises nothing of the registry's
+    // nodes (`Reduces`), so no type of the two could hold that the sets are of these.
     fn join(self, b: usize, sets: &mut [u64], registry: &mut Registry) -> Result<Joined, Refusal>
         requires { let n = size_in self.graph.bytes.now in
             let r = registry.old in

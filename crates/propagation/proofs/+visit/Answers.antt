@@ -9,7 +9,7 @@ use Rattle.propagation.proofs.ToCome.{to_come}
 use Rattle.propagation.proofs.Visiting.{
   visit_in,
   Enters,
-  Neighbouring,
+  neighbouring_by,
   neighbouring_marked,
   neighbouring_more,
   neighbours_start,
@@ -24,7 +24,7 @@ loop-k-init t c =
     let a = c.args in
     let g = a.graph.bytes.now in
     let come = ap to_come c.into_iter-k-iterator.ensures.into_iter_gives ∙ c.neighbours-k-items.ensures in
-    subst (Neighbouring g a.backward a.b (set a.order.now a.b 1) (set a.order.now a.b 1)) (sym come)
+    neighbouring_by (sym come)
     (neighbours_start (record { inside = c.requires.0; noting = c.requires.1; unmarked = c.requires.2 }) a.graph.fits a.backward)
 
 pub visit-requires : goal.visit-requires
@@ -32,7 +32,7 @@ visit-requires t c =
     let a = c.args in
     let g = a.graph.bytes.now in
     let inv = c.loop-k.invariant in
-    let here = subst (Neighbouring g a.backward a.b (set a.order.now a.b 1) c.loop-k.order) c.in-Some.ensures.steps inv in (
+    let here = neighbouring_by c.in-Some.ensures.steps inv in (
       subst (λ (m : ℕ). unmarked_in (marks_of (size_in g) c.loop-k.order) < m) c.decreases
           (call_falls (record { inside = c.requires.0; noting = c.requires.1; unmarked = c.requires.2 }) inv),
       (here.inside.0, inv.along.noting, c.if-order-k-eq0.true),
@@ -42,14 +42,14 @@ pub loop-k-preserved-then-order-k-eq0 : goal.loop-k-preserved-then-order-k-eq0
 loop-k-preserved-then-order-k-eq0 t c =
     let a = c.args in
     let g = a.graph.bytes.now in
-    neighbouring_more (subst (Neighbouring g a.backward a.b (set a.order.now a.b 1) c.loop-k.order) c.in-Some.ensures.steps c.loop-k.invariant)
+    neighbouring_more (neighbouring_by c.in-Some.ensures.steps c.loop-k.invariant)
     c.visit.ensures
 
 pub loop-k-preserved : goal.loop-k-preserved
 loop-k-preserved t c =
     let a = c.args in
     let g = a.graph.bytes.now in
-    neighbouring_marked (subst (Neighbouring g a.backward a.b (set a.order.now a.b 1) c.loop-k.order) c.in-Some.ensures.steps c.loop-k.invariant)
+    neighbouring_marked (neighbouring_by c.in-Some.ensures.steps c.loop-k.invariant)
     c.if-order-k-eq0.false
 
 pub leave-requires : goal.leave-requires

@@ -5,7 +5,7 @@ use Rattle.model.specs.ListLaws.{all_map}
 use Rattle.graph.specs.Bytes.{size_in, neighbours}
 use Rattle.graph.proofs.Coming.{neighbours_inside}
 use Rattle.propagation.proofs.ToCome.{to_come}
-use Rattle.propagation.proofs.Dirty.{Marking, marking_start, marking_more, marking_ends}
+use Rattle.propagation.proofs.Dirty.{marking_by, marking_start}
 use Rattle.propagation.proofs.mark_neighbours.Goals as goal
 
 pub loop-k-init : goal.loop-k-init
@@ -14,16 +14,6 @@ loop-k-init c =
     let bs = neighbours a.graph.bytes.now a.backward a.b in
     let come = ap to_come c.into_iter-k-iterator.ensures.into_iter_gives ∙ c.neighbours-k-items.ensures in
     let size = a.graph.fits.size in
-    subst (Marking bs a.dirty.now a.dirty.now) (sym come)
+    marking_by (sym come)
     (marking_start bs a.dirty.now c.requires.1
     (all_map (λ k. k < size_in a.graph.bytes.now) (λ k. k < 128) (λ k l. omega arith) bs (neighbours_inside a.graph.fits c.requires.0 a.backward)))
-
-pub loop-k-preserved : goal.loop-k-preserved
-loop-k-preserved c =
-    let a = c.args in
-    marking_more (subst (Marking (neighbours a.graph.bytes.now a.backward a.b) a.dirty.now c.loop-k.dirty) c.in-Some.ensures.steps c.loop-k.invariant)
-
-pub returns : goal.returns
-returns c =
-    let a = c.args in
-    marking_ends (subst (Marking (neighbours a.graph.bytes.now a.backward a.b) a.dirty.now c.loop-k.dirty) c.in-None.ensures.steps.0 c.loop-k.invariant)

@@ -2,6 +2,7 @@ use native.Mathlib.Omega.{arith}
 use mathlib.Core.Path.{refl}
 use borrow.Author.Rules.{rules}
 use Rattle.std.proofs.lemmas.Result.{err_from_is_err_and}
+use Rattle.propagation.proofs.Reductions.{walk_ready}
 use Rattle.propagation.proofs.Walking.{walk_begun, walk_over, walk_full, walk_more}
 use Rattle.propagation.proofs.Walk.run.Goals as goal
 
@@ -10,7 +11,7 @@ loop-i-init c =
     let a = c.args in
     let w = a.self in (
       refl,
-      walk_begun w.joining w.backward (record { fits = w.graph.fits; once = w.once; both_ways = w.both_ways; stands = c.requires.0 })
+      walk_begun w.joining w.backward (walk_ready w c.requires.0)
           c.requires.1 c.requires.2 c.requires.3 a.changed,
     )
 

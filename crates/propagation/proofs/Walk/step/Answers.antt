@@ -7,6 +7,7 @@ use mir.Val.{bool_byte}
 use native.Mathlib.Omega.{arith}
 use mathlib.Core.Bool.{Bool, true, false, not}
 use mathlib.Core.Path.{◌≡◌, refl}
+use Rattle.propagation.proofs.Reductions.{walk_ready}
 use Rattle.propagation.proofs.Stepping.{step_passed, step_joined}
 use Rattle.propagation.proofs.Walk.step.Goals as goal
 
@@ -15,7 +16,7 @@ returns-then-dirty-b-eq0 c =
     let a = c.args in
     let w = a.self in
     step_passed w.joining w.backward a.b w.order.now a.changed
-    (record { fits = w.graph.fits; once = w.once; both_ways = w.both_ways; stands = c.requires.1 })
+    (walk_ready w c.requires.1)
     (c.requires.2 c.if-self.true) c.requires.0 c.requires.3 c.if-dirty-b-eq0.true
 
 -- the byte of a block's mark is 0 only where the join was idle
@@ -28,6 +29,6 @@ returns c =
     let a = c.args in
     let w = a.self in
     step_joined w.joining w.backward a.b w.order.now
-    (record { fits = w.graph.fits; once = w.once; both_ways = w.both_ways; stands = c.requires.1 })
+    (walk_ready w c.requires.1)
     c.requires.0 c.requires.3 c.in_ok-joined.ensures
     c.mark_changed.ensures a.changed c.from.result (idle_byte _ c.from.ensures)
