@@ -13,7 +13,21 @@ use Rattle.model.specs.Tests.{by_cond}
 use Rattle.model.specs.Lists.{select}
 use Rattle.model.specs.Rounds.{places_from}
 use Rattle.rows.specs.Members.{bit}
-use Rattle.graph.specs.Bytes.{size_in, degree_in, predecessor_in, block_of_rank, is_successor, predecessors_from, successors_from, neighbours, GraphFits, Next, HoldsBits, NoneBelow, LowestAt}
+use Rattle.graph.specs.Bytes.{
+  size_in,
+  degree_in,
+  predecessor_in,
+  block_of_rank,
+  is_successor,
+  predecessors_from,
+  successors_from,
+  neighbours,
+  GraphFits,
+  Next,
+  HoldsBits,
+  NoneBelow,
+  LowestAt,
+}
 
 -- the places from k to an end
 pub places_more : (k n : ℕ) → k < n → places_from k (n - k) ≡ k ∷ places_from (k + 1) (n - (k + 1))

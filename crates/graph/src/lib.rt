@@ -87,8 +87,8 @@ impl<'a> Graph<'a> {
         requires { b < size_in self.bytes.now }
         ensures { Finds self.entry.bytes.now true b from result }
     {
-        // Design: a turn passes a word, and the first begins within one, so a `for` over words would
-        // have to say for each where it begins: no plainer.
+        // Design: a turn passes a word, and the first begins within one, so a `for` over words
+        // would have to say for each where it begins: no plainer.
         let mut r = from.max(128 - size(self.bytes));
         while r < 128 {
             let at = r / 64;

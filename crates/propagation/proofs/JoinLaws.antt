@@ -27,7 +27,20 @@ use Rattle.graph.specs.Bytes.{size_in}
 use Rattle.propagation.specs.declared.Walk.{Walk}
 use Rattle.propagation.specs.Rules.{rule_of}
 use Rattle.propagation.specs.Order.{done_before}
-use Rattle.propagation.specs.Joins.{work_of, join_in, neighbours_to_join, sets_to_join, RowsStand, Ready, ReducedBefore, AllReduced, HoldsWork, Has, Idle, Joins}
+use Rattle.propagation.specs.Joins.{
+  work_of,
+  join_in,
+  neighbours_to_join,
+  sets_to_join,
+  RowsStand,
+  Ready,
+  ReducedBefore,
+  AllReduced,
+  HoldsWork,
+  Has,
+  Idle,
+  Joins,
+}
 use Rattle.propagation.proofs.Idling.{union_has, has_union, idle_union}
 use Rattle.propagation.proofs.Reductions.{walk_ready, stands_proper}
 

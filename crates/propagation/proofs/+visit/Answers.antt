@@ -1,6 +1,5 @@
 use Prim.Native.Nat.{ℕ, ◌<◌}
 use native.Mathlib.Omega.{arith}
-use lib.ListN.{set}
 use mathlib.Core.Path.{sym, ap, subst, ◌∙◌}
 use Rattle.model.specs.Visit.{unmarked_in}
 use Rattle.graph.specs.Bytes.{size_in}

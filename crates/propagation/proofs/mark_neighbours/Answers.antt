@@ -1,6 +1,6 @@
 use Prim.Native.Nat.{◌<◌}
 use native.Mathlib.Omega.{arith}
-use mathlib.Core.Path.{sym, ap, subst, ◌∙◌}
+use mathlib.Core.Path.{sym, ap, ◌∙◌}
 use Rattle.model.specs.ListLaws.{all_map}
 use Rattle.graph.specs.Bytes.{size_in, neighbours}
 use Rattle.graph.proofs.Coming.{neighbours_inside}

@@ -1,4 +1,4 @@
-use mathlib.Core.Path.{sym, ap, subst, ◌∙◌}
+use mathlib.Core.Path.{sym, ap, ◌∙◌}
 use lib.ListN.{length-set}
 use Rattle.model.specs.Tests.{ltb_less, ltb_not_less}
 use Rattle.propagation.proofs.ToCome.{to_come}
