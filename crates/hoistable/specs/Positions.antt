@@ -12,8 +12,6 @@ use Rattle.model.specs.Forest.{Key, identifier_key, property_key, Forest, Found}
 use Rattle.model.specs.Tree.{HoistablePosition, hoistable_key, hoistable_positions, hoistable_tree, first_made, starts_optional}
 use Rattle.laws.specs.Flat as Flat
 use Rattle.laws.specs.FlatSteps.{run, seek, found_at, reached, enter_all}
-use Rattle.hoistable.specs.declared.Key as own
-use Rattle.hoistable.specs.declared.Key.TheVariants.{Identifier, Property}
 use Rattle.registry.specs.declared.Node.{Node}
 use Rattle.registry.specs.declared.Node.TheVariants.{Root, Child}
 use Rattle.registry.specs.Words.{stored_node, registry_of}
@@ -22,11 +20,6 @@ use Rattle.registry.specs.Words.{stored_node, registry_of}
 abbrev pub key_of : Node → Key
 key_of (Root i r s) = identifier_key i
 key_of (Child p e) = property_key e.property
-
--- a key of the code's, as the model has it
-abbrev pub key_in : own.Key → Key
-key_in (Identifier i) = identifier_key i
-key_in (Property q) = property_key q
 
 -- the access of a position, by whether it is Optional
 abbrev pub access_of : Bool → HoistableAccessType

@@ -16,12 +16,12 @@ ghost use Rattle.model.specs.Forest.{same_key};
 ghost use Rattle.model.specs.Tree.{starts_optional, hoistable_tree, access_is_non_null};
 ghost use Rattle.model.specs.RegistryLaws.{Child};
 ghost use Rattle.model.specs.ReductionLaws.{Members};
+ghost use Rattle.job.specs.Key.{key_in};
 ghost use Rattle.hoistable.specs.Levels.{number_of, levels_of, non_null_levels};
 ghost use Rattle.hoistable.specs.Candidate.{entries_at, Reads, AreRead, Candidate};
 ghost use Rattle.hoistable.specs.Agreement.{over, decided, HoldsLevels, Small, Follows, NextIs, RestRead, Agrees};
 ghost use Rattle.hoistable.specs.Positions.{
   key_of,
-  key_in,
   access_of,
   position_of,
   maker_in,
@@ -41,7 +41,8 @@ ghost use Rattle.hoistable.specs.Positions.{
   MayHoldTree,
 };
 
-use entries::{DependencyPathEntry, IdentifierId, NodeId, PropertyLiteral};
+use entries::{DependencyPathEntry, IdentifierId, NodeId};
+use job::Key;
 use registry::{Node, Registry};
 use rows::NodeBits;
 
@@ -243,13 +244,6 @@ fn word_of(k: NodeId, parent: usize, optional: bool) -> u64
 {
     let word = k.0 as u64 + parent as u64 * PARENT;
     if optional { word + OPTIONAL } else { word }
-}
-
-// A root's key is its identifier, a child's its property.
-#[derive(Clone, Copy, PartialEq, Eq)]
-enum Key {
-    Identifier(IdentifierId),
-    Property(PropertyLiteral),
 }
 
 // The key of a node's position.

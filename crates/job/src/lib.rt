@@ -90,6 +90,13 @@ pub struct JobHead {
     pub candidates_at: usize,
 }
 
+// The key of a tree's position: a root's is its identifier, a child's its property.
+#[derive(Clone, Copy, PartialEq, Eq)]
+pub enum Key {
+    Identifier(IdentifierId),
+    Property(PropertyLiteral),
+}
+
 // The place after a header that was looked for at `at`: a refusal leaves the reader where it
 // stands.
 pub fn place_after(header: Read<Header>, at: usize) -> usize

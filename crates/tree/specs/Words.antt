@@ -16,8 +16,6 @@ use Rattle.model.specs.Tree.{DependencyPosition, step_to}
 use Rattle.job.specs.Head.{read_path_head}
 use Rattle.job.specs.declared.PathHead.{PathHead}
 use Rattle.laws.specs.Flat.{Node}
-use Rattle.tree.specs.declared.Key.{Key}
-use Rattle.tree.specs.declared.Key.TheVariants.{Identifier, Property}
 
 -- The head that was read; the fields are 0 where none can be read.
 abbrev pub head_or : Read PathHead → PathHead
@@ -73,11 +71,6 @@ linked_word child w number = cond child (w + number * 17179869184) (w + number *
 -- the word without links of a parent's number, a place and an access kind
 unfoldable pub pack : ℕ → ℕ → PropertyAccessType → ℕ
 pack parent place a = parent + place * 65536 + flag (is_optional_access a) * 4294967296 + flag (is_dependency_access a) * 8589934592
-
--- the key that the code's key stands for
-abbrev pub key_of : Key → forest.Key
-key_of (Identifier i) = identifier_key i
-key_of (Property p) = property_key p
 
 -- the key of the position below this parent, whose key and span stand at this place
 abbrev pub key_at : List ℕ → ℕ → ℕ → forest.Key

@@ -11,7 +11,8 @@ ghost use Rattle.model.specs.Lists.{concat_map};
 ghost use Rattle.model.specs.Answer.{DE, entry_bytes, path_bytes, span_width};
 ghost use Rattle.model.specs.Tree.{step_access, entry_of, dependency_of};
 ghost use Rattle.writer.specs.Writes.{HasRoom, Puts};
-ghost use Rattle.tree.specs.Words.{head_at, entry_at, parent_in, place_in, access_in, pack, key_of, key_at, position_as, position_of};
+ghost use Rattle.job.specs.Key.{key_in};
+ghost use Rattle.tree.specs.Words.{head_at, entry_at, parent_in, place_in, access_in, pack, key_at, position_as, position_of};
 ghost use Rattle.tree.specs.Words.{child_in, sibling_in, link_of, way_positions, merged_word, linked_word, link_in};
 ghost use Rattle.tree.specs.Tree.{
   count_in,
@@ -34,7 +35,7 @@ ghost use Rattle.tree.specs.Tree.{
 };
 
 use entries::{DependencyPathEntry, IdentifierId, PropertyAccessType, PropertyLiteral};
-use job::PathHead;
+use job::{Key, PathHead};
 use writer::Writer;
 
 // How many bytes stand between a path's mark and its entries.
@@ -144,16 +145,9 @@ fn with_link(w: u64, child: bool, number: usize) -> u64
     }
 }
 
-// A root's key is its identifier, a child's its property.
-#[derive(Clone, Copy, PartialEq, Eq)]
-enum Key {
-    Identifier(IdentifierId),
-    Property(PropertyLiteral),
-}
-
 // The key of the position below a parent whose key and span stand at a place.
 fn key_at(s: &[u8], parent: usize, place: usize) -> Key
-    ensures { key_of result ≡ key_at s.now parent place }
+    ensures { key_in result ≡ key_at s.now parent place }
 {
     if parent == 0 {
         Key::Identifier(head_at(s, place).identifier)
@@ -164,7 +158,7 @@ fn key_at(s: &[u8], parent: usize, place: usize) -> Key
 
 // The position below a parent whose key stands at a place has this key.
 fn has_key(s: &[u8], parent: usize, place: usize, key: Key) -> bool
-    ensures { result ≡ same_key (key_at s.now parent place) (key_of key) }
+    ensures { result ≡ same_key (key_at s.now parent place) (key_in key) }
 {
     key_at(s, parent, place) == key
 }
@@ -212,7 +206,7 @@ fn first_child(tree: &[u64], parent: usize) -> Option<usize>
 // The number of the position that has the step's parent and key, or, where there is none, that of
 // the last child of the parent, behind which it would stand: the parent's own where it has no child.
 fn seek(tree: &[u64], s: &[u8], key: Key, step: u64) -> Result<usize, usize>
-    requires { Sized tree.now × (parent_in step ≤ count_in tree.now) × (key_of key ≡ key_at s.now (parent_in step) (place_in step)) }
+    requires { Sized tree.now × (parent_in step ≤ count_in tree.now) × (key_in key ≡ key_at s.now (parent_in step) (place_in step)) }
     ensures { Seeks s.now tree.now step result }
 {
     let parent = parent_in(step);
@@ -275,7 +269,7 @@ fn make_or_merge(
     access: PropertyAccessType,
 ) -> usize
     requires { Sized tree.old × (parent ≤ count_in tree.old) × (count_in tree.old + 1 < length tree.old) × (place < 65536)
-        × (key_of key ≡ key_at s.now parent place) }
+        × (key_in key ≡ key_at s.now parent place) }
     ensures { Enters s.now tree.old tree.new parent
         (position_as s.now parent place access) result }
 {

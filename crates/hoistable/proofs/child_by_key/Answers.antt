@@ -1,6 +1,6 @@
 use native.Mathlib.Omega.{arith}
 use mathlib.Core.Path.{refl, sym, ◌∙◌}
-use Rattle.hoistable.specs.Positions.{key_in}
+use Rattle.job.specs.Key.{key_in}
 use Rattle.hoistable.proofs.Positions.{seeking, seeking_hit, seeking_miss, seeking_end}
 use Rattle.hoistable.proofs.child_by_key.Goals as goal
 

@@ -1,5 +1,5 @@
 -- The loop's invariant, `Seeking`: what is left of the search finds what the whole finds.
-use Rattle.hoistable.specs.Positions.{key_in}
+use Rattle.job.specs.Key.{key_in}
 use Rattle.hoistable.proofs.Positions.{Seeking}
 use Rattle.hoistable.proofs.child_by_key.Given as goal
 
