@@ -34,7 +34,7 @@ brought_by s at e = ap (λ (x : Read Unit). read_brought_by x s at) e
 -- A ready path.
 
 module _ (s : List ℕ) (at : ℕ) {fields_at : ℕ} (marked : read_mark PA s at ≡ got tt fields_at) where
-  pub ready_fields : read_path 4 PA s at ≡ read_path_fields 4 s fields_at
+  ready_fields : read_path 4 PA s at ≡ read_path_fields 4 s fields_at
   ready_fields = path_by_fields PA s at ∙ ap (λ (x : Read Unit). and_then x (λ _ n. read_path_fields 4 s n)) marked
 
 -- A raw read.
@@ -63,7 +63,7 @@ module _ (s : List ℕ) (at : ℕ) {head : RawHead} {fields_at : ℕ} (headed : 
       go (got d n) = ap (λ (ds : List ReactiveScopeDependency). got ds n) (kept d)
       go (refused r) = refl
 
-  pub raw_kept : ((d : ReactiveScopeDependency) → is_immutable_at_instr (raw_read_of head d) ≡ true)
+  raw_kept : ((d : ReactiveScopeDependency) → is_immutable_at_instr (raw_read_of head d) ≡ true)
       → mapped path_if_kept (read_raw_read 4 s at) ≡ mapped itself (read_path_fields 4 s fields_at)
   raw_kept e = by_head true e
 
@@ -86,6 +86,16 @@ fields_there {y = y} brings there =
 pub record_entered : {x y : Read (List ReactiveScopeDependency)} (start : PathsEntered) (r : Result EnteredSet Refusal) (ws os : List ℕ) → x ≡ y
     → EntersAll y start r ws os → EntersAll x start r ws os
 record_entered start r ws os brings = subst (λ (z : Read (List ReactiveScopeDependency)). EntersAll z start r ws os) (sym brings)
+
+-- a ready path, and a raw read that is kept
+pub ready_brings : (s : List ℕ) (at : ℕ) {fields_at : ℕ} → read_mark PA s at ≡ got tt fields_at
+    → read_brought s at ≡ mapped itself (read_path_fields 4 s fields_at)
+ready_brings s at marked = brought_by s at marked ∙ ap (mapped itself) (ready_fields s at marked)
+
+pub kept_brings : (s : List ℕ) (at : ℕ) {r : Refusal} {head : RawHead} {fields_at : ℕ} → read_mark PA s at ≡ refused r
+    → read_raw_head s at ≡ got head fields_at → ((d : ReactiveScopeDependency) → is_immutable_at_instr (raw_read_of head d) ≡ true)
+    → read_brought s at ≡ mapped itself (read_path_fields 4 s fields_at)
+kept_brings s at other headed kept = brought_by s at other ∙ raw_kept s at headed kept
 
 -- All records of a block.
 

@@ -45,22 +45,27 @@ impl EnteredSet {
         Ok(())
     }
 
-    // One record more: a ready path, or a raw read, whose path is entered where it is kept.
+    // One record more: a ready path, or a raw read, whose path is entered where it is kept. Both end
+    // in one call of `enter_fields`, so that it and `paths::enter_path` have one caller and are
+    // inlined (docs/DECISIONS.md).
     fn enter_record(&mut self, s: &[u8], registry: &mut Registry) -> Result<(), Refusal>
         requires { (self.old.made ≤ length (registry_of registry.old.words)) × IsRead (read_brought s.now self.old.at) }
         ensures { EntersAll (read_brought s.now self.old.at) (entered_so_far (registry_of registry.old.words) self.old)
             (came_to result self.new) registry.new.words registry.new.optional.words }
     {
-        if let Ok(at) = fields::mark_at(s, self.at, job::PA) {
-            return self.enter_fields(s, at, registry);
-        }
-        let (head, at) = job::raw_head_at(s, self.at)?;
-        if immutable::is_immutable_at_instr(head) {
-            return self.enter_fields(s, at, registry);
-        }
-        let next = job::past_path_fields(s, at)?;
-        self.at = next;
-        Ok(())
+        let fields_at = match fields::mark_at(s, self.at, job::PA) {
+            Ok(at) => at,
+            Err(_) => {
+                let (head, at) = job::raw_head_at(s, self.at)?;
+                if !immutable::is_immutable_at_instr(head) {
+                    let next = job::past_path_fields(s, at)?;
+                    self.at = next;
+                    return Ok(());
+                }
+                at
+            }
+        };
+        self.enter_fields(s, fields_at, registry)
     }
 
     // `count` records more.
