@@ -7,7 +7,7 @@
 // where its join in a walk of that direction may have an effect.
 #![tactic(auto)]
 
-ghost use Rattle.std.specs.Prelude.{◌≡◌, true, false, not, ◌∷◌, ◌<◌, length, get_or, replicate};
+ghost use Rattle.std.specs.Prelude.{◌≡◌, true, false, ◌<◌, get_or, replicate};
 ghost use Rattle.model.specs.Reduction.{reduce_maybe_optional_chains};
 ghost use Rattle.model.specs.Visit.{visit};
 ghost use Rattle.model.specs.Propagation.{intersection_of, round, propagate_non_null};
@@ -80,7 +80,7 @@ pub struct RoundsRun {
 
 // A block is left: it is Done, and the next of the order.
 fn leave(b: usize, order: &mut [u8; 257])
-    requires { (b < 128) × (length order.old ≡ 257) × (left_in order.old < 128) }
+    requires { (b < 128) × (left_in order.old < 128) }
     ensures { order.new ≡ leaving order.old b }
 {
     let left = order[256];
@@ -134,7 +134,7 @@ fn note_order(graph: Graph, backward: bool, order: &mut [u8; 257])
 
 // These neighbours of a block are dirty.
 fn mark_neighbours(graph: Graph, backward: bool, b: usize, dirty: &mut [u8; 128])
-    requires { (b < size_in graph.bytes.now) × (length dirty.old ≡ 128) }
+    requires { b < size_in graph.bytes.now }
     ensures { MarksDirty (neighbours graph.entry.bytes.now backward b) dirty.old dirty.new }
 {
     for k in graph.neighbours(backward, b) {
@@ -164,7 +164,7 @@ impl Walk<'_> {
     // the existing rule the compiled loop has no branch on the mark.
     // Design: lent bytes and a count, and no list that grows: fixed memory.
     fn neighbours_to_join(self, b: usize, places: &mut [u8; 128]) -> usize
-        requires { (b < size_in self.graph.bytes.now) × (length places.old ≡ 128) }
+        requires { b < size_in self.graph.bytes.now }
         ensures { let g = self.entry.graph.bytes.now in
             Gathers (neighbours_to_join (rule_of self.entry.joining) g self.entry.backward b self.entry.order.now)
             (size_in g) result places.new }
@@ -226,7 +226,7 @@ impl Walk<'_> {
     // direction those on the other side, and in one of the other direction those on this side and
     // the block itself.
     fn mark_changed(self, b: usize, changed: bool, dirty: &mut [u8; 128], other: &mut [u8; 128])
-        requires { (b < size_in self.graph.bytes.now) × (length dirty.old ≡ 128) × (length other.old ≡ 128) }
+        requires { b < size_in self.graph.bytes.now }
         ensures { Touched self.entry.graph.bytes.now self.entry.backward b changed dirty.old other.old dirty.new other.new }
     {
         if !changed {

@@ -56,7 +56,7 @@ leave-requires t c =
     let e : Enters c.args.graph.bytes.now c.args.b c.args.order.now = record { inside = c.requires.0; noting = c.requires.1; unmarked = c.requires.2 } in
     let inside = e.inside in
     let small = e.noting.small in
-    (omega arith, c.loop-k.invariant.along.noting.long, leave_room e c.loop-k.invariant)
+    (omega arith, leave_room e c.loop-k.invariant)
 
 pub returns : goal.returns
 returns t c =

@@ -15,5 +15,5 @@ loop-k-init c =
     let come = ap to_come c.into_iter-k-iterator.ensures.into_iter_gives ∙ c.neighbours-k-items.ensures in
     let size = a.graph.fits.size in
     marking_by (sym come)
-    (marking_start bs a.dirty.now c.requires.1
-    (all_map (λ k. k < size_in a.graph.bytes.now) (λ k. k < 128) (λ k l. omega arith) bs (neighbours_inside a.graph.fits c.requires.0 a.backward)))
+    (marking_start bs a.dirty.now c.told-dirty
+    (all_map (λ k. k < size_in a.graph.bytes.now) (λ k. k < 128) (λ k l. omega arith) bs (neighbours_inside a.graph.fits c.requires a.backward)))

@@ -11,18 +11,18 @@ loop-k-init c =
     let w = a.self in
     let come = ap to_come c.into_iter-k-iterator.ensures.into_iter_gives ∙ c.neighbours-k-items.ensures in
     gathering_by (sym come)
-    (gathering_start w.joining w.graph.fits w.backward c.requires.0 w.order.now a.places.now c.requires.1)
+    (gathering_start w.joining w.graph.fits w.backward c.requires w.order.now a.places.now c.told-places)
 
 pub returns : goal.returns
 returns c =
     let w = c.args.self in
-    gathered_all w.once c.requires.0
+    gathered_all w.once c.requires
     (gathering_by c.in-None.ensures.steps.0 c.loop-k.invariant)
 
 pub returns-then-asks_all : goal.returns-then-asks_all
 returns-then-asks_all c =
     let w = c.args.self in
-    gathered_none w.once c.requires.0
+    gathered_none w.once c.requires
     (gathering_by c.in-Some.ensures.steps c.loop-k.invariant)
     (sym c.asks_all.ensures ∙ c.if-asks_all.true) (ltb_not_less _ _ c.if-mark-self.false) _ (simp length-set c.loop-k.invariant.long)
 
