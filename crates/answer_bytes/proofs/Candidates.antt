@@ -1,6 +1,7 @@
 -- The candidates that are left: what adds their walks to the tree so far adds them all.
 use Prim.Native.Nat.{ℕ, zero, suc, ◌+◌, ◌*◌, ◌-◌, ◌≤◌, ◌<◌}
 use native.Mathlib.Omega.{arith}
+use native.Mathlib.Nat.{sub-zero}
 use mathlib.Core.Path.{◌≡◌, sym, ap, subst, ◌∙◌}
 use mathlib.Core.List.{List, [], ◌∷◌, map}
 use mathlib.Core.Option.{Option}
@@ -72,12 +73,12 @@ pub record Adding (s : List ℕ) (start count : ℕ) (reg : PropertyPathRegistry
 
 pub adding : (s : List ℕ) (start count : ℕ) (reg : PropertyPathRegistry) (set : NodeSet) (tree : List ℕ) → 17 * count < length tree
     → Held s tree → forest_of s tree ≡ empty → count_in tree ≡ 0
-    → Adding s start count reg set tree start count
+    → Adding s start count reg set tree start (count - 0)
 unfolding dependency_tree
 adding s start count reg set tree room held none zero-count = record {
   held = held;
   room = omega arith;
-  on = λ cs end e. (cs, e, ap (λ f. add_all dependency_key merge_position f (map (walk_candidate (tree_of reg set)) cs)) none);
+  on = λ cs end e. (cs, subst (λ n. read_many n (read_path 4 CA) s start ≡ got cs end) (sym (sub-zero count)) e, ap (λ f. add_all dependency_key merge_position f (map (walk_candidate (tree_of reg set)) cs)) none);
 }
 
 module _ {s : List ℕ} {start count : ℕ} {reg : PropertyPathRegistry} {set : NodeSet} {tree : List ℕ} {at left : ℕ}
