@@ -146,6 +146,13 @@ pub enum HoistableAccessType {
     NonNull,
 }
 
+// How many rounds a propagation ran, and whether the last one changed nothing.
+#[derive(Clone, Copy)]
+pub struct RoundsRun {
+    pub rounds: u8,
+    pub settled: bool,
+}
+
 // Why a job is turned back, in the order of the numbers: document 01's 1 to 9, and document 02's
 // 10.
 #[derive(Clone, Copy, PartialEq, Eq)]

@@ -6,7 +6,7 @@ use Rattle.model.specs.Rounds.{Rounds}
 use Rattle.model.specs.Propagation.{Work}
 use Rattle.rows.specs.Rows.{rows_of}
 use Rattle.registry.specs.Words.{registry_of}
-use Rattle.propagation.specs.declared.RoundsRun.{RoundsRun}
+use Rattle.entries.specs.declared.RoundsRun.{RoundsRun}
 use Rattle.propagation.specs.Joins.{work_of}
 use Rattle.propagation.specs.Propagates.{HoldsRounds}
 

@@ -8,7 +8,7 @@ use Rattle.model.specs.Propagation.{Work, JoiningRule}
 use Rattle.graph.specs.Bytes.{size_in, neighbours}
 use Rattle.propagation.specs.Order.{order_of, OrderNoted}
 use Rattle.propagation.specs.Joins.{work_of, join_in, RowsStand, HoldsWork, Clean}
-use Rattle.propagation.specs.declared.RoundsRun.{RoundsRun}
+use Rattle.entries.specs.declared.RoundsRun.{RoundsRun}
 
 -- the model's walk, in the graph that the bytes hold
 unfoldable pub walk_in : JoiningRule → List ℕ → Bool → Work → Work

@@ -36,7 +36,7 @@ ghost use Rattle.propagation.specs.Joins.{
 };
 ghost use Rattle.propagation.specs.Propagates.{walk_in, Orders, Turns, Propagates};
 
-use entries::Refusal;
+use entries::{Refusal, RoundsRun};
 use graph::Graph;
 use registry::Registry;
 use rows::NodeBits;
@@ -67,13 +67,6 @@ impl Joining {
 struct Joined {
     changed: bool,
     idle: bool,
-}
-
-// How many rounds were run, and whether the last one changed nothing.
-#[derive(Clone, Copy)]
-pub struct RoundsRun {
-    pub rounds: usize,
-    pub settled: bool,
 }
 
 // The order of a walk.

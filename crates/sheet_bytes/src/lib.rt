@@ -13,9 +13,9 @@ ghost use Rattle.registry.specs.Words.{count_in, registry_of};
 ghost use Rattle.writer.specs.Writes.{HasRoom, Puts};
 ghost use Rattle.sheet_bytes.specs.Sheet.{root_of, set_record, set_records, WritesSheet};
 
-use entries::{BlockId, IdentifierId, NodeId};
+use entries::{BlockId, IdentifierId, NodeId, RoundsRun};
 use registry::{Node, Registry};
-use writer::{Ran, Writer};
+use writer::Writer;
 
 // "SH", "NO" and "SE", the marks of a sheet, a node and a set.
 const SH: u64 = 0x4853;
@@ -130,7 +130,7 @@ fn put_blocks(sets: &[u64], ids: &[u32; 128], blocks: usize, w: &mut Writer)
 }
 
 // The head; at its end how many nodes were there before the first round.
-fn put_head(w: &mut Writer, nodes: usize, blocks: usize, run: Ran, nodes_before: usize)
+fn put_head(w: &mut Writer, nodes: usize, blocks: usize, run: RoundsRun, nodes_before: usize)
     requires { HasRoom w.old 10 }
     ensures { Puts w.old w.new 10 (sheet_head nodes blocks run.rounds run.settled nodes_before) }
 {
@@ -147,7 +147,7 @@ pub fn put_sheet(
     sets: &[u64],
     ids: &[u32; 128],
     blocks: usize,
-    run: Ran,
+    run: RoundsRun,
     nodes_before: usize,
     out: &mut [u8],
 ) -> usize

@@ -6,14 +6,7 @@ ghost use Rattle.std.specs.Prelude.{length};
 ghost use Rattle.model.specs.Answer.{number_bytes, step_bytes, entry_bytes, span_width};
 ghost use Rattle.writer.specs.Writes.{HasRoom, Puts, path_head_bytes, rounds_bytes};
 
-use entries::{DependencyPathEntry, IdentifierId};
-
-// How many rounds were run, and whether the last changed nothing.
-#[derive(Clone, Copy)]
-pub struct Ran {
-    pub rounds: u8,
-    pub settled: bool,
-}
+use entries::{DependencyPathEntry, IdentifierId, RoundsRun};
 
 // A buffer, and the place in it at which the next bytes are written.
 #[derive(Drop)]
@@ -86,7 +79,7 @@ impl<'a> Writer<'a> {
     }
 
     // What an answer and a sheet say of the rounds.
-    pub fn rounds(&mut self, run: Ran)
+    pub fn rounds(&mut self, run: RoundsRun)
         requires { HasRoom self.old 2 }
         ensures { Puts self.old self.new 2 (rounds_bytes run.rounds run.settled) }
     {
