@@ -12,10 +12,11 @@ ghost use Rattle.hoistable.specs.Positions.{MayHoldTree};
 ghost use Rattle.writer.specs.Writes.{HasRoom, Puts};
 ghost use Rattle.answer_bytes.specs.Answers.{CandidatesAt, TreeRoom, AddsCandidates, head_bytes, WritesAnswer};
 
+use entries::RoundsRun;
 use hoistable::{CandidateNames, Entries};
 use registry::Registry;
 use rows::NodeBits;
-use writer::{Ran, Writer};
+use writer::Writer;
 
 // The mark of an answer.
 pub const AN: u64 = 0x4E41;
@@ -114,7 +115,7 @@ fn add_candidates(
 }
 
 // What stands before the returned paths.
-fn put_head(w: &mut Writer, count: usize, run: Ran)
+fn put_head(w: &mut Writer, count: usize, run: RoundsRun)
     requires { HasRoom w.old 6 }
     ensures { Puts w.old w.new 6 (head_bytes count run.rounds run.settled) }
 {
@@ -132,7 +133,7 @@ pub fn put_answer(
     set: NodeBits,
     start: usize,
     count: usize,
-    run: Ran,
+    run: RoundsRun,
     out: &mut [u8],
 ) -> usize
     requires { TreeRoom tree.old count × Members (registry_of registry.now.words) (members_of set.words)
