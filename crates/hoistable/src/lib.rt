@@ -234,6 +234,11 @@ fn decided_levels(registry: &Registry, set: NodeBits, s: &[u8], candidate: Candi
 // The tree in words. A position is a word: the node that made it, the number of its parent, and
 // whether it is Optional. Word j is the position with the number j + 1, and 0 stands above the
 // roots. The last word says how many there are.
+// Design: an arena of numbers, with its count in the last word, in words that the caller lends: the
+// stage has no heap (fixed memory).
+// Design: that the words hold positions (`HoldsPositions`) is a clause. `build_tree` is lent words,
+// whatever they are, and gives them back as words (`HoldsTree`), so that a struct around them would
+// be made and taken apart in each public function, which is no plainer.
 const PARENT: u64 = 1024;
 
 const OPTIONAL: u64 = 1048576;
@@ -242,8 +247,7 @@ fn word_of(k: NodeId, parent: usize, optional: bool) -> u64
     requires { (k.0 < 512) × (parent ≤ 512) }
     ensures { IsWord result k.0 parent optional }
 {
-    let word = k.0 as u64 + parent as u64 * PARENT;
-    if optional { word + OPTIONAL } else { word }
+    k.0 as u64 + parent as u64 * PARENT + u64::from(optional) * OPTIONAL
 }
 
 // The key of a node's position.

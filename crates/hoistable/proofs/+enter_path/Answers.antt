@@ -1,6 +1,5 @@
 use Prim.Native.Nat.{ℕ, ◌<◌}
-use native.Mathlib.Omega.{arith}
-use native.Mathlib.Nat.{le_trans, lt_trans}
+use native.Mathlib.Nat.{lt_trans}
 use mathlib.Core.Path.{subst}
 use Rattle.hoistable.proofs.Nodes.{child_path}
 use Rattle.hoistable.proofs.Positions.{enters_more}
@@ -8,23 +7,11 @@ use Rattle.hoistable.proofs.Ways.{root_way, node_way}
 use Rattle.hoistable.specs.Positions.{access_of, Enters}
 use Rattle.hoistable.proofs.+enter_path.Goals as goal
 
-pub load-requires : goal.load-requires
-load-requires t c = le_trans c.requires.1 c.args.registry.now.held.sized.room
-
-pub enter_position-requires : goal.enter_position-requires
-enter_position-requires t c =
-    (c.requires.0, omega arith, le_trans c.requires.1 c.args.registry.now.held.sized.room)
-
 pub enter_path-requires : goal.enter_path-requires
 enter_path-requires t c =
     let after = (child_path c.args.registry.now.words c.args.registry.now.held.sound c.args.k c.requires.1 c.load.result c.load.ensures
     c.in-Child.is).after in
     (subst (λ (j : ℕ). c.in-Child.p.0 < j) c.decreases after, (c.requires.0, lt_trans after c.requires.1))
-
-pub enter_position-requires-in-Child : goal.enter_position-requires-in-Child
-enter_position-requires-in-Child t c =
-    let above = c.in_ok-parent-in-Child.ensures in
-    (above.held, above.within, le_trans c.requires.1 c.args.registry.now.held.sized.room)
 
 pub returns-in-Root : goal.returns-in-Root
 returns-in-Root t c =

@@ -1,6 +1,6 @@
 use Prim.Native.Nat.{ℕ, ◌<◌}
 use native.Mathlib.Omega.{arith}
-use native.Mathlib.Nat.{le_trans, lt_trans}
+use native.Mathlib.Nat.{lt_trans}
 use mathlib.Core.Path.{sym, ap, subst, ◌∙◌}
 use lib.Dec.{eqb}
 use Rattle.entries.specs.Path.{ReactiveScopeDependency}
@@ -10,9 +10,6 @@ use Rattle.hoistable.specs.Candidate.{entries_at}
 use Rattle.hoistable.proofs.Steps.{agrees_small, agrees_rest}
 use Rattle.hoistable.proofs.Nodes.{root_path, child_path}
 use Rattle.hoistable.proofs.+follow.Goals as goal
-
-pub load-requires : goal.load-requires
-load-requires t c = le_trans c.requires.1 c.args.registry.now.held.sized.room
 
 pub follow-before-requires : goal.follow-before-requires
 follow-before-requires t c =

@@ -13,27 +13,12 @@ use Rattle.hoistable.proofs.+levels_below.Goals as goal
 pub returns-in_default : goal.returns-in_default
 returns-in_default t c = levels_above c.args.registry.now.words c.args.hoist.now _ _ c.in_default.is
 
-pub overflow_sub-number : goal.overflow_sub-number
-overflow_sub-number t c = (stands_here c.args.hoist.now _ c.in-Some.is c.requires.1).0
-
-pub bounds-hoist-number : goal.bounds-hoist-number
-bounds-hoist-number t c =
-    let here = stands_here c.args.hoist.now _ c.in-Some.is c.requires.1 in
-    let room = c.requires.0.room in
-    omega arith
-
-pub next-requires : goal.next-requires
-next-requires t c = c.requires.2.reads
-
 pub returns-in_default-next : goal.returns-in_default-next
 returns-in_default-next t c =
     let here = stands_here c.args.hoist.now _ c.in-Some.is c.requires.1 in
     c.nonnull-here.ensures.0 ∙ at_number c.args.registry.now.words c.args.hoist.now c.in-Some.number (λ none. omega arith)
     ∙ ap (λ n. flag (at_non_null (found_in c.args.registry.now.words c.args.hoist.now n))) (sym (ap number_in c.in-Some.is))
     ∙ levels_last c.requires.2 c.in_default-next.ensures (found_in c.args.registry.now.words c.args.hoist.now (number_in c.args.position))
-
-pub child_by_key-child-requires : goal.child_by_key-child-requires
-child_by_key-child-requires t c = (c.requires.0, (stands_here c.args.hoist.now _ c.in-Some.is c.requires.1).1)
 
 pub levels_below-requires : goal.levels_below-requires
 levels_below-requires t c =

@@ -1,15 +1,8 @@
 -- The first loop enters the paths with an optional first entry, and the second the others, into a
 -- list that was empty.
-use Rattle.hoistable.proofs.Positions.{cleared_count, cleared_held}
+use Rattle.hoistable.proofs.Positions.{cleared_count}
 use Rattle.hoistable.proofs.Members.{tree_built}
 use Rattle.hoistable.proofs.build_tree.Goals as goal
-
-pub enter_members-requires : goal.enter_members-requires
-enter_members-requires c =
-    (cleared_held c.args.hoist.now c.requires.0 c.requires.1, c.requires.2)
-
-pub enter_members-requires-2 : goal.enter_members-requires-2
-enter_members-requires-2 c = (c.in_ok-enter_members.ensures.held, c.requires.2)
 
 pub returns : goal.returns
 returns c =

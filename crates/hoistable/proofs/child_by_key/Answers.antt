@@ -7,11 +7,6 @@ use Rattle.hoistable.proofs.child_by_key.Goals as goal
 pub loop-j-init : goal.loop-j-init
 loop-j-init c = seeking c.args.registry.now.words c.args.hoist.now c.args.parent (key_in c.args.key) _ refl c.requires.1
 
-pub is_child-requires : goal.is_child-requires
-is_child-requires c =
-    let counted = c.loop-j.invariant.counted in
-    c.requires.0.makers c.loop-j.j (omega arith)
-
 pub returns-then-is_child : goal.returns-then-is_child
 returns-then-is_child c =
     let counted = c.loop-j.invariant.counted in

@@ -4,7 +4,7 @@ use Rattle.rows.specs.declared.MembersFrom.{MembersFrom}
 use Rattle.hoistable.specs.Candidate.{entries_at}
 use Rattle.hoistable.proofs.Numbers.{holds_small}
 use Rattle.hoistable.proofs.Steps.{agrees_small}
-use Rattle.hoistable.proofs.Deciding.{deciding_start, deciding_end, deciding_inside, deciding_ahead, deciding_rest}
+use Rattle.hoistable.proofs.Deciding.{deciding_start, deciding_end, deciding_ahead, deciding_rest}
 use Rattle.hoistable.proofs.decided_levels.Goals as goal
 
 pub loop-k-init : goal.loop-k-init
@@ -13,9 +13,6 @@ loop-k-init c =
     c.args.set.words _ c.requires.1
     (ap (λ (m : MembersFrom). members_from m.set.now.words m.from) c.into_iter-k-iterator.ensures.into_iter_gives ∙ c.members-k-items.ensures)
     c.none-ahead.ensures c.none-rest.ensures
-
-pub follow-requires : goal.follow-requires
-follow-requires c = (c.requires.0, deciding_inside c.loop-k.invariant c.in-Some.ensures.steps)
 
 pub over-ahead-requires : goal.over-ahead-requires
 over-ahead-requires c = (holds_small c.loop-k.invariant.ahead, agrees_small c.follow.ensures)

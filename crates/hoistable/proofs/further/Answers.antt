@@ -4,14 +4,11 @@ use Prim.Native.Nat.{◌*◌}
 use native.Mathlib.Nat.{mul_comm}
 use mathlib.Core.Path.{ap, ◌∙◌}
 use Rattle.std.specs.Prelude.{Some, None}
-use Rattle.hoistable.proofs.Steps.{rest_read, further_apart, next_here, further_on, further_parted}
+use Rattle.hoistable.proofs.Steps.{further_apart, next_here, further_on, further_parted}
 use Rattle.hoistable.proofs.further.Goals as goal
 
 pub returns-in_default : goal.returns-in_default
 returns-in_default c i es d d' few child a = further_apart few child a c.in_default.is
-
-pub after_name-requires : goal.after_name-requires
-after_name-requires c = rest_read c.args.r c.in-Some.is c.requires.1
 
 pub returns-in-Some-after_name : goal.returns-in-Some-after_name
 returns-in-Some-after_name c i es d d' few child a =

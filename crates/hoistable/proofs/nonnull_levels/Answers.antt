@@ -1,6 +1,5 @@
 -- Where the words of the tree are given, the levels are read from them. Else what is NonNull in the
 -- tree is what the paths do not decide to be Optional.
-use native.Mathlib.Omega.{arith}
 use mathlib.Core.Path.{◌∙◌}
 use Rattle.rows.specs.Members.{members_of}
 use Rattle.registry.specs.Words.{registry_of}
@@ -9,13 +8,6 @@ use Rattle.hoistable.proofs.Numbers.{holds_small}
 use Rattle.hoistable.proofs.Trees.{decided_number}
 use Rattle.hoistable.proofs.Below.{tree_given, tree_levels}
 use Rattle.hoistable.proofs.nonnull_levels.Goals as goal
-
-pub child_by_key-root-requires : goal.child_by_key-root-requires
-child_by_key-root-requires c = ((tree_given c.args.tree (members_of c.args.set.words) c.in-Some.is c.requires.2).held, omega arith)
-
-pub levels_below-requires : goal.levels_below-requires
-levels_below-requires c =
-    ((tree_given c.args.tree (members_of c.args.set.words) c.in-Some.is c.requires.2).held, c.child_by_key-root.ensures.1, c.requires.0)
 
 pub nonnull-requires : goal.nonnull-requires
 nonnull-requires c = holds_small c.decided_levels-levels.ensures

@@ -1,18 +1,9 @@
-use native.Mathlib.Omega.{arith}
 use native.Mathlib.Nat.{lt_trans}
 use mathlib.Core.Path.{sym, ap, ◌∙◌}
 use Rattle.entries.specs.Path.{ReactiveScopeDependency}
-use Rattle.model.specs.Registry.{full_path_of}
-use Rattle.registry.specs.Words.{registry_of}
 use Rattle.hoistable.proofs.Nodes.{root_path, child_path}
-use Rattle.hoistable.proofs.Ways.{starts_or, starts_none, starts_child}
+use Rattle.hoistable.proofs.Ways.{starts_or, starts_child}
 use Rattle.hoistable.proofs.starts_optional.Goals as goal
-
-pub loop-p-init : goal.loop-p-init
-loop-p-init c = (c.requires, starts_none (full_path_of (registry_of c.args.registry.now.words) c.args.k).path)
-
-pub load-requires : goal.load-requires
-load-requires c = let room = c.args.registry.now.held.sized.room in let here = c.loop-p.invariant.0 in omega arith
 
 pub returns : goal.returns
 returns c =

@@ -2,12 +2,8 @@ use native.Mathlib.Omega.{arith}
 use mathlib.Core.Path.{sym}
 use Rattle.std.proofs.lemmas.Result.{err_from_is_err_and}
 use Rattle.registry.specs.Words.{registry_of}
-use Rattle.registry.proofs.View.{registry_length}
-use Rattle.paths.proofs.Entering.{child_made_at, entering_start, entering_end, entry_there, entering_full, entering_more}
+use Rattle.paths.proofs.Entering.{child_made_at, entering_end, entry_there, entering_full, entering_more}
 use Rattle.paths.proofs.enter_entries.Goals as goal
-
-pub loop-init : goal.loop-init
-loop-init c = entering_start _ _ _ _ _ c.args.count _ (omega arith) c.requires.0 c.requires.1 c.requires.2
 
 pub returns-in_err-entry : goal.returns-in_err-entry
 returns-in_err-entry c = entry_there c.loop.invariant (omega arith) (sym c.in_err-entry.ensures)
@@ -17,15 +13,6 @@ returns-in_err-node c =
     let full = c.in_err-node.ensures in
     let p = err_from_is_err_and c.from_residual-in_err-node.result c.from_residual-in_err-node.ensures.1 in
     rw (p.1, p.2, full.0) (entering_full c.loop.invariant (omega arith) (sym c.in_ok-entry.ensures) _ _ full.1)
-
-pub overflow_add-path : goal.overflow_add-path
-overflow_add-path c =
-    let few = c.loop.invariant.among in
-    let size = registry_length c.loop.registry.words in
-    let longer = (child_made_at (registry_of c.loop.registry.words) c.loop.path.node c.in_ok-entry.entry
-    c.get_or_create_property_entry.new.self.words _ _ c.in_ok-node.ensures.1).longer in
-    let room = c.in_ok-node.ensures.0.sized.room in
-    omega arith
 
 pub loop-preserved : goal.loop-preserved
 loop-preserved c =
