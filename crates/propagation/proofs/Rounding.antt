@@ -63,19 +63,19 @@ module _ (rule : JoiningRule) (g : List ℕ) where
         subst (λ (w : Work). node_limit < length w.registry) (sym (from_unchanged true))
         (lt_of_lt_of_le full (walk_adds rule g true (walk_in rule g false (work_of (size_in g) sets ws false))))
 
-    module _ (f bk dirty other : List ℕ) where
+    module _ (f bk : List ℕ) (dirty other : List Bool) where
       -- after its forward walk each set is reduced
       pub round_halfway : {os : List ℕ} → RowsStand (size_in g) sets ws os → {c : Bool} {ts vs ps : List ℕ} → HoldsWork
           (walk_in rule g false (work_of (size_in g) sets ws false)) (size_in g) c ts vs ps → AllReduced (size_in g) ts vs
       round_halfway s {c} {ts} {vs} h = reduced_rows (size_in g) ts vs c (walk_in rule g false (work_of (size_in g) sets ws false)) h.same
           (walk_reduces rule g (work_of (size_in g) sets ws false) (stands_proper s false))
 
-      module _ (orders : Orders rule g f bk dirty other sets) {c : Bool} {d' o' ts vs ps : List ℕ}
+      module _ (orders : Orders rule g f bk dirty other sets) {c : Bool} {d' o' : List Bool} {ts vs ps : List ℕ}
           (h : StepsTo rule g false f other sets (walk_in rule g false (work_of (size_in g) sets ws false)) c d' o' ts vs ps) where
         leads : walk_in rule g true (work_of (size_in g) ts vs c) ≡ round_in rule g (work_of (size_in g) sets ws true)
         leads = ap (walk_in rule g true) (sym h.holds.same) ∙ sym (from_unchanged true)
 
-        pub round_done : (r : Result Bool Refusal) (o'' d'' us xs os : List ℕ)
+        pub round_done : (r : Result Bool Refusal) (o'' d'' : List Bool) (us xs os : List ℕ)
             → Steps rule g true bk d' ts (walk_in rule g true (work_of (size_in g) ts vs c)) r o'' d'' us xs os
             → Turns rule g f bk (round_in rule g (work_of (size_in g) sets ws true)) r d'' o'' us xs os
         round_done (Ok c'') o'' d'' us xs os k = record {
@@ -92,7 +92,7 @@ module _ (rule : JoiningRule) (g : List ℕ) where
         round_done (Err e) o'' d'' us xs os k = (k.0, subst (λ (w : Work). node_limit < length w.registry) leads k.1)
 
 -- The loop over rounds: `ran` of them are run, and those still allowed lead to `end`.
-pub record Rounding (rule : JoiningRule) (g f bk : List ℕ) (end : Rounds Work) (dirty other sets ws os : List ℕ) (ran : ℕ) : Type 0 where
+pub record Rounding (rule : JoiningRule) (g f bk : List ℕ) (end : Rounds Work) (dirty other : List Bool) (sets ws os : List ℕ) (ran : ℕ) : Type 0 where
   pub orders : Orders rule g f bk dirty other sets
   pub stands : RowsStand (size_in g) sets ws os
   pub before : ReducedBefore (ltb 0 ran) (size_in g) sets ws
@@ -100,14 +100,15 @@ pub record Rounding (rule : JoiningRule) (g f bk : List ℕ) (end : Rounds Work)
 
 pub rounds_start : (rule : JoiningRule) (g f bk sets ws os : List ℕ) → RowsStand (size_in g) sets ws os → size_in g ≤ 128 → OrderNoted g false f
     → OrderNoted g true bk
-    → Rounding rule g f bk (propagate_non_null rule (graph_in g) (registry_of ws) (rows_of sets (size_in g))) (replicate 128 1) (replicate 128 1) sets ws os 0
+    → Rounding rule g f bk (propagate_non_null rule (graph_in g) (registry_of ws) (rows_of sets (size_in g))) (replicate 128 true) (replicate 128 true)
+    sets ws os 0
 unfolding propagate_non_null propagate_with rounds_from round work_of
 rounds_start rule g f bk sets ws os s few forth back = record {
   orders = record {
     forth = forth;
     back = back;
-    long_forth = length-replicate {A = ℕ} 128 1;
-    long_back = length-replicate {A = ℕ} 128 1;
+    long_forth = length-replicate {A = Bool} 128 true;
+    long_back = length-replicate {A = Bool} 128 true;
     clean_forth = λ b l e. absurd (all_dirty b l e);
     clean_back = λ b l e. absurd (all_dirty b l e);
   };
@@ -116,10 +117,10 @@ rounds_start rule g f bk sets ws os s few forth back = record {
   rest = refl;
 }
   where
-    all_dirty : (b : ℕ) → b < size_in g → get_or (replicate {A = ℕ} 128 1) b 0 ≡ 0 → ⊥
-    all_dirty b l e = let one = get_or-replicate {A = ℕ} 128 b 1 0 (omega arith) in omega arith
+    all_dirty : (b : ℕ) → b < size_in g → get_or (replicate {A = Bool} 128 true) b false ≡ false → ⊥
+    all_dirty b l e = never (get_or-replicate {A = Bool} 128 b true false (omega arith)) e
 
-module _ {rule : JoiningRule} {g f bk : List ℕ} {end : Rounds Work} {dirty other sets ws os : List ℕ} {ran : ℕ}
+module _ {rule : JoiningRule} {g f bk : List ℕ} {end : Rounds Work} {dirty other : List Bool} {sets ws os : List ℕ} {ran : ℕ}
     (r : Rounding rule g f bk end dirty other sets ws os ran) where
   abbrev now : Work
   now = work_of (size_in g) sets ws true
@@ -145,7 +146,7 @@ module _ {rule : JoiningRule} {g f bk : List ℕ} {end : Rounds Work} {dirty oth
     pub rounds_full : node_limit < length (round_in rule g now).registry → node_limit < length end.work.registry
     rounds_full full = lt_of_lt_of_le full after_round
 
-    module _ {c : Bool} {d' o' ts vs ps : List ℕ} (turned : TurnsTo rule g f bk (round_in rule g now) c d' o' ts vs ps) where
+    module _ {c : Bool} {d' o' : List Bool} {ts vs ps : List ℕ} (turned : TurnsTo rule g f bk (round_in rule g now) c d' o' ts vs ps) where
       held : HoldsWork (round_in rule g now) (size_in g) c ts vs ps
       held = turned.holds
 

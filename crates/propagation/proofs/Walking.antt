@@ -78,16 +78,17 @@ join_asks joining g backward b ms w =
     ap (λ (ns : List ℕ). join_with reduce_maybe_optional_chains ns b w) (rule_asks joining ms (neighbours g backward b))
 
 -- The loop over the steps: those from number i on lead from what the arrays hold to `end`.
-pub record Along (joining : Joining) (g : List ℕ) (backward later : Bool) (o other₀ sets₀ : List ℕ) (i : ℕ) (end : Work)
-    (dirty other sets ws os : List ℕ) (c : Bool) : Type 0 where
+pub record Along (joining : Joining) (g : List ℕ) (backward later : Bool) (o : List ℕ) (other₀ : List Bool) (sets₀ : List ℕ) (i : ℕ)
+    (end : Work) (dirty other : List Bool) (sets ws os : List ℕ) (c : Bool) : Type 0 where
   pub stands : RowsStand (size_in g) sets ws os
   pub before : ReducedBefore later (size_in g) sets ws
   pub flags : Flags (rule_of joining) g backward o dirty other sets
   pub others : (q : List ℕ) → Clean (rule_of joining) g (not backward) q other₀ sets₀ → Clean (rule_of joining) g (not backward) q other sets
   pub rest : take_steps (join_in (rule_of joining) g backward) (steps_from (size_in g) o i) (work_of (size_in g) sets ws c) ≡ end
 
-pub walk_begun : (joining : Joining) {g : List ℕ} (backward : Bool) {o dirty other sets ws os : List ℕ} {later : Bool} → Ready g sets ws os
-    → ReducedBefore later (size_in g) sets ws → OrderNoted g backward o → Flags (rule_of joining) g backward o dirty other sets → (c : Bool)
+pub walk_begun : (joining : Joining) {g : List ℕ} (backward : Bool) {o : List ℕ} {dirty other : List Bool} {sets ws os : List ℕ} {later : Bool}
+    → Ready g sets ws os → ReducedBefore later (size_in g) sets ws → OrderNoted g backward o
+    → Flags (rule_of joining) g backward o dirty other sets → (c : Bool)
     → Along joining g backward later o other sets 0 (walk_in (rule_of joining) g backward (work_of (size_in g) sets ws c)) dirty other sets ws os c
 unfolding walk_in
 walk_begun joining {g} backward {o} {dirty} {other} {sets} {ws} ready before order flags c = record {
@@ -108,8 +109,8 @@ steps_end : (n : ℕ) (o : List ℕ) (i : ℕ) → left_in o ≤ i → steps_fro
 unfolding steps_from
 steps_end n o i l = ap (map (step_left n o)) (places_end i (left_in o) l)
 
-module _ {joining : Joining} {g : List ℕ} {backward later : Bool} {o other₀ sets₀ : List ℕ} {i : ℕ} {end : Work}
-    {dirty other sets ws os : List ℕ} {c : Bool} (a : Along joining g backward later o other₀ sets₀ i end dirty other sets ws os c) where
+module _ {joining : Joining} {g : List ℕ} {backward later : Bool} {o : List ℕ} {other₀ : List Bool} {sets₀ : List ℕ} {i : ℕ} {end : Work}
+    {dirty other : List Bool} {sets ws os : List ℕ} {c : Bool} (a : Along joining g backward later o other₀ sets₀ i end dirty other sets ws os c) where
   pub walk_over : left_in o ≤ i → StepsTo (rule_of joining) g backward o other₀ sets₀ end c dirty other sets ws os
   walk_over l = record {
     holds = record {
@@ -138,7 +139,7 @@ module _ {joining : Joining} {g : List ℕ} {backward later : Bool} {o other₀ 
         (lt_of_lt_of_le full
         (steps_add (rule_of joining) g backward (steps_from (size_in g) o (i + 1)) (step_end (rule_of joining) g backward b o sets ws c)))
 
-    pub walk_more : {c' : Bool} {dirty' other' sets' ws' os' : List ℕ}
+    pub walk_more : {c' : Bool} {dirty' other' : List Bool} {sets' ws' os' : List ℕ}
         → StepsTo (rule_of joining) g backward o other sets (step_end (rule_of joining) g backward b o sets ws c) c' dirty' other' sets' ws' os'
         → Along joining g backward later o other₀ sets₀ (i + 1) end dirty' other' sets' ws' os' c'
     walk_more {c'} {dirty'} {other'} {sets'} {ws'} to = record {

@@ -15,7 +15,8 @@ unfoldable pub walk_in : JoiningRule → List ℕ → Bool → Work → Work
 walk_in rule g backward w = walk (size_in g) (neighbours g backward) (join_in rule g backward) (order_of backward (size_in g)) w
 
 -- The orders of both walks, and the dirty marks for each.
-pub record Orders (rule : JoiningRule) (g forward backward dirty-forward dirty-backward sets : List ℕ) : Type 0 where
+pub record Orders (rule : JoiningRule) (g forward backward : List ℕ) (dirty-forward dirty-backward : List Bool) (sets : List ℕ)
+    : Type 0 where
   pub forth : OrderNoted g false forward
   pub back : OrderNoted g true backward
   pub long_forth : length dirty-forward ≡ 128
@@ -25,12 +26,13 @@ pub record Orders (rule : JoiningRule) (g forward backward dirty-forward dirty-b
 
 -- A round that found room.
 pub record TurnsTo (rule : JoiningRule) (g forward backward : List ℕ) (want : Work) (changed : Bool)
-    (dirty-forward dirty-backward sets ws os : List ℕ) : Type 0 where
+    (dirty-forward dirty-backward : List Bool) (sets ws os : List ℕ) : Type 0 where
   pub holds : HoldsWork want (size_in g) changed sets ws os
   pub orders : Orders rule g forward backward dirty-forward dirty-backward sets
 
 -- What a round leaves; or its work has no room.
-abbrev pub Turns : JoiningRule → List ℕ → List ℕ → List ℕ → Work → Result Bool Refusal → List ℕ → List ℕ → List ℕ → List ℕ → List ℕ → Type 0
+abbrev pub Turns : JoiningRule → List ℕ → List ℕ → List ℕ → Work → Result Bool Refusal → List Bool → List Bool → List ℕ → List ℕ → List ℕ
+    → Type 0
 Turns rule g forward backward want (Ok c) dirty-forward dirty-backward sets ws os =
     TurnsTo rule g forward backward want c dirty-forward dirty-backward sets ws os
 Turns rule g forward backward want (Err e) dirty-forward dirty-backward sets ws os = (e ≡ ManyNodes) × (node_limit < length want.registry)

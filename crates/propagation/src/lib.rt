@@ -3,8 +3,10 @@
 // graph alone, so both are noted once, in 257 bytes for each direction: byte b is the mark of block
 // b, byte 128 + i the block that is left after i others, byte 256 how many are left. Mark 0 is an
 // unmarked block, 1 an Active one, and 255 - i a Done one that was left after i others, so that of
-// two blocks the one with the greater mark was left first. A block is dirty, with 1 for its byte,
-// where its join in a walk of that direction may have an effect.
+// two blocks the one with the greater mark was left first. A block is dirty where its join in a
+// walk of that direction may have an effect.
+// Design: the marks of an order stay numbers, since they also say which of two blocks was left
+// first, and 257 bytes are what is lent for an order: fixed memory.
 #![tactic(auto)]
 
 ghost use Rattle.std.specs.Prelude.{◌≡◌, true, false, ◌<◌, get_or, replicate};
@@ -123,15 +125,15 @@ fn note_order(graph: Graph, backward: bool, order: &mut [u8; 257])
     }
 }
 
-// The blocks that are to join again, by a byte for each.
+// The blocks that are to join again, by a mark for each.
 
 // These neighbours of a block are dirty.
-fn mark_neighbours(graph: Graph, backward: bool, b: usize, dirty: &mut [u8; 128])
+fn mark_neighbours(graph: Graph, backward: bool, b: usize, dirty: &mut [bool; 128])
     requires { b < size_in graph.bytes.now }
     ensures { MarksDirty (neighbours graph.entry.bytes.now backward b) dirty.old dirty.new }
 {
     for k in graph.neighbours(backward, b) {
-        dirty[k] = 1;
+        dirty[k] = true;
     }
 }
 
@@ -218,7 +220,7 @@ impl Walk<'_> {
     // Where the set of block b has changed, dirty are the blocks that it joins, in a walk of this
     // direction those on the other side, and in one of the other direction those on this side and
     // the block itself.
-    fn mark_changed(self, b: usize, changed: bool, dirty: &mut [u8; 128], other: &mut [u8; 128])
+    fn mark_changed(self, b: usize, changed: bool, dirty: &mut [bool; 128], other: &mut [bool; 128])
         requires { b < size_in self.graph.bytes.now }
         ensures { Touched self.entry.graph.bytes.now self.entry.backward b changed dirty.old other.old dirty.new other.new }
     {
@@ -227,7 +229,7 @@ impl Walk<'_> {
         }
         mark_neighbours(self.graph, !self.backward, b, dirty);
         mark_neighbours(self.graph, self.backward, b, other);
-        other[b] = 1;
+        other[b] = true;
     }
 
     // A block's join in a walk. In a walk later than the first, a block that is not dirty would
@@ -235,8 +237,8 @@ impl Walk<'_> {
     fn step(
         self,
         b: usize,
-        dirty: &mut [u8; 128],
-        other: &mut [u8; 128],
+        dirty: &mut [bool; 128],
+        other: &mut [bool; 128],
         sets: &mut [u64],
         registry: &mut Registry,
         changed: bool,
@@ -252,13 +254,13 @@ impl Walk<'_> {
             (work_of (size_in g) sets.old registry.old.words changed))
             result dirty.new other.new sets.new registry.new.words registry.new.optional.words }
     {
-        if self.later && dirty[b] == 0 {
+        if self.later && !dirty[b] {
             return Ok(changed);
         }
         let joined = self.join(b, sets, registry)?;
         self.mark_changed(b, joined.changed, dirty, other);
         // It is not dirty where the same join would leave its set.
-        dirty[b] = u8::from(!joined.idle);
+        dirty[b] = !joined.idle;
         Ok(changed | joined.changed)
     }
 
@@ -266,8 +268,8 @@ impl Walk<'_> {
     // it.
     fn run(
         self,
-        dirty: &mut [u8; 128],
-        other: &mut [u8; 128],
+        dirty: &mut [bool; 128],
+        other: &mut [bool; 128],
         sets: &mut [u64],
         registry: &mut Registry,
         changed: bool,
@@ -308,8 +310,8 @@ impl Walks<'_> {
     // `true`.
     fn round(
         self,
-        dirty: &mut [u8; 128],
-        other: &mut [u8; 128],
+        dirty: &mut [bool; 128],
+        other: &mut [bool; 128],
         sets: &mut [u64],
         registry: &mut Registry,
         later: bool,
@@ -353,8 +355,8 @@ impl Walks<'_> {
             (rows_of sets.old (size_in g)))
             (size_in g) result sets.new registry.new.words registry.new.optional.words }
     {
-        let mut dirty_forward = [1u8; 128];
-        let mut dirty_backward = [1u8; 128];
+        let mut dirty_forward = [true; 128];
+        let mut dirty_backward = [true; 128];
         for before in 0..100 {
             let changed = self.round(
                 &mut dirty_forward,
