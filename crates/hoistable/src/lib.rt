@@ -97,7 +97,7 @@ struct Levels {
 }
 
 // How far a path agrees with a candidate: the levels that it decides, and the entries that the
-// candidate has beyond it, if it has all the path's candidate.
+// candidate has beyond it, if it has all the path's names.
 #[derive(Clone, Copy)]
 struct Agreement {
     pub levels: Levels,
