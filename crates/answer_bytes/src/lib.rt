@@ -10,7 +10,7 @@ ghost use Rattle.rows.specs.Members.{members_of};
 ghost use Rattle.registry.specs.Words.{registry_of};
 ghost use Rattle.hoistable.specs.Positions.{MayHoldTree};
 ghost use Rattle.writer.specs.Writes.{HasRoom, Puts};
-ghost use Rattle.answer_bytes.specs.Answers.{CandidatesAt, TreeRoom, AddsCandidates, head_bytes, WritesAnswer};
+ghost use Rattle.answer_bytes.specs.Answers.{CandidatesAt, TreeRoom, Given, Added, head_bytes, WritesAnswer};
 
 use entries::RoundsRun;
 use hoistable::{CandidateNames, Entries};
@@ -28,22 +28,31 @@ const SEVERAL: usize = 3;
 // Up to so many nodes it is built in fewer words, which take less time to clear.
 const FEW_NODES: usize = 64;
 
-// Each candidate from a place on walks, and is added to the dependency tree, whatever its words
-// were. `hoist` is the hoistable tree of the scope block's set, where it was built.
-fn walk_candidates(
-    tree: &mut [u64],
-    hoist: Option<&[u64]>,
-    s: &[u8],
-    registry: &Registry,
+// The candidates of a job, from a place in its bytes on, and what they walk by: the registry, and
+// the scope block's set.
+#[derive(Clone, Copy)]
+struct Candidates<'a> {
+    s: &'a [u8],
+    registry: &'a Registry,
     set: NodeBits,
     start: usize,
     count: usize,
-)
-    requires { TreeRoom tree.old count × Members (registry_of registry.now.words) (members_of set.words)
-        × CandidatesAt s.now start count × MayHoldTree registry.now.words (option_copied hoist) (members_of set.words) }
-    ensures { AddsCandidates s.now start count (registry_of registry.now.words)
-        (members_of set.words) tree.new }
+}
+
+// Each candidate walks, and is added to the dependency tree, whatever its words were. `hoist` is the
+// hoistable tree of the scope block's set, where it was built.
+fn walk_candidates(candidates: &Candidates, tree: &mut [u64], hoist: Option<&[u64]>)
+    requires { TreeRoom tree.old candidates.now.count × Given candidates.now
+        × MayHoldTree candidates.now.registry.now.words (option_copied hoist) (members_of candidates.now.set.words) }
+    ensures { Added candidates.now tree.new }
 {
+    let Candidates {
+        s,
+        registry,
+        set,
+        start,
+        count,
+    } = *candidates;
     tree::clear(tree);
     let mut at = start;
     for _ in 0..count {
@@ -67,50 +76,34 @@ fn walk_candidates(
 // The candidates walk with the hoistable tree, built in words that are lent, or without it where
 // there is no room. `add_candidates` lends enough, since each position has a node of its own, but
 // no proof needs that.
-fn walk_with_tree(
-    tree: &mut [u64],
-    hoist: &mut [u64],
-    s: &[u8],
-    registry: &Registry,
-    set: NodeBits,
-    start: usize,
-    count: usize,
-)
-    requires { TreeRoom tree.old count × Members (registry_of registry.now.words) (members_of set.words)
-        × CandidatesAt s.now start count × (0 < length hoist.old) × (length hoist.old ≤ 513) }
-    ensures { AddsCandidates s.now start count (registry_of registry.now.words)
-        (members_of set.words) tree.new }
+fn walk_with_tree(candidates: &Candidates, tree: &mut [u64], hoist: &mut [u64])
+    requires { TreeRoom tree.old candidates.now.count × Given candidates.now × (0 < length hoist.old) × (length hoist.old ≤ 513) }
+    ensures { Added candidates.now tree.new }
 {
-    let built: Option<&[u64]> = match hoistable::build_tree(hoist, registry, set) {
+    let built: Option<&[u64]> = match hoistable::build_tree(
+        hoist,
+        candidates.registry,
+        candidates.set,
+    ) {
         Some(()) => Some(hoist),
         None => None,
     };
-    walk_candidates(tree, built, s, registry, set, start, count);
+    walk_candidates(candidates, tree, built);
 }
 
-// The dependency tree of the candidates from a place on, whatever the words were; `set` is the
-// scope block's.
-fn add_candidates(
-    tree: &mut [u64],
-    s: &[u8],
-    registry: &Registry,
-    set: NodeBits,
-    start: usize,
-    count: usize,
-)
-    requires { TreeRoom tree.old count × Members (registry_of registry.now.words) (members_of set.words)
-        × CandidatesAt s.now start count }
-    ensures { AddsCandidates s.now start count (registry_of registry.now.words) (members_of set.words)
-        tree.new }
+// The dependency tree of the candidates, whatever the words were.
+fn add_candidates(candidates: &Candidates, tree: &mut [u64])
+    requires { TreeRoom tree.old candidates.now.count × Given candidates.now }
+    ensures { Added candidates.now tree.new }
 {
-    if count < SEVERAL {
-        walk_candidates(tree, None, s, registry, set, start, count);
-    } else if registry.count() <= FEW_NODES {
+    if candidates.count < SEVERAL {
+        walk_candidates(candidates, tree, None);
+    } else if candidates.registry.count() <= FEW_NODES {
         let mut hoist = [0u64; 65];
-        walk_with_tree(tree, &mut hoist, s, registry, set, start, count);
+        walk_with_tree(candidates, tree, &mut hoist);
     } else {
         let mut hoist = [0u64; 513];
-        walk_with_tree(tree, &mut hoist, s, registry, set, start, count);
+        walk_with_tree(candidates, tree, &mut hoist);
     }
 }
 
@@ -141,7 +134,14 @@ pub fn put_answer(
     ensures { WritesAnswer s.now start count (registry_of registry.now.words)
         (members_of set.words) run.rounds run.settled out.old out.new result }
 {
-    add_candidates(tree, s, registry, set, start, count);
+    let candidates = Candidates {
+        s,
+        registry,
+        set,
+        start,
+        count,
+    };
+    add_candidates(&candidates, tree);
     let mut w = Writer { out, at: 6 };
     let count = tree::derive_minimal_dependencies(tree, s, &mut w);
     let end = w.at;

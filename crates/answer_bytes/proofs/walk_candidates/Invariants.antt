@@ -5,10 +5,10 @@ use mathlib.Core.Path.{◌≡◌}
 use lib.ListN.{length}
 use Rattle.registry.specs.Words.{registry_of}
 use Rattle.rows.specs.Members.{members_of}
-use Rattle.answer_bytes.proofs.Candidates.{Adding}
+use Rattle.answer_bytes.proofs.Walks.{Adding}
 use Rattle.answer_bytes.proofs.walk_candidates.Given as goal
 
 abbrev pub invariant-loop : goal.invariant-loop
 invariant-loop l =
-    Adding l.s l.start l.count (registry_of l.registry.words) (members_of l.set.words) l.tree l.at (l.count - l.counter)
+    Adding l.candidates.s.now l.candidates.start l.candidates.count (registry_of l.candidates.registry.now.words) (members_of l.candidates.set.words) l.tree l.at (l.candidates.count - l.counter)
     × (length l.tree ≡ length l.initial.tree)
