@@ -8,4 +8,4 @@ returns-in-Ok c = written c.args.program c.args.job.now c.args.out.now _ c.requi
 
 pub returns-in-Err : goal.returns-in-Err
 returns-in-Err c =
-    refused c.args.program c.args.job.now c.args.out.now _ c.requires c.perform.ensures c.in-Err.is c.number.ensures c.copy_from_slice.ensures.after
+    refused c.args.program c.args.job.now c.args.out.now _ c.requires c.perform.ensures c.in-Err.is c.from.ensures c.copy_from_slice.ensures.after
