@@ -1,21 +1,17 @@
 -- What the reader kept and noted of an accepted job.
-use Prim.Native.Nat.{ℕ, zero, suc, ◌≤◌, ◌<◌}
+use Prim.Native.Nat.{ℕ, zero, suc, ◌≤◌}
 use native.Mathlib.Omega.{arith}
-use mathlib.Core.Path.{◌≡◌, refl, sym, ap, subst, ◌∙◌}
+use mathlib.Core.Path.{◌≡◌, refl, sym, ap, ◌∙◌}
 use mathlib.Core.List.{List, [], ◌∷◌, map}
 use lib.ListN.{length, get_or, take}
-use Rattle.std.specs.Prelude.{Option, Some, None, Result, Ok, Err}
+use Rattle.std.specs.Prelude.{Some, None, Ok}
 use lib.Seq.{sets, get_or-take, length-sets}
 use Rattle.entries.specs.declared.BlockId.{BlockId}
-use Rattle.entries.specs.declared.Refusal.{Refusal}
 use Rattle.model.specs.ReadingBytes.{Read, got, refused}
 use Rattle.model.specs.Job.{HD, Block, Job, ids_of, read_job, block_id}
-use Rattle.model.specs.Stage.{block_at}
-use Rattle.model.specs.Answer.{longest_job}
-use Rattle.job.specs.Kept.{BlocksAt, block_places, block_numbers, head_of, kept_of}
+use Rattle.job.specs.Kept.{block_places, block_numbers, kept_of}
 use Rattle.job.specs.declared.JobHead.{JobHead}
 use Rattle.job.proofs.Accepted.{accepted}
-use Rattle.job.proofs.Records.{answer_refused}
 use Rattle.job.proofs.Stored.{stored}
 use Rattle.edges.specs.Fills.{IdsAt}
 use Rattle.stage.specs.Jobs.{AcceptedJob, head_in}

@@ -4,43 +4,26 @@ use Prim.Native.Nat.{ℕ, ◌≤◌, ◌<◌}
 use native.Mathlib.Omega.{arith}
 use native.Mathlib.Nat.{zero-add}
 use mathlib.Core.Path.{◌≡◌, refl, sym, ap, subst, ◌∙◌}
-use mathlib.Core.Bool.{true, false, cond}
+use mathlib.Core.Bool.{cond}
 use mathlib.Core.List.{List, ◌++◌}
 use lib.ListN.{length, drop}
-use lib.Seq.{sets, sets-eq}
-use lib.Dec.{ltb}
+use lib.Seq.{sets-eq}
 use Rattle.entries.specs.declared.Refusal.{Refusal}
-use Rattle.entries.specs.declared.Refusal.TheVariants.{ShortBuffer, LongJob, ManyNodes}
+use Rattle.entries.specs.declared.Refusal.TheVariants.{ManyNodes}
 use Rattle.model.specs.Tests.{ltb_less, ltb_not_less}
-use Rattle.model.specs.ReadingBytes.{Read, got, refused}
+use Rattle.model.specs.ReadingBytes.{got}
 use Rattle.model.specs.Registry.{node_limit}
 use Rattle.model.specs.Rounds.{Rounds}
-use Rattle.model.specs.Propagation.{Work, JoiningRule, done_neighbours}
+use Rattle.model.specs.Propagation.{Work, JoiningRule}
 use Rattle.model.specs.Job.{HD, Job, read_job}
 use Rattle.model.specs.Stage.{start_of, propagated}
-use Rattle.model.specs.Answer.{
-  Verdict,
-  writes,
-  turns_back,
-  within_nodes,
-  on_job,
-  least_buffer,
-  longest_job,
-  span_width,
-  verdict,
-  answer_of,
-  sheet_of,
-  buffer_after,
-}
-use Rattle.model.specs.Strict.{strict_neighbours, strict_answer_of, strict_sheet_of}
-use Rattle.registry.specs.Words.{registry_of, Held}
+use Rattle.model.specs.Answer.{Verdict, writes, turns_back, within_nodes, on_job, least_buffer, longest_job, span_width, buffer_after}
 use Rattle.registry.proofs.View.{registry_length}
 use Rattle.writer.specs.Writes.{Writes}
 use Rattle.propagation.specs.declared.RoundsRun.{RoundsRun}
 use Rattle.propagation.specs.Propagates.{HoldsRounds}
 use Rattle.propagation.proofs.Answers.{propagated_registry}
 use Rattle.stage.specs.declared.Operation.{Operation}
-use Rattle.stage.specs.declared.Operation.TheVariants as operation
 use Rattle.std.specs.Prelude.{Result, Ok, Err}
 use Rattle.stage.specs.declared.Accepted.{Accepted}
 use Rattle.stage.specs.Jobs.{operation_bytes, outcome_of, TurnedBack, Meets, verdict_of, job_verdict}

@@ -1,9 +1,8 @@
 -- The propagation of a job: its assumed paths entered and its graph filled are what the definition
 -- starts from.
-use Prim.Native.Nat.{ℕ, ◌+◌, ◌≤◌, ◌<◌}
+use Prim.Native.Nat.{ℕ, ◌+◌, ◌<◌}
 use native.Mathlib.Omega.{arith}
-use mathlib.Core.Path.{◌≡◌, refl, sym, ap, subst, ◌∙◌}
-use mathlib.Core.Bool.{true, false}
+use mathlib.Core.Path.{◌≡◌, sym, ap, subst, ◌∙◌}
 use mathlib.Core.List.{List, []}
 use lib.ListN.{length}
 use Rattle.model.specs.ListLaws.{All}
@@ -12,10 +11,10 @@ use Rattle.model.specs.Registry.{node_limit, PropertyPathRegistry}
 use Rattle.model.proofs.RegistryLaws.{extends_length}
 use Rattle.model.specs.ReductionLaws.{Members}
 use Rattle.model.specs.Rounds.{Rounds}
-use Rattle.model.specs.Propagation.{Work, Graph, JoiningRule, propagate_non_null, round_start}
+use Rattle.model.specs.Propagation.{Work, JoiningRule, propagate_non_null}
 use Rattle.model.proofs.PropagationLaws.{propagated_extends, blocks_longer, start_proper}
 use Rattle.model.specs.Job.{Block}
-use Rattle.model.specs.Stage.{Started, graph_of, start_of, propagated}
+use Rattle.model.specs.Stage.{graph_of, start_of, propagated}
 use Rattle.rows.specs.Rows.{rows_of}
 use Rattle.registry.specs.Words.{registry_of}
 use Rattle.job.specs.Kept.{blocks_of}

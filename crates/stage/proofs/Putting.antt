@@ -7,26 +7,23 @@ use mathlib.Core.Bool.{false, not, cond}
 use mathlib.Core.List.{List, [], ◌∷◌, map, ◌++◌}
 use lib.ListN.{length, get_or, take, length-append}
 use borrow.Author.Tests.{not-false}
-use Rattle.entries.specs.Path.{ReactiveScopeDependency}
 use Rattle.model.specs.Lists.{concat_map, any_of}
-use Rattle.model.specs.ListLaws.{All, all_get_or}
+use Rattle.model.specs.ListLaws.{all_get_or}
 use Rattle.model.specs.Sets.{NodeSet}
 use Rattle.model.specs.ReadingBytes.{got, read_many}
-use Rattle.model.specs.Job.{HD, CA, Block, Job, read_path, read_job, contains_id, ids_of, has_unknown}
-use Rattle.model.specs.Registry.{PropertyPathRegistry, full_path_of}
+use Rattle.model.specs.Job.{CA, Block, Job, read_path, contains_id, ids_of, has_unknown}
+use Rattle.model.specs.Registry.{full_path_of}
 use Rattle.model.specs.ReductionLaws.{Members}
 use Rattle.model.specs.Rounds.{Rounds}
 use Rattle.model.specs.Propagation.{Work, set_of}
 use Rattle.model.proofs.PropagationLaws.{members_empty}
 use Rattle.model.specs.Tree.{derive_minimal_dependencies}
 use Rattle.model.specs.Stage.{Started, place_of, hoistable_paths, returned_paths}
-use Rattle.model.specs.Answer.{u8, u16, flag, AN, DE, path_bytes, answer_bytes, node_bytes, set_bytes, sheet_head, sheet_bytes, span_width, least_buffer}
+use Rattle.model.specs.Answer.{answer_bytes, node_bytes, set_bytes, sheet_head, sheet_bytes, span_width, least_buffer}
 use Rattle.rows.specs.Rows.{row_of, rows_of}
 use Rattle.rows.proofs.Rows.{row_at}
 use Rattle.registry.specs.Words.{registry_of, Sized}
 use Rattle.writer.specs.Writes.{Writes}
-use Rattle.writer.proofs.Bytes.{writes_as}
-use Rattle.job.specs.Kept.{BlocksAt, head_of}
 use Rattle.job.specs.declared.JobHead.{JobHead}
 use Rattle.job.proofs.BlocksAt.{job_accepted, same_job}
 use Rattle.laws.specs.Membership.{Member, neither}

@@ -1,23 +1,18 @@
 -- The thin job by its verdict: refusals 1 and 2 by the lengths, 3 to 8 by the reader, and its
 -- bytes.
-use Prim.Native.Nat.{ℕ, ◌≤◌, ◌<◌}
+use Prim.Native.Nat.{ℕ, ◌≤◌}
 use native.Mathlib.Omega.{arith}
 use native.Mathlib.Nat.{zero-add}
-use mathlib.Core.Path.{◌≡◌, refl, sym, subst, ap, ◌∙◌}
+use mathlib.Core.Path.{◌≡◌, refl, subst, ap, ◌∙◌}
 use mathlib.Core.List.{List}
 use lib.ListN.{length}
-use lib.Dec.{ltb}
 use Rattle.entries.specs.declared.Refusal.{Refusal}
-use Rattle.entries.specs.declared.Refusal.TheVariants.{ShortBuffer, LongJob}
-use Rattle.model.specs.Tests.{ltb_less, ltb_not_less}
-use Rattle.model.specs.ReadingBytes.{Read, got, refused}
-use Rattle.model.specs.Job.{HD, Job, read_job}
+use Rattle.model.specs.Tests.{ltb_not_less}
+use Rattle.model.specs.Job.{HD, read_job}
 use Rattle.model.specs.JobBytes.{job_bytes}
-use Rattle.model.specs.Answer.{Verdict, writes, turns_back, longest_job, span_width}
-use Rattle.model.specs.Thin.{thinned, least_thin_buffer, on_thin_job, thin_verdict, thin_of}
-use Rattle.writer.specs.Writes.{Writes}
-use Rattle.job.specs.Kept.{head_of, kept_of}
-use Rattle.job.specs.declared.JobHead.{JobHead}
+use Rattle.model.specs.Answer.{turns_back, longest_job, span_width}
+use Rattle.model.specs.Thin.{thinned, least_thin_buffer, on_thin_job, thin_of}
+use Rattle.job.specs.Kept.{kept_of}
 use Rattle.job.proofs.Accepted.{Accepted as IsAccepted, accepted}
 use Rattle.thin_bytes.specs.Thins.{JobThere, ThinsJob}
 use Rattle.std.specs.Prelude.{Ok}

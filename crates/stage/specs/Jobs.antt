@@ -1,11 +1,10 @@
 -- The operations on a job, and what their parts leave in the lent words and in the buffer.
-use Rattle.std.specs.Prelude.{ℕ, ◌^◌, ◌≤◌, ◌<◌, ◌≡◌, List, map, length, take, ℤ, pos, neg_ℤ, replicate, Option, Some, None, Result, Ok, Err}
+use Rattle.std.specs.Prelude.{ℕ, ◌^◌, ◌≤◌, ◌<◌, ◌≡◌, List, map, length, take, ℤ, pos, neg_ℤ, Option, Some, None, Result, Ok, Err}
 use Rattle.entries.specs.declared.Refusal.{Refusal}
 use Rattle.entries.specs.Refusals.{refusal_number}
 use Rattle.model.specs.ListLaws.{All}
 use Rattle.model.specs.ReadingBytes.{Read, got, refused}
 use Rattle.model.specs.Job.{HD, Job, ids_of, read_job, block_id}
-use Rattle.model.specs.RegistryLaws.{Sound}
 use Rattle.model.specs.ReductionLaws.{Members}
 use Rattle.model.specs.Rounds.{Rounds}
 use Rattle.model.specs.Propagation.{Work, JoiningRule}
@@ -25,9 +24,9 @@ use Rattle.model.specs.Answer.{
   buffer_after,
 }
 use Rattle.rows.specs.Rows.{Lent, rows_of}
-use Rattle.registry.specs.Words.{registry_of, Sized}
+use Rattle.registry.specs.Words.{registry_of}
 use Rattle.writer.specs.Writes.{Writes}
-use Rattle.job.specs.Kept.{block_places, block_numbers, blocks_of, head_of, kept_of}
+use Rattle.job.specs.Kept.{blocks_of, head_of}
 use Rattle.job.specs.declared.JobHead.{JobHead}
 use Rattle.std.proofs.lemmas.List.Edits.{sets}
 use Rattle.edges.specs.Fills.{NotedJob}

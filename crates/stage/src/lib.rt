@@ -90,13 +90,23 @@ impl<'a> Accepted<'a> {
             return Err(Refusal::LongJob);
         }
         let head = reader::read_job(s, ids, places)?;
-        Ok(Accepted { s, ids, places, head })
+        Ok(Accepted {
+            s,
+            ids,
+            places,
+            head,
+        })
     }
 
     // The operation, with words of its own, fewer for few blocks and candidates.
     // Design: two arrays and one function over slices, as in `propagate`. As a const parameter the
     // two lengths would stand at two calls all the same, and all below would be compiled twice.
-    fn perform(&self, joining: Joining, operation: Operation, out: &mut [u8]) -> Result<usize, Refusal>
+    fn perform(
+        &self,
+        joining: Joining,
+        operation: Operation,
+        out: &mut [u8],
+    ) -> Result<usize, Refusal>
         requires { least_buffer ≤ length out.old }
         ensures { Meets (job_verdict (rule_of joining) operation self.now.s.now) result out.old out.new }
     {
@@ -121,7 +131,13 @@ impl<'a> Accepted<'a> {
         ensures { Meets (job_verdict (rule_of joining) operation self.now.s.now) result out.old out.new }
     {
         let mut registry = Registry::new();
-        let made = assumed::enter_blocks(self.s, self.places, self.head.blocks, &mut registry, work)?;
+        let made = assumed::enter_blocks(
+            self.s,
+            self.places,
+            self.head.blocks,
+            &mut registry,
+            work,
+        )?;
         let run = self.propagate(joining, &mut registry, work)?;
         let written = self.put(operation, &registry, work, made, run, out);
         Ok(written)
