@@ -5,14 +5,12 @@ use mathlib.Core.Path.{◌≡◌, refl, sym, ap, ◌∙◌}
 use mathlib.Core.List.{List, [], ◌∷◌}
 use lib.ListN.{drop}
 use Rattle.entries.specs.declared.Refusal.{Refusal}
-use Rattle.entries.specs.declared.PropertyLiteral.{PropertyLiteral}
 use Rattle.entries.specs.declared.DependencyPathEntry.{DependencyPathEntry}
-use Rattle.entries.specs.Path.{same_property}
 use Rattle.model.specs.ReadingBytes.{got, refused, read_many}
 use Rattle.model.specs.Job.{read_entry}
 use Rattle.job.proofs.Many.{many_first}
 use Rattle.hoistable.specs.Candidate.{entries_of, entries_at, Reads, AreRead, Candidate}
-use Rattle.hoistable.specs.Agreement.{next_same, Follows}
+use Rattle.hoistable.specs.Agreement.{Follows}
 use Rattle.std.specs.Prelude.{Some, None}
 
 -- what a caller knows of a candidate that it has read
@@ -58,8 +56,3 @@ module _ {left : ℕ} {s : List ℕ} {at : ℕ} (r : AreRead left s at) where
           },
           omega (arith, some),
         )
-
--- the next entry decides whether its name is the one asked for
-pub name_follows : (q : PropertyLiteral) (es : List DependencyPathEntry) {e : DependencyPathEntry} → es ≡ e ∷ drop 1 es
-    → next_same q es ≡ same_property q e.property
-name_follows q es is = ap (next_same q) is

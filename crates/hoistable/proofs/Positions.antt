@@ -1,56 +1,22 @@
--- The positions in the words: a word's parts, the search below a number, and one position more.
-use Prim.Native.Nat.{ℕ, suc, ◌+◌, ◌*◌, ◌-◌, ◌/◌, ◌≤◌, ◌<◌}
+-- The positions in the words: the search below a number, and one position more.
+use Prim.Native.Nat.{ℕ, suc, ◌+◌, ◌-◌, ◌≤◌, ◌<◌}
 use native.Mathlib.Omega.{arith}
 use native.Mathlib.Numerals.{add-one}
 use Rattle.std.specs.Prelude.{Option, Some, None, is_some}
 use mathlib.Core.Path.{◌≡◌, refl, sym, ap, subst, ◌∙◌}
 use mathlib.Core.Logic.{◌≢◌}
-use mathlib.Core.Bool.{Bool, true, false, ◌&&◌, not, cond}
+use mathlib.Core.Bool.{Bool, true, false, ◌&&◌, cond}
 use mathlib.Core.List.{List, [], ◌∷◌, ◌++◌}
 use lib.ListN.{length, get_or, set, length-set}
 use lib.Seq.{get_or-set_same, get_or-set_other}
 use lib.Dec.{eqb}
-use Rattle.model.specs.Tests.{decide, never, eqb-true, eqb-false, eqb_equal, eqb_apart}
-use Rattle.model.specs.Answer.{flag}
+use Rattle.model.specs.Tests.{decide, never, eqb-true, eqb-false}
 use Rattle.model.specs.Forest.{Key, same_key}
-use Rattle.model.specs.Tree.{HoistablePosition, hoistable_key, first_made, access_is_non_null}
+use Rattle.model.specs.Tree.{HoistablePosition, hoistable_key, first_made}
 use Rattle.laws.specs.Flat as Flat
 use Rattle.laws.specs.FlatSteps.{run, run_length, run_same, run_snoc, run_before, ParentsBefore, seek, seek_after, reached, one_more, one_new, one_found}
 use Rattle.registry.specs.Words.{stored_node}
-use Rattle.hoistable.specs.Positions.{
-  key_of,
-  access_of,
-  position_of,
-  maker_in,
-  parent_in,
-  optional_in,
-  IsWord,
-  node_of,
-  position_at,
-  positions_in,
-  flat_of,
-  number_below,
-  number_in,
-  Stands,
-  HoldsPositions,
-  Entered,
-  Enters,
-}
-
--- A word's parts.
-
-module _ (k parent : ℕ) (small : k < 512) (low : parent ≤ 512) where
-  pub plain_word : (word : ℕ) → word ≡ k + parent * 1024 → IsWord word k parent false
-  plain_word word is = record { maker = omega arith; above = omega arith; mark = eqb_apart (word / 1048576) 1 (λ e. omega arith) }
-
-  pub optional_word : (word : ℕ) → word ≡ k + parent * 1024 + 1048576 → IsWord word k parent true
-  optional_word word is = record { maker = omega arith; above = omega arith; mark = eqb_equal (word / 1048576) 1 (omega arith) }
-
-pub nonnull_optional : (word : ℕ) → word / 1048576 ≡ 1 → 0 ≡ flag (access_is_non_null (access_of (optional_in word)))
-nonnull_optional word is = rw (eqb_equal (word / 1048576) 1 is)
-
-pub nonnull_plain : (word : ℕ) → ¬ (word / 1048576 ≡ 1) → 1 ≡ flag (access_is_non_null (access_of (optional_in word)))
-nonnull_plain word not = rw (eqb_apart (word / 1048576) 1 not)
+use Rattle.hoistable.specs.Positions.{key_of, access_of, position_of, maker_in, parent_in, IsWord, node_of, position_at, positions_in, flat_of, number_below, number_in, Stands, HoldsPositions, Entered, Enters}
 
 -- The search below a number: what is left of it finds what the whole finds.
 
