@@ -106,6 +106,8 @@ fn enter_block(s: &[u8], at: usize, registry: &mut Registry) -> Result<EnteredSe
 
 // The assumed paths of all blocks of the job that was read, in job order, into a registry that has
 // no node: how many nodes were made in all.
+// Design: `places` is the reader's array, with the number of blocks beside it (fixed memory).
+// `PlacedJob`, which the reader ensures, speaks of both.
 pub fn enter_blocks(
     s: &[u8],
     places: &[usize; 128],
