@@ -2,7 +2,7 @@
 use Prim.Native.Nat.{ℕ, ◌≤◌, ◌<◌}
 use native.Mathlib.Omega.{arith}
 use mathlib.Core.Path.{◌≡◌, refl, sym, ap, subst, ◌∙◌}
-use mathlib.Core.Bool.{Bool, true, false, ◌||◌, not, cond, or-false, or-true}
+use mathlib.Core.Bool.{Bool, true, false, ◌||◌, not, cond, or-true}
 use mathlib.Core.List.{List, [], ◌∷◌}
 use lib.ListN.{length}
 use Rattle.entries.specs.declared.NodeId.{NodeId}
@@ -11,7 +11,7 @@ use Rattle.registry.specs.Words.{count_in, registry_of, Held}
 use Rattle.registry.proofs.View.{registry_length}
 use Rattle.model.specs.Lists.{select}
 use Rattle.model.specs.ListLaws.{All, all_map, all_select, select_same}
-use Rattle.model.specs.Tests.{eqb_same, eqb_apart}
+use Rattle.model.specs.Tests.{eqb_apart}
 use Rattle.model.specs.Sets.{NodeSet, same_node, contains, insert, remove, intersection}
 use Rattle.model.specs.Registry.{node_limit, PropertyPathRegistry, Reached, full_path_of, walk_path}
 use Rattle.model.specs.RegistryLaws.{Sound, Proper, Extends}
@@ -52,11 +52,6 @@ module _ (ws s : List ℕ) (changed : Bool) (k : NodeId) where
     node_inside h room = let size = registry_length vs in let l = (subst Proper walked
         (path_proper (reduced_mark (members_of s)) reg (full_path_of reg k) h)).inside in omega arith
 
-    pub node_same : q.0 ≡ k.0 → wanted ≡ pass_of (registry_of vs) s changed
-    node_same e =
-        let here : same_node q k ≡ true = ap (λ i. lib.Dec.eqb i k.0) e ∙ eqb_same k.0 in
-        is_from ∙ ap from walked ∙ rw (here, or-false changed)
-
     pub node_moved : ¬ (q.0 ≡ k.0) → (t : List ℕ) → members_of t ≡ insert q (remove k (members_of s)) → wanted ≡ pass_of (registry_of vs) t true
     node_moved other t e =
         let there : same_node q k ≡ false = eqb_apart q.0 k.0 other in
@@ -84,10 +79,6 @@ along_start ws os s left held members taken = record {
   where
     marked : left ≡ select (has_optional (registry_of ws)) (members_of s)
     marked = taken ∙ select_same (contains (members_of os)) (has_optional (registry_of ws)) (members_of s) (all_noted ws os held (members_of s))
-
-pub along_end : {end : PassState} {ws s : List ℕ} {changed : Bool} {left : NodeSet} → Along end ws s changed left → left ≡ []
-    → end ≡ pass_of (registry_of ws) s changed
-along_end {ws = ws} {s = s} {changed = changed} a none = sym a.on ∙ ap (reduce_nodes (pass_of (registry_of ws) s changed)) none
 
 -- one node more
 module _ {end : PassState} {ws s : List ℕ} {changed : Bool} {left : NodeSet} (a : Along end ws s changed left)

@@ -39,24 +39,7 @@ use Rattle.model.specs.Registry.{
 }
 use Rattle.model.specs.RegistryLaws as Placed
 use Rattle.model.specs.RegistryLaws.{Sound, Proper, Extends}
-use Rattle.model.proofs.RegistryLaws.{
-  WasFound,
-  WasMade,
-  found_or_made,
-  entry_optional,
-  extends_length,
-  find_extends,
-  ensure_extends,
-  path_extends,
-  path_proper,
-  found,
-  makes_longer,
-  path_longer,
-  again_root,
-  again_child,
-  child_after,
-  child_found,
-}
+use Rattle.model.proofs.RegistryLaws.{WasFound, WasMade, found_or_made, entry_optional, extends_length, find_extends, ensure_extends, path_extends, path_proper, found, path_longer, again_root, again_child, child_after, child_found}
 use Rattle.model.specs.Sets.{NodeSet, same_node}
 use Rattle.model.specs.Reduction.{reduced_mark}
 use Rattle.model.specs.ReductionLaws.{LeadsBack}
@@ -85,22 +68,6 @@ module _ (mark : NodeId → DependencyPathEntry → Bool) (reg : PropertyPathReg
       ∙ ap (λ (i : ℕ). get_or_create_property_entry reg (record { 0 = i }) e) here ∙ found (is_child_by p e) (child_node p (full_path_of reg p) e) reg k
       c.inside c.first in
       stepped_is before ∙ ap (after_making before) there ∙ (λ i. record { registry = reg; node = k; made = add-zero before i })
-
-  -- there is no room for the child
-  pub step_full : (before : ℕ) → node_limit < length child_of_reached.registry → node_limit < length (stepped before).registry
-  step_full before full = subst (λ (y : Reached). node_limit < length y.registry) (sym (stepped_is before)) full
-
-  -- the child is found or made
-  module _ (ws : List ℕ) (r : NodeId) (made_here : ℕ) (is : child_of_reached ≡ record { registry = registry_of ws; node = r; made = made_here }) where
-    pub step_made : (before : ℕ) → stepped before ≡ record { registry = registry_of ws; node = r; made = before + made_here }
-    step_made before = stepped_is before ∙ ap (after_making before) is
-
-    pub step_fits : (before : ℕ) → before ≤ length reg → before + made_here ≤ count_in ws
-    step_fits before few =
-        let longer = subst (λ (y : Reached). length y.registry ≡ length reg + y.made) is
-        (makes_longer (is_child_by q (with_optional e o)) (child_node q (full_path_of reg q) (with_optional e o)) reg).0 in
-        let size = registry_length ws in
-        omega arith
 
 -- One node more.
 

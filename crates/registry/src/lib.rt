@@ -54,6 +54,7 @@ impl Node {
 // A node as three words, and back. The first word has the identifier (of a root) below the parent,
 // and three marks above it, of which the second is worth two of the first and the third four. Above
 // them stands the link to the node before it in its bucket.
+// Design: packed words, and no array of `Node`, which would take about twice the room (fixed memory).
 const PARENT: u64 = 4294967296;
 
 const OPTIONAL: u64 = 281474976710656;
@@ -72,7 +73,7 @@ impl Node {
         match self {
             Node::Root(identifier, reactive, _) => {
                 let mark = u64::from(reactive);
-                identifier.0 as u64 + Node::ROOT * PARENT + mark * 4 * OPTIONAL
+                u64::from(identifier.0) + Node::ROOT * PARENT + mark * 4 * OPTIONAL
             }
             Node::Child(parent, entry) => {
                 let property = entry.property;

@@ -1,11 +1,9 @@
 -- The intersection of rows: of the rows passed, met word by word, and of those still to come.
-use Prim.Native.Nat.{ℕ, zero, suc, ◌+◌, ◌≤◌, ◌<◌}
+use Prim.Native.Nat.{ℕ, zero, suc, ◌≤◌, ◌<◌}
 use native.Mathlib.Omega.{arith}
-use native.Mathlib.Numerals.{add-one}
-use mathlib.Core.Path.{◌≡◌, sym, ap, ◌∙◌}
+use mathlib.Core.Path.{◌≡◌, ap}
 use mathlib.Core.List.{List, [], ◌∷◌, map, foldl}
-use lib.ListN.{length, get_or, drop, drop_of_length-le, replicate, get_or-replicate}
-use lib.Seq.{drop-cons}
+use lib.ListN.{length, get_or, drop, replicate, get_or-replicate}
 use Rattle.model.specs.ListLaws.{All}
 use Rattle.model.specs.Sets.{NodeSet, intersection}
 use Rattle.model.specs.Propagation.{intersection_of}
@@ -37,18 +35,3 @@ met_first ws (p ∷ ps) found l e = record {
   within = omega arith;
   rest = ap (λ (s : NodeSet). foldl intersection s (map (row_of ws) ps)) e;
 }
-
-module _ {ws places found : List ℕ} {i : ℕ} (m : Met ws places found i) where
-  to_come : (bs : List ℕ) → drop i places ≡ bs → foldl intersection (members_of found) (map (row_of ws) bs) ≡ intersection_of (map (row_of ws) places)
-  to_come bs e = ap (λ (ks : List ℕ). foldl intersection (members_of found) (map (row_of ws) ks)) (sym e) ∙ m.rest
-
-  pub met_more : i < length places → (next : List ℕ) → members_of next ≡ intersection (members_of found) (row_of ws (get_or places i 0))
-      → Met ws places next (i + 1)
-  met_more l next e = record {
-    within = omega arith;
-    rest = ap (λ (s : NodeSet). foldl intersection s (map (row_of ws) (drop (i + 1) places))) e
-        ∙ to_come (get_or places i 0 ∷ drop (i + 1) places) (rw (add-one i) (drop-cons places i 0 l));
-  }
-
-  pub met_end : length places ≤ i → members_of found ≡ intersection_of (map (row_of ws) places)
-  met_end l = to_come [] (drop_of_length-le places l)

@@ -146,9 +146,9 @@ pub fn intersection_of_rows(ws: &[u64], places: &[u8]) -> NodeBits
     if places.len() == 0 {
         return NodeBits { words: [0; 8] };
     }
-    let mut found = row(ws, places[0] as usize);
+    let mut found = row(ws, usize::from(places[0]));
     for i in 1..places.len() {
-        found = found.intersection(row(ws, places[i] as usize));
+        found = found.intersection(row(ws, usize::from(places[i])));
     }
     found
 }

@@ -1,14 +1,11 @@
 use Prim.Native.Nat.{ℕ, ◌<◌}
-use native.Mathlib.Nat.{le_trans, lt_trans}
+use native.Mathlib.Nat.{lt_trans}
 use mathlib.Core.Path.{subst, ◌∙◌}
 use Rattle.std.proofs.lemmas.Result.{err_from_is_err_and}
 use Rattle.rows.specs.Members.{members_of}
 use Rattle.model.specs.Reduction.{reduced_mark}
 use Rattle.reduction.proofs.Steps.{Loaded, walk_root, parent_before, walk_full, reached_inside, walked_made, child_still, walk_child}
 use Rattle.reduction.proofs.+walk_again.Goals as goal
-
-pub load-requires : goal.load-requires
-load-requires t c = le_trans c.requires c.args.registry.now.held.sized.room
 
 pub walk_again-requires : goal.walk_again-requires
 walk_again-requires t c =

@@ -1,15 +1,8 @@
 use native.Mathlib.Omega.{arith}
-use native.Mathlib.Nat.{le_trans}
 use Rattle.std.proofs.lemmas.Bool.{not-false, not-true}
 use Rattle.model.specs.Tests.{beq_true}
 use Rattle.reduction.proofs.Steps.{climbed, climb_lower, climb, climb_stops}
 use Rattle.reduction.proofs.leads_back.Goals as goal
-
-pub loop-p-init : goal.loop-p-init
-loop-p-init c = record { inside = c.requires; on = λ back. back; down = λ back. back }
-
-pub load-requires : goal.load-requires
-load-requires c = le_trans c.loop-p.invariant.inside c.args.registry.now.held.sized.room
 
 pub reduced_mark-requires : goal.reduced_mark-requires
 reduced_mark-requires c =

@@ -9,9 +9,9 @@ use Rattle.registry.proofs.Node.head.Goals as goal
 pub returns-in-Root : goal.returns-in-Root
 returns-in-Root c =
     let mark = flagged c.in-Root.reactive c.from-mark.result c.from-mark.ensures in (
-      rw c.in-Root.is (packed_root _ _ _ c.from-mark.result (search rules) mark.0 mark.1),
+      rw (c.in-Root.is, c.from.ensures) (packed_root _ _ _ c.from-mark.result (search rules) mark.0 mark.1),
       omega (arith, mark.1),
-      rw c.in-Root.is (key_of_root _ c.from-mark.result (search rules)),
+      rw (c.in-Root.is, c.from.ensures) (key_of_root _ c.from-mark.result (search rules)),
     )
 
 pub returns-in-Child : goal.returns-in-Child
