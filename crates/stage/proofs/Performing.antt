@@ -20,7 +20,7 @@ use Rattle.model.specs.Stage.{start_of, propagated}
 use Rattle.model.specs.Answer.{Verdict, writes, turns_back, within_nodes, on_job, least_buffer, longest_job, span_width, buffer_after}
 use Rattle.registry.proofs.View.{registry_length}
 use Rattle.writer.specs.Writes.{Writes}
-use Rattle.propagation.specs.declared.RoundsRun.{RoundsRun}
+use Rattle.entries.specs.declared.RoundsRun.{RoundsRun}
 use Rattle.propagation.specs.Propagates.{HoldsRounds}
 use Rattle.propagation.proofs.Answers.{propagated_registry}
 use Rattle.stage.specs.declared.Operation.{Operation}

@@ -25,7 +25,7 @@ use Rattle.laws.specs.GraphsAgree.{Agree, propagation_agrees}
 use Rattle.edges.specs.Fills.{NotedJob, HoldsGraph}
 use Rattle.propagation.specs.Joins.{RowsStand, Ready}
 use Rattle.propagation.specs.Propagates.{Propagates}
-use Rattle.propagation.specs.declared.RoundsRun.{RoundsRun}
+use Rattle.entries.specs.declared.RoundsRun.{RoundsRun}
 use Rattle.entries.specs.declared.Refusal.{Refusal}
 use Rattle.std.specs.Prelude.{Result}
 

@@ -34,7 +34,7 @@ use Rattle.model.specs.Tests.{ltb_less}
 use Rattle.entries.specs.declared.BlockId.{BlockId}
 use Rattle.std.specs.Prelude.{Option, Some, None}
 use Rattle.edges.proofs.Jobs.{place_is}
-use Rattle.propagation.specs.declared.RoundsRun.{RoundsRun}
+use Rattle.entries.specs.declared.RoundsRun.{RoundsRun}
 use Rattle.propagation.specs.Joins.{work_of}
 use Rattle.propagation.specs.Propagates.{rounds_of}
 use Rattle.answer_bytes.specs.Answers.{answer_over, WritesAnswer}

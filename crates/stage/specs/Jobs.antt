@@ -31,7 +31,7 @@ use Rattle.job.specs.declared.JobHead.{JobHead}
 use Rattle.std.proofs.lemmas.List.Edits.{sets}
 use Rattle.edges.specs.Fills.{NotedJob}
 use Rattle.propagation.specs.Propagates.{rounds_of, Propagates}
-use Rattle.propagation.specs.declared.RoundsRun.{RoundsRun}
+use Rattle.entries.specs.declared.RoundsRun.{RoundsRun}
 use Rattle.answer_bytes.specs.Answers.{CandidatesAt, TreeRoom}
 use Rattle.stage.specs.declared.Operation.{Operation}
 use Rattle.stage.specs.declared.Operation.TheVariants as operation

@@ -28,12 +28,11 @@ ghost use Rattle.stage.specs.Jobs.{
   outcome_number,
 };
 
-use entries::Refusal;
+use entries::{Refusal, RoundsRun};
 use graph::Graph;
 use job::JobHead;
-use propagation::{Joining, RoundsRun};
+use propagation::Joining;
 use registry::Registry;
-use writer::Ran;
 
 // What is written of a job that is propagated.
 // Design: an enum and no closure, since `perform` is public and its contract says by it what is
@@ -192,7 +191,7 @@ impl<'a> Accepted<'a> {
         run: RoundsRun,
         out: &mut [u8],
     ) -> usize
-        requires { Standing self.now.head.blocks sets.old registry.now.words × (run.rounds < 256)
+        requires { Standing self.now.head.blocks sets.old registry.now.words
             × (least_buffer ≤ length out.old) × WorkRoom self.now.head sets.old }
         ensures { PutsJob operation self.now.s.now self.now.head sets.old registry.now.words nodes_before run out.old
             out.new result }
@@ -204,7 +203,7 @@ impl<'a> Accepted<'a> {
                 sets,
                 self.ids,
                 self.head.blocks,
-                ran(run),
+                run,
                 nodes_before,
                 out,
             ),
@@ -220,7 +219,7 @@ impl<'a> Accepted<'a> {
         run: RoundsRun,
         out: &mut [u8],
     ) -> usize
-        requires { Standing self.now.head.blocks sets.old registry.now.words × (run.rounds < 256)
+        requires { Standing self.now.head.blocks sets.old registry.now.words
             × (least_buffer ≤ length out.old) × WorkRoom self.now.head sets.old }
         ensures { PutsAnswer self.now.s.now self.now.head sets.old registry.now.words run out.old
             out.new result }
@@ -235,20 +234,9 @@ impl<'a> Accepted<'a> {
             set,
             self.head.candidates_at,
             self.head.candidates,
-            ran(run),
+            run,
             out,
         )
-    }
-}
-
-// The rounds as they are written.
-fn ran(run: RoundsRun) -> Ran
-    requires { run.rounds < 256 }
-    ensures { result ≡ record { rounds = run.rounds; settled = run.settled } }
-{
-    Ran {
-        rounds: run.rounds as u8,
-        settled: run.settled,
     }
 }
 

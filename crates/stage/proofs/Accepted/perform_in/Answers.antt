@@ -1,11 +1,8 @@
 -- A registry without room is refusal 9, where the assumed paths are entered or later; otherwise the
 -- bytes are those of the job, its start and its propagation.
-use native.Mathlib.Omega.{arith}
 use Rattle.std.proofs.Common.{rules, ◌≡◌, ap, ◌∙◌, Ok, Err}
 use Rattle.model.specs.Stage.{start_of, propagated}
-use Rattle.laws.specs.Fits.{rounds_fit}
 use Rattle.propagation.specs.Rules.{rule_of}
-use Rattle.propagation.proofs.Answers.{propagated_rounds}
 use Rattle.stage.proofs.Propagating.{full_start, job_full, job_propagated, job_entered}
 use Rattle.stage.proofs.Room.{room_kept}
 use Rattle.stage.proofs.Performing.{refuses, stands_written, full_refused, room_written}
@@ -44,12 +41,8 @@ pub put-written-requires : goal.put-written-requires
 put-written-requires c =
     let noted = (accepts c.args.self.now).noted in
     let rule = rule_of c.args.joining in
-    let held = job_propagated noted rule (Ok c.in_ok-run.run') _ _ _ c.in_ok-run.ensures in
-    let few = rounds_fit rule noted.job in
-    let same = propagated_rounds held in (
+    let held = job_propagated noted rule (Ok c.in_ok-run.run') _ _ _ c.in_ok-run.ensures in (
       held.stands.members,
-      omega
-          (arith, few, same),
       c.requires.0,
       room_kept _ _ _ (c.propagate.auto.sets ∙ c.enter_blocks.auto.sets) c.requires.1,
     )

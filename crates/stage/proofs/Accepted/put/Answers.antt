@@ -1,7 +1,5 @@
 -- Each operation's bytes, by its own writer.
 use mathlib.Core.Path.{sym, subst}
-use Rattle.writer.specs.declared.Ran.{Ran}
-use Rattle.sheet_bytes.specs.Sheet.{WritesSheet}
 use Rattle.stage.specs.Jobs.{PutsJob}
 use Rattle.stage.proofs.Putting.{puts_sheet}
 use Rattle.stage.proofs.Accepting.{accepts}
@@ -18,10 +16,8 @@ returns-in-Sheet c =
     let a = c.args in
     subst (λ op. PutsJob op a.self.now.s.now a.self.now.head a.sets.now a.registry.now.words a.nodes_before a.run a.out.now
     c.put_sheet.new.out c.put_sheet.result) (sym c.in-Sheet.is)
-    (puts_sheet (accepts a.self.now) a.sets.now a.registry.now.words a.registry.now.held.sized a.nodes_before a.run _ _ _ c.requires.2
-    (subst (λ (r : Ran). WritesSheet a.registry.now.words a.sets.now a.self.now.ids.now a.self.now.head.blocks r.rounds r.settled a.nodes_before
-    a.out.now c.put_sheet.new.out c.put_sheet.result) c.ran.ensures c.put_sheet.ensures))
+    (puts_sheet (accepts a.self.now) a.sets.now a.registry.now.words a.registry.now.held.sized a.nodes_before a.run _ _ _ c.requires.1 c.put_sheet.ensures)
 
 pub put_sheet-requires : goal.put_sheet-requires
 put_sheet-requires c =
-    ((accepts c.args.self.now).noted.few, c.requires.3.rows, c.requires.2)
+    ((accepts c.args.self.now).noted.few, c.requires.2.rows, c.requires.1)

@@ -1,10 +1,6 @@
 -- The scope block's place leads to its row, and the answer over that row is the job's.
 use native.Mathlib.Omega.{arith}
 use Rattle.std.proofs.Common.{IsSome, rules, sym, subst, ◌∙◌}
-use Rattle.writer.specs.declared.Ran.{Ran}
-use Rattle.rows.specs.Members.{members_of}
-use Rattle.registry.specs.Words.{registry_of}
-use Rattle.answer_bytes.specs.Answers.{WritesAnswer}
 use Rattle.stage.proofs.Putting.{scope_found, scope_led, scope_inside, scope_members, puts_answer}
 use Rattle.stage.proofs.Accepting.{accepts}
 use Rattle.stage.proofs.Accepted.put_answer.Goals as goal
@@ -21,17 +17,17 @@ pub row-set-requires : goal.row-set-requires
 row-set-requires c =
     let a = c.args.self.now in
     let inside = scope_inside (accepts a) _ (scope_led (accepts a) a.long c.place_of.ensures c.unwrap-place.ensures) in
-    let room = c.requires.3.rows in
+    let room = c.requires.2.rows in
     omega arith
 
 pub put_answer-requires : goal.put_answer-requires
 put_answer-requires c =
     let a = c.args.self.now in
     let led = scope_led (accepts a) a.long c.place_of.ensures c.unwrap-place.ensures in (
-      c.requires.3.tree,
+      c.requires.2.tree,
       scope_members (accepts a) c.args.sets.now c.args.registry.now.words c.requires.0 c.unwrap-place.result led _ c.row-set.ensures,
       (accepts a).candidates,
-      c.requires.2,
+      c.requires.1,
     )
 
 pub returns : goal.returns
@@ -39,5 +35,4 @@ returns c =
     let a = c.args.self.now in
     let led = scope_led (accepts a) a.long c.place_of.ensures c.unwrap-place.ensures in
     puts_answer (accepts a) c.args.sets.now c.args.registry.now.words c.requires.0 c.unwrap-place.result led _ c.row-set.ensures
-    c.args.run _ _ _ (subst (λ (r : Ran). WritesAnswer a.s.now a.head.candidates_at a.head.candidates (registry_of c.args.registry.now.words)
-    (members_of c.row-set.result.words) r.rounds r.settled c.args.out.now c.put_answer.new.out c.put_answer.result) c.ran.ensures c.put_answer.ensures)
+    c.args.run _ _ _ c.put_answer.ensures
