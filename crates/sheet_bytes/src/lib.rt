@@ -17,6 +17,7 @@ use entries::{BlockId, IdentifierId, NodeId, RoundsRun};
 use registry::{Node, Registry};
 use writer::Writer;
 
+// Design: a mark is the number that its two bytes make, as the format has it; no code goes by it.
 // "SH", "NO" and "SE", the marks of a sheet, a node and a set.
 const SH: u64 = 0x4853;
 

@@ -427,9 +427,6 @@ module _ {s ws : List ℕ} {parent : ℕ} {way now : List ℕ} {depth : ℕ} {be
   pub child_behind : parent < number
   child_behind = let r = c.rest.reached in let k = c.child.0 in omega arith
 
-  pub child_word : number - 1 < length ws
-  child_word = let r = c.rest.sized.room in let k = child_inside in omega arith
-
   back : number - 1 + 1 ≡ number
   back = let k = c.child.0 in omega arith
 
@@ -479,14 +476,6 @@ module _ {s ws : List ℕ} {parent : ℕ} {way now : List ℕ} {depth : ℕ} {be
     pub child_next : (to : List ℕ) (next : Writer) (n : ℕ) → Deriving s ws parent way to depth before next n (number - 1 + 1)
         → AtChild s ws parent way to depth before next n link
     child_next to next n d = at_child d link link_next
-
-  less_at : (link : Option ℕ) → Leads ws (number - 1 + 1) parent link → count_in ws - place_of ws link < count_in ws - (number - 1)
-  less_at None l = let h = child_inside in omega arith
-  less_at (Some next) l = let h = child_inside in let b = l.1.behind l.0 in let v = l.1.within in omega arith
-
-  pub child_less : (link : Option ℕ) → link ≡ link_of (sibling_in (get_or ws (number - 1) 0))
-      → count_in ws - place_of ws link < count_in ws - (number - 1)
-  child_less link is = less_at link (link_next link is)
 
 -- The whole.
 

@@ -1,7 +1,7 @@
 -- The search for a step's position among the children of its parent, which is then merged or made.
 use Prim.Native.Nat.{ℕ, ◌+◌, ◌-◌, ◌≤◌, ◌<◌}
 use native.Mathlib.Omega.{arith}
-use mathlib.Core.Path.{◌≡◌, refl, sym, ap, subst, ◌∙◌}
+use mathlib.Core.Path.{◌≡◌, sym, ap, subst, ◌∙◌}
 use mathlib.Core.Bool.{true, false}
 use mathlib.Core.List.{List, [], ◌∷◌}
 use Rattle.std.proofs.Common.{Option, Some, None}
@@ -39,17 +39,6 @@ pub record Seeking (s ws : List ℕ) (step last : ℕ) (link : Option ℕ) : Typ
   pub is : (ss : List DependencyPosition) → entered_from s ws (parent_in step) (parent_in step) (position_of s step ∷ ss)
       ≡ entered_from s ws last (parent_in step) (position_of s step ∷ ss)
 
-pub seeking_start : (s ws : List ℕ) (step : ℕ) (link : Option ℕ) → Sized ws → parent_in step ≤ count_in ws
-    → Leads ws (parent_in step) (parent_in step) link → Seeking s ws step (parent_in step) link
-seeking_start s ws step link sized h next = record {
-  sized = sized;
-  behind = omega arith;
-  within = h;
-  own = λ l. absurd (omega arith);
-  next = next;
-  is = λ ss. refl;
-}
-
 module _ {s ws : List ℕ} {step last : ℕ} {link : Option ℕ} (x : Seeking s ws step last link) where
   abbrev q : DependencyPosition
   q = position_of s step
@@ -72,9 +61,6 @@ module _ {s ws : List ℕ} {step last number : ℕ} (x : Seeking s ws step last 
 
   here : number - 1 < count_in ws
   here = let w = child.within in omega (arith, some)
-
-  pub seeking_bounds : number - 1 < length ws
-  seeking_bounds = let h = here in let r = x.sized.room in omega arith
 
   pub seeking_below : parent_in (get_or ws (number - 1) 0) ≡ parent_in step
   seeking_below = child.own some
@@ -108,9 +94,6 @@ module _ {s ws : List ℕ} {step last number : ℕ} (x : Seeking s ws step last 
         found = t;
         there = to_place x (number - 1) (omega arith) (omega (arith, here)) (child.first some);
       }
-
-  pub seeking_less : count_in ws - number < count_in ws - last
-  seeking_less = let h = child.behind some in let w = child.within in omega arith
 
 pub seeking_over : {s ws : List ℕ} {step last : ℕ} → Seeking s ws step last None → Misses s ws step last
 seeking_over {s} {ws} {step} x = record {

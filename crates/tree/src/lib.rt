@@ -3,6 +3,8 @@
 // stands above the roots. The last word says how many positions there are. Keys and spans stay in
 // the job's bytes: a position keeps their place. It also has links to its first child and to its
 // next sibling, by which children are found.
+// Design: the positions are words with numbers for links, and their count is the last word, since
+// memory is fixed and nothing is on the heap.
 #![tactic(auto)]
 
 ghost use Rattle.std.specs.Prelude.{◌≡◌, ℕ, ◌+◌, ◌-◌, ◌*◌, ◌≤◌, ◌<◌, List, length, get_or, set, eqb};

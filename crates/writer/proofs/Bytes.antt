@@ -58,10 +58,6 @@ writes_then {a} {b} {c} {at} {m} {n} {xs} {ys} x y = record {
   ends = let e = x.ends in let f = y.ends in let g = length-append xs ys in omega arith;
 }
 
--- the buffer keeps its length
-pub writes_length : {a b : List ℕ} {at n : ℕ} {xs : List ℕ} → Writes a b at xs n → length b ≡ length a
-writes_length {a} {b} {at} {n} {xs} x = ap length x.is ∙ length-sets a at xs
-
 pub writes_as : {a b : List ℕ} {at m : ℕ} {xs ys : List ℕ} → xs ≡ ys → Writes a b at xs m → Writes a b at ys m
 writes_as {a} {b} {at} {m} e x = subst (λ (l : List ℕ). Writes a b at l m) e x
 
