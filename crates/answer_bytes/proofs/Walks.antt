@@ -78,7 +78,11 @@ unfolding dependency_tree
 adding s start count reg set tree room held none zero-count = record {
   held = held;
   room = omega arith;
-  on = λ cs end e. (cs, subst (λ n. read_many n (read_path 4 CA) s start ≡ got cs end) (sym (sub-zero count)) e, ap (λ f. add_all dependency_key merge_position f (map (walk_candidate (tree_of reg set)) cs)) none);
+  on = λ cs end e. (
+    cs,
+    subst (λ n. read_many n (read_path 4 CA) s start ≡ got cs end) (sym (sub-zero count)) e,
+    ap (λ f. add_all dependency_key merge_position f (map (walk_candidate (tree_of reg set)) cs)) none,
+  );
 }
 
 module _ {s : List ℕ} {start count : ℕ} {reg : PropertyPathRegistry} {set : NodeSet} {tree : List ℕ} {at left : ℕ}

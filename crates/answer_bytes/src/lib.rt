@@ -39,8 +39,8 @@ struct Candidates<'a> {
     count: usize,
 }
 
-// Each candidate walks, and is added to the dependency tree, whatever its words were. `hoist` is the
-// hoistable tree of the scope block's set, where it was built.
+// Each candidate walks, and is added to the dependency tree, whatever its words were. `hoist` is
+// the hoistable tree of the scope block's set, where it was built.
 fn walk_candidates(candidates: &Candidates, tree: &mut [u64], hoist: Option<&[u64]>)
     requires { TreeRoom tree.old candidates.now.count × Given candidates.now
         × MayHoldTree candidates.now.registry.now.words (option_copied hoist) (members_of candidates.now.set.words) }

@@ -96,8 +96,8 @@ module _ (s : List ℕ) (bytes : All (λ b. b < 256) s) {j : Job} (p : Parts s j
       ∙ ap (λ i. ((u16 HD ++ u16 (length (map thinned_block j.blocks))) ++ u16 (length (thinned_paths j.candidates)) ++ u32 i.0 ++ blocks) ++ candidates)
       (sym p.scope)
 
-  -- the blocks and the candidates are written from byte 10 of the buffer on, up to v and z, and then
-  -- the header from its start on
+  -- the blocks and the candidates are written from byte 10 of the buffer on, up to v and z, and
+  -- then the header from its start on
   pub job_thinned : {o : MutBor (List ℕ)} {v z y : Writer} {blocks : ℕ} {candidates : PathsDone}
       → ThinsBlocks s 10 (length j.blocks) (record { out = o; at = 10 }) v blocks
       → ThinsPaths s CA blocks (length j.candidates) v z candidates

@@ -76,7 +76,8 @@ pub record PathsThere (s : List ℕ) (mark first count : ℕ) (w : Writer) : Typ
   pub room : HasRoom w (end - first)
 
 -- The paths that stay are written, one after the other, in no more bytes than all of them have.
-pub record PathsThinned (mark first : ℕ) (ds : List ReactiveScopeDependency) (end : ℕ) (before after : Writer) (r : PathsDone) : Type 0 where
+pub record PathsThinned (mark first : ℕ) (ds : List ReactiveScopeDependency) (end : ℕ) (before after : Writer) (r : PathsDone)
+    : Type 0 where
   pub puts : Puts before after (length (concat_map (path_bytes span_width mark) (thinned_paths ds)))
       (concat_map (path_bytes span_width mark) (thinned_paths ds))
   pub from : r.from ≡ end

@@ -186,6 +186,8 @@ module _ {s ws : List ℕ} (parent place : ℕ) (access : PropertyAccessType) (s
           within = omega arith;
           is = λ ss. x.none ss
               ∙ subst (λ n. entered_from s ws (count_in ws) (parent_in step) (position_of s step ∷ ss) ≡ entered_from s vs n n ss) (sym a.last)
-              (subst (λ us. entered_from s ws (count_in ws) (parent_in step) (position_of s step ∷ ss) ≡ entered_from s us (count_in ws + 1) (count_in ws + 1) ss) (sym a.is)
+              (subst (λ us. entered_from s ws (count_in ws) (parent_in step) (position_of s step ∷ ss)
+              ≡ entered_from s us (count_in ws + 1) (count_in ws + 1) ss)
+              (sym a.is)
               (entered_appended ws last step appendable s ss));
         })

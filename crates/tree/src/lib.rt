@@ -206,7 +206,8 @@ fn first_child(tree: &[u64], parent: usize) -> Option<usize>
 }
 
 // The number of the position that has the step's parent and key, or, where there is none, that of
-// the last child of the parent, behind which it would stand: the parent's own where it has no child.
+// the last child of the parent, behind which it would stand: the parent's own where there is no
+// child.
 fn seek(tree: &[u64], s: &[u8], key: Key, step: u64) -> Result<usize, usize>
     requires { Sized tree.now × (parent_in step ≤ count_in tree.now) × (key_in key ≡ key_at s.now (parent_in step) (place_in step)) }
     ensures { Seeks s.now tree.now step result }
@@ -364,7 +365,8 @@ fn position_of(s: &[u8], w: u64) -> Position
 // The entries of these positions of a way down.
 fn put_entries(w: &mut Writer, s: &[u8], positions: &[u64])
     requires { HasRoom w.old (14 * length positions.now) }
-    ensures { Puts w.old w.new (14 * length positions.now) (concat_map (λ v. entry_bytes span_width (entry_of (position_of s.now v))) positions.now) }
+    ensures { Puts w.old w.new (14 * length positions.now)
+        (concat_map (λ v. entry_bytes span_width (entry_of (position_of s.now v))) positions.now) }
 {
     for position in positions {
         w.entry(position_of(s, *position).entry);
@@ -374,7 +376,8 @@ fn put_entries(w: &mut Writer, s: &[u8], positions: &[u64])
 // The record of the path that a way down stands for: its root, and the entries behind it.
 fn put_path(w: &mut Writer, s: &[u8], way: &[u64])
     requires { (0 < length way.now) × HasRoom w.old (12 + 14 * (length way.now - 1)) }
-    ensures { Puts w.old w.new (12 + 14 * (length way.now - 1)) (path_bytes span_width DE (dependency_of (way_positions s.now way.now (length way.now)))) }
+    ensures { Puts w.old w.new (12 + 14 * (length way.now - 1))
+        (path_bytes span_width DE (dependency_of (way_positions s.now way.now (length way.now)))) }
 {
     let root = position_of(s, way[0]);
     let last = position_of(s, way[way.len() - 1]);

@@ -1,5 +1,5 @@
-// Writes numbers, entries, heads of paths and copied bytes into a buffer, numbers lowest byte first,
-// each behind the one before.
+// Writes numbers, entries, heads of paths and copied bytes into a buffer, numbers lowest byte
+// first, each behind the one before.
 #![tactic(auto)]
 
 ghost use Rattle.std.specs.Prelude.{length};

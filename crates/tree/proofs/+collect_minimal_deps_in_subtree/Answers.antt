@@ -5,7 +5,24 @@ use lib.ListN.{get_or, set, length-take, length-set}
 use borrow.Author.Rules.{rules}
 use Rattle.entries.specs.Access.{is_dependency_access}
 use Rattle.tree.specs.Tree.{count_in}
-use Rattle.tree.proofs.Deriving.{deriving_start, at_child, child_behind, child_inside, child_over, child_within, child_to, at_number, at_end, child_asked_put, child_counted_put, child_put, child_asked_derived, child_counted_derived, child_derived, child_next}
+use Rattle.tree.proofs.Deriving.{
+  deriving_start,
+  at_child,
+  child_behind,
+  child_inside,
+  child_over,
+  child_within,
+  child_to,
+  at_number,
+  at_end,
+  child_asked_put,
+  child_counted_put,
+  child_put,
+  child_asked_derived,
+  child_counted_derived,
+  child_derived,
+  child_next,
+}
 use Rattle.tree.proofs.+collect_minimal_deps_in_subtree.Goals as goal
 use Rattle.tree.proofs.+collect_minimal_deps_in_subtree.Goals.{then-is_dependency, else-is_dependency}
 
@@ -38,7 +55,8 @@ put_path-requires t c =
 pub overflow_add-count : goal.overflow_add-count
 overflow_add-count t c =
     let x = at_number c.loop-next.invariant c.in-Some.is in
-    let few = child_counted_put x _ refl c.is_dependency.result (c.is_dependency.ensures ∙ ap is_dependency_access c.access_in.ensures) c.if-is_dependency.true in
+    let tested = c.is_dependency.ensures ∙ ap is_dependency_access c.access_in.ensures in
+    let few = child_counted_put x _ refl c.is_dependency.result tested c.if-is_dependency.true in
     search rules
 
 pub collect_minimal_deps_in_subtree-count-requires : goal.collect_minimal_deps_in_subtree-count-requires

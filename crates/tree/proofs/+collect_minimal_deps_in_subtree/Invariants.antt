@@ -1,7 +1,7 @@
 -- The proof of the cycle of calls {collect_minimal_deps_in_subtree}. The measure is the number of
 -- positions behind the parent: its children stand behind it. The loop's invariant, `AtChild`: the
--- link leads to a child of the parent, or nowhere; the records still to come, written from there on,
--- give what all of them give from the start; and the way down to the parent stays.
+-- link leads to a child of the parent, or nowhere; the records still to come, written from there
+-- on, give what all of them give from the start; and the way down to the parent stays.
 use Prim.Native.Nat.{◌-◌}
 use Rattle.tree.specs.Tree.{count_in}
 use Rattle.tree.proofs.Deriving.{place_of, AtChild}

@@ -1,4 +1,5 @@
--- Each byte that is stored is the lowest of what is left; where all are stored, they are the number.
+-- Each byte that is stored is the lowest of what is left; where all are stored, they are the
+-- number.
 use Rattle.std.proofs.Common.{sym, ◌∙◌, arith}
 use Rattle.writer.proofs.Bytes.{byte_stored, number_length, all_stored, puts_part, part_length}
 use Rattle.writer.proofs.Writer.number.Goals as goal

@@ -1,5 +1,5 @@
--- The loop's invariant: what is left of the number, stored behind the bytes that are done, gives the
--- whole.
+-- The loop's invariant: what is left of the number, stored behind the bytes that are done, gives
+-- the whole.
 use Rattle.std.proofs.Common.{◌≡◌, ◌-◌}
 use Rattle.std.proofs.lemmas.List.Edits.{sets}
 use Rattle.model.specs.Answer.{number_bytes}
