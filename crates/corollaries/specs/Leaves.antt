@@ -1,6 +1,6 @@
 -- What an operation leaves at the buffer's start, where it writes: the bytes of its verdict. So
 -- what holds of the bytes of a verdict holds of the bytes that functions and programs leave.
-use Rattle.std.specs.Prelude.{ℕ, zero, suc, ◌<◌, ◌≡◌, refl, List, ◌++◌, length, take, drop, ℤ, pos, neg_ℤ, Ok}
+use Rattle.std.specs.Prelude.{ℕ, zero, suc, ◌<◌, ◌≡◌, refl, List, length, take, drop, pos, neg_ℤ, Ok}
 use Rattle.std.proofs.Common.{arith, sym, ap, subst, ◌∙◌}
 use Rattle.std.proofs.Math.Seq.{take-append_seam}
 use Rattle.entries.specs.Refusals.{refusal_number, number_positive}

@@ -1,10 +1,10 @@
 -- What stands at the buffer's start after an operation, and after RF and a number were put there,
 -- is what the program writes.
-use Prim.Native.Nat.{ℕ, ◌≤◌, ◌<◌}
+use Prim.Native.Nat.{ℕ, ◌≤◌}
 use native.Mathlib.Omega.{arith}
 use mathlib.Core.Path.{◌≡◌, refl, sym, ap, subst, ◌∙◌}
 use mathlib.Core.List.{List, [], ◌∷◌, ◌++◌}
-use lib.ListN.{length, drop, set, replicate, length-append, length-replicate, length-set}
+use lib.ListN.{length, drop, replicate, length-replicate}
 use Rattle.entries.specs.declared.Refusal.{Refusal}
 use Rattle.entries.specs.Refusals.{refusal_number}
 use Rattle.model.specs.Tests.{ltb_not_less}
