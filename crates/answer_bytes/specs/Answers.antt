@@ -38,11 +38,11 @@ pub record AddsCandidates (s : List ℕ) (start count : ℕ) (reg : PropertyPath
 
 -- The candidates are read from their place on, and the set has nodes of the registry alone.
 abbrev pub Given : Candidates → Type 0
-Given c = Members (registry_of c.registry.now.words) (members_of c.set.words) × CandidatesAt c.s.now c.start c.count
+Given c = Members (registry_of c.nodes.words.now) (members_of c.set.words) × CandidatesAt c.s.now c.start c.count
 
 -- The words hold their dependency tree.
 abbrev pub Added : Candidates → List ℕ → Type 0
-Added c tree = AddsCandidates c.s.now c.start c.count (registry_of c.registry.now.words) (members_of c.set.words) tree
+Added c tree = AddsCandidates c.s.now c.start c.count (registry_of c.nodes.words.now) (members_of c.set.words) tree
 
 -- "AN, count u16, rounds u8, settled u8 (1 or 0)"
 abbrev pub head_bytes : ℕ → ℕ → Bool → List ℕ

@@ -14,7 +14,7 @@ ghost use Rattle.answer_bytes.specs.Answers.{CandidatesAt, TreeRoom, Given, Adde
 
 use entries::RoundsRun;
 use hoistable::{CandidateNames, Entries};
-use registry::Registry;
+use registry::Nodes;
 use rows::NodeBits;
 use writer::Writer;
 
@@ -28,12 +28,12 @@ const SEVERAL: usize = 3;
 // Up to so many nodes it is built in fewer words, which take less time to clear.
 const FEW_NODES: usize = 64;
 
-// The candidates of a job, from a place in its bytes on, and what they walk by: the registry, and
-// the scope block's set.
+// The candidates of a job, from a place in its bytes on, and what they walk by: the registry's
+// nodes, and the scope block's set.
 #[derive(Clone, Copy)]
 struct Candidates<'a> {
     s: &'a [u8],
-    registry: &'a Registry,
+    nodes: Nodes<'a>,
     set: NodeBits,
     start: usize,
     count: usize,
@@ -43,12 +43,12 @@ struct Candidates<'a> {
 // the hoistable tree of the scope block's set, where it was built.
 fn walk_candidates(candidates: &Candidates, tree: &mut [u64], hoist: Option<&[u64]>)
     requires { TreeRoom tree.old candidates.now.count × Given candidates.now
-        × MayHoldTree candidates.now.registry.now.words (option_copied hoist) (members_of candidates.now.set.words) }
+        × MayHoldTree candidates.now.nodes.words.now (option_copied hoist) (members_of candidates.now.set.words) }
     ensures { Added candidates.now tree.new }
 {
     let Candidates {
         s,
-        registry,
+        nodes,
         set,
         start,
         count,
@@ -67,7 +67,7 @@ fn walk_candidates(candidates: &Candidates, tree: &mut [u64], hoist: Option<&[u6
                 left: head.entries,
             },
         };
-        let levels = hoistable::nonnull_levels(hoist, registry, set, s, candidate);
+        let levels = hoistable::nonnull_levels(hoist, nodes, set, s, candidate);
         tree::add_candidate(tree, s, fields_at, levels);
         at = entries_at + job::ENTRY_SIZE * usize::from(head.entries);
     }
@@ -82,7 +82,7 @@ fn walk_with_tree(candidates: &Candidates, tree: &mut [u64], hoist: &mut [u64])
 {
     let built: Option<&[u64]> = match hoistable::build_tree(
         hoist,
-        candidates.registry,
+        candidates.nodes,
         candidates.set,
     ) {
         Some(()) => Some(hoist),
@@ -98,7 +98,7 @@ fn add_candidates(candidates: &Candidates, tree: &mut [u64])
 {
     if candidates.count < SEVERAL {
         walk_candidates(candidates, tree, None);
-    } else if candidates.registry.count() <= FEW_NODES {
+    } else if candidates.nodes.count() <= FEW_NODES {
         let mut hoist = [0u64; 65];
         walk_with_tree(candidates, tree, &mut hoist);
     } else {
@@ -122,21 +122,21 @@ fn put_head(w: &mut Writer, count: usize, run: RoundsRun)
 pub fn put_answer(
     tree: &mut [u64],
     s: &[u8],
-    registry: &Registry,
+    nodes: Nodes,
     set: NodeBits,
     start: usize,
     count: usize,
     run: RoundsRun,
     out: &mut [u8],
 ) -> usize
-    requires { TreeRoom tree.old count × Members (registry_of registry.now.words) (members_of set.words)
+    requires { TreeRoom tree.old count × Members (registry_of nodes.words.now) (members_of set.words)
         × CandidatesAt s.now start count × (least_buffer ≤ length out.old) }
-    ensures { WritesAnswer s.now start count (registry_of registry.now.words)
+    ensures { WritesAnswer s.now start count (registry_of nodes.entry.words.now)
         (members_of set.words) run.rounds run.settled out.old out.new result }
 {
     let candidates = Candidates {
         s,
-        registry,
+        nodes,
         set,
         start,
         count,

@@ -1,7 +1,7 @@
 // All assumed paths of a job entered into the registry, straight from its bytes, and each block's
-// set of them stored in its row: of the raw reads those that are kept, and then the ready paths. The
-// job was read before, so that no field is refused here: a refusal says that the registry has no
-// room.
+// set of them stored in its row: of the raw reads those that are kept, and then the ready paths.
+// The job was read before, so that no field is refused here: a refusal says that the registry has
+// no room.
 #![tactic(auto)]
 
 ghost use Rattle.std.specs.Prelude.{◌≡◌, [], ◌≤◌, length};
@@ -21,8 +21,8 @@ use rows::NodeBits;
 
 mod immutable;
 
-// How far a block's paths are entered: their nodes, how many nodes were made for them, and the place
-// after what was read.
+// How far a block's paths are entered: their nodes, how many nodes were made for them, and the
+// place after what was read.
 #[derive(Clone, Copy)]
 struct EnteredSet {
     pub set: NodeBits,
@@ -45,8 +45,8 @@ impl EnteredSet {
         Ok(())
     }
 
-    // One record more: a ready path, or a raw read, whose path is entered where it is kept. Both end
-    // in one call of `enter_fields`, so that it and `paths::enter_path` have one caller and are
+    // One record more: a ready path, or a raw read, whose path is entered where it is kept. Both
+    // end in one call of `enter_fields`, so that it and `paths::enter_path` have one caller and are
     // inlined (docs/DECISIONS.md).
     fn enter_record(&mut self, s: &[u8], registry: &mut Registry) -> Result<(), Refusal>
         requires { (self.old.made ≤ length (registry_of registry.old.words)) × IsRead (read_brought s.now self.old.at) }

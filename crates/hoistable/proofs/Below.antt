@@ -25,7 +25,19 @@ use Rattle.hoistable.specs.Levels.{levels_of, non_null_levels, number_of}
 use Rattle.hoistable.specs.declared.Entries.{Entries}
 use Rattle.hoistable.specs.Candidate.{entries_at, Reads, Candidate}
 use Rattle.hoistable.specs.Agreement.{Follows}
-use Rattle.hoistable.specs.Positions.{access_of, optional_in, position_at, positions_in, flat_of, number_below, number_in, Stands, found_in, HoldsTree, MayHoldTree}
+use Rattle.hoistable.specs.Positions.{
+  access_of,
+  optional_in,
+  position_at,
+  positions_in,
+  flat_of,
+  number_below,
+  number_in,
+  Stands,
+  found_in,
+  HoldsTree,
+  MayHoldTree,
+}
 use Rattle.hoistable.proofs.Walks.{levels_length}
 use Rattle.hoistable.proofs.Numbers.{number_below_lem, weight_most}
 use Rattle.hoistable.proofs.Names.{reads_at}

@@ -16,7 +16,24 @@ use Rattle.model.specs.Tree.{HoistablePosition, hoistable_key, first_made}
 use Rattle.laws.specs.Flat as Flat
 use Rattle.laws.specs.FlatSteps.{run, run_length, run_same, run_snoc, run_before, ParentsBefore, seek, seek_after, reached, one_more, one_new, one_found}
 use Rattle.registry.specs.Words.{stored_node}
-use Rattle.hoistable.specs.Positions.{key_of, access_of, position_of, maker_in, parent_in, IsWord, node_of, position_at, positions_in, flat_of, number_below, number_in, Stands, HoldsPositions, Entered, Enters}
+use Rattle.hoistable.specs.Positions.{
+  key_of,
+  access_of,
+  position_of,
+  maker_in,
+  parent_in,
+  IsWord,
+  node_of,
+  position_at,
+  positions_in,
+  flat_of,
+  number_below,
+  number_in,
+  Stands,
+  HoldsPositions,
+  Entered,
+  Enters,
+}
 
 -- The search below a number: what is left of it finds what the whole finds.
 

@@ -1,5 +1,26 @@
 -- The levels of a candidate that one path of the set decides, and those that several decide.
-use Rattle.std.specs.Prelude.{ℕ, ◌+◌, ◌≤◌, ◌<◌, ◌≡◌, Bool, true, false, ◌&&◌, cond, List, [], ◌∷◌, length, drop, eqb, Option, Some, None, IfSome}
+use Rattle.std.specs.Prelude.{
+  ℕ,
+  ◌+◌,
+  ◌≤◌,
+  ◌<◌,
+  ◌≡◌,
+  Bool,
+  true,
+  false,
+  ◌&&◌,
+  cond,
+  List,
+  [],
+  ◌∷◌,
+  length,
+  drop,
+  eqb,
+  Option,
+  Some,
+  None,
+  IfSome,
+}
 use Rattle.entries.specs.declared.IdentifierId.{IdentifierId}
 use Rattle.entries.specs.declared.PropertyLiteral.{PropertyLiteral}
 use Rattle.entries.specs.declared.DependencyPathEntry.{DependencyPathEntry}
@@ -53,8 +74,8 @@ pub record Small (v : Levels) : Type 0 where
   pub most : v.end ≤ 131072
   pub below : v.optional < v.end
 
--- The next of the candidate's entries `es`, of which `left` are left, and the others are read behind
--- it; or there is none.
+-- The next of the candidate's entries `es`, of which `left` are left, and the others are read
+-- behind it; or there is none.
 abbrev pub Follows : List DependencyPathEntry → List ℕ → ℕ → Option (DependencyPathEntry × Entries) → Type 0
 Follows es s left (Some (e, rest)) = (es ≡ e ∷ drop 1 es) × Reads rest.left s rest.at (drop 1 es) × (rest.left + 1 ≡ left)
 Follows es s left None = (es ≡ []) × (left ≡ 0)

@@ -1,5 +1,29 @@
 -- The hoistable tree in words, as a flat forest.
-use Rattle.std.specs.Prelude.{ℕ, ◌-◌, ◌/◌, ◌%◌, ◌≤◌, ◌<◌, ◌≡◌, Bool, true, false, not, cond, List, [], ◌∷◌, map, length, get_or, eqb, Option, Some, None, IfSome}
+use Rattle.std.specs.Prelude.{
+  ℕ,
+  ◌-◌,
+  ◌/◌,
+  ◌%◌,
+  ◌≤◌,
+  ◌<◌,
+  ◌≡◌,
+  Bool,
+  true,
+  false,
+  not,
+  cond,
+  List,
+  [],
+  ◌∷◌,
+  map,
+  length,
+  get_or,
+  eqb,
+  Option,
+  Some,
+  None,
+  IfSome,
+}
 use Rattle.std.proofs.Math.Option as Maybe
 use Rattle.entries.specs.declared.DependencyPathEntry.{DependencyPathEntry}
 use Rattle.entries.specs.declared.HoistableAccessType.{HoistableAccessType}

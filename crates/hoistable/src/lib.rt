@@ -4,7 +4,26 @@
 // with the candidate's that far, and the registry has the set's paths.
 #![tactic(auto)]
 
-ghost use Rattle.std.specs.Prelude.{◌≡◌, ℕ, ◌+◌, ◌/◌, ◌≤◌, ◌<◌, Bool, ◌&&◌, not, cond, List, [], ◌∷◌, map, length, eqb, OnSome, option_copied};
+ghost use Rattle.std.specs.Prelude.{
+  ◌≡◌,
+  ℕ,
+  ◌+◌,
+  ◌/◌,
+  ◌≤◌,
+  ◌<◌,
+  Bool,
+  ◌&&◌,
+  not,
+  cond,
+  List,
+  [],
+  ◌∷◌,
+  map,
+  length,
+  eqb,
+  OnSome,
+  option_copied,
+};
 ghost use Rattle.entries.specs.declared.IdentifierId.{IdentifierId};
 ghost use Rattle.entries.specs.declared.DependencyPathEntry.{DependencyPathEntry};
 ghost use Rattle.entries.specs.Path.{ReactiveScopeDependency};
@@ -43,7 +62,7 @@ ghost use Rattle.hoistable.specs.Positions.{
 
 use entries::{DependencyPathEntry, IdentifierId, NodeId};
 use job::Key;
-use registry::{Node, Registry};
+use registry::{Node, Nodes};
 use rows::NodeBits;
 
 // The entries of a candidate that are left: the place of the next one, and how many.
@@ -195,15 +214,15 @@ fn at_root(same: bool, entries: Entries) -> Agreement
 }
 
 // How far the path of node k agrees with a candidate.
-fn follow(registry: &Registry, s: &[u8], candidate: CandidateNames, k: NodeId) -> Agreement
-    requires { Candidate candidate.entries.left s.now candidate.entries.at × (k.0 < count_in registry.now.words) }
+fn follow(nodes: Nodes, s: &[u8], candidate: CandidateNames, k: NodeId) -> Agreement
+    requires { Candidate candidate.entries.left s.now candidate.entries.at × (k.0 < count_in nodes.words.now) }
     ensures { Agrees s.now candidate.identifier (entries_at candidate.entries.left s.now candidate.entries.at)
-        (full_path_of (registry_of registry.now.words) k) result }
+        (full_path_of (registry_of nodes.entry.words.now) k) result }
 {
-    match registry.load(k) {
+    match nodes.load(k) {
         Node::Root(i, _, _) => at_root(i == candidate.identifier, candidate.entries),
         Node::Child(p, e) => {
-            let before = follow(registry, s, candidate, p);
+            let before = follow(nodes, s, candidate, p);
             further(s, before, e)
         }
     }
@@ -212,16 +231,16 @@ fn follow(registry: &Registry, s: &[u8], candidate: CandidateNames, k: NodeId) -
 // What the set's paths decide of the candidate's levels. Those with an optional first entry come
 // first in the tree's order, so what they decide is kept apart until the end. A path whose root is
 // another's decides nothing, and may go with either.
-fn decided_levels(registry: &Registry, set: NodeBits, s: &[u8], candidate: CandidateNames) -> Levels
+fn decided_levels(nodes: Nodes, set: NodeBits, s: &[u8], candidate: CandidateNames) -> Levels
     requires { Candidate candidate.entries.left s.now candidate.entries.at
-        × Members (registry_of registry.now.words) (members_of set.words) }
+        × Members (registry_of nodes.words.now) (members_of set.words) }
     ensures { HoldsLevels (decided candidate.identifier (entries_at candidate.entries.left s.now candidate.entries.at) [] []
-        (map (full_path_of (registry_of registry.now.words)) (members_of set.words))) result }
+        (map (full_path_of (registry_of nodes.entry.words.now)) (members_of set.words))) result }
 {
     let mut ahead = Levels::none();
     let mut rest = Levels::none();
     for k in set.members() {
-        let levels = follow(registry, s, candidate, k).levels;
+        let levels = follow(nodes, s, candidate, k).levels;
         if levels.optional % 2 == 1 {
             ahead = ahead.over(levels);
         } else {
@@ -261,23 +280,23 @@ fn key_of(n: Node) -> Key
 }
 
 // The position of a word hangs below a number, and has the key.
-fn is_child(registry: &Registry, word: u64, parent: usize, key: Key) -> bool
+fn is_child(nodes: Nodes, word: u64, parent: usize, key: Key) -> bool
     requires { maker_in word < 512 }
-    ensures { result ≡ eqb (parent_in word) parent && same_key (key_of (stored_node registry.now.words (maker_in word))) (key_in key) }
+    ensures { result ≡ eqb (parent_in word) parent && same_key (key_of (stored_node nodes.entry.words.now (maker_in word))) (key_in key) }
 {
     (word / PARENT % 1024) as usize == parent
-        && key_of(registry.load(NodeId((word % PARENT) as usize))) == key
+        && key_of(nodes.load(NodeId((word % PARENT) as usize))) == key
 }
 
 // The number of the position below a number that has the key, where there is one. It was made after
 // its parent.
-fn child_by_key(hoist: &[u64], registry: &Registry, parent: usize, key: Key) -> Option<usize>
+fn child_by_key(hoist: &[u64], nodes: Nodes, parent: usize, key: Key) -> Option<usize>
     requires { HoldsPositions hoist.now × (parent ≤ positions_in hoist.now) }
-    ensures { (number_in result ≡ number_below registry.now.words hoist.now parent (key_in key)) × Stands hoist.now result }
+    ensures { (number_in result ≡ number_below nodes.entry.words.now hoist.now parent (key_in key)) × Stands hoist.now result }
 {
     let end = hoist[hoist.len() - 1] as usize;
     for j in parent..end {
-        if is_child(registry, hoist[j], parent, key) {
+        if is_child(nodes, hoist[j], parent, key) {
             return Some(j + 1);
         }
     }
@@ -288,16 +307,16 @@ fn child_by_key(hoist: &[u64], registry: &Registry, parent: usize, key: Key) -> 
 // there is no room. One that is there stays as it is.
 fn enter_position(
     hoist: &mut [u64],
-    registry: &Registry,
+    nodes: Nodes,
     parent: usize,
     k: NodeId,
     optional: bool,
 ) -> Option<usize>
     requires { HoldsPositions hoist.old × (parent ≤ positions_in hoist.old) × (k.0 < 512) }
-    ensures { Enters registry.now.words hoist.old hoist.new parent
-        (position_of (key_of (stored_node registry.now.words k.0)) (access_of optional) ∷ []) result }
+    ensures { Enters nodes.entry.words.now hoist.old hoist.new parent
+        (position_of (key_of (stored_node nodes.entry.words.now k.0)) (access_of optional) ∷ []) result }
 {
-    let found = child_by_key(hoist, registry, parent, key_of(registry.load(k)));
+    let found = child_by_key(hoist, nodes, parent, key_of(nodes.load(k)));
     if found.is_some() {
         return found;
     }
@@ -314,28 +333,28 @@ fn enter_position(
 
 // The number where the path of node k ends, its positions made where there are none: each Optional
 // where the entry after it is, and the last as said.
-fn enter_path(hoist: &mut [u64], registry: &Registry, k: NodeId, optional: bool) -> Option<usize>
-    requires { HoldsPositions hoist.old × (k.0 < count_in registry.now.words) }
-    ensures { Enters registry.now.words hoist.old hoist.new 0
-        (positions_to (full_path_of (registry_of registry.now.words) k) (access_of optional)) result }
+fn enter_path(hoist: &mut [u64], nodes: Nodes, k: NodeId, optional: bool) -> Option<usize>
+    requires { HoldsPositions hoist.old × (k.0 < count_in nodes.words.now) }
+    ensures { Enters nodes.entry.words.now hoist.old hoist.new 0
+        (positions_to (full_path_of (registry_of nodes.entry.words.now) k) (access_of optional)) result }
 {
-    match registry.load(k) {
-        Node::Root(_, _, _) => enter_position(hoist, registry, 0, k, optional),
+    match nodes.load(k) {
+        Node::Root(_, _, _) => enter_position(hoist, nodes, 0, k, optional),
         Node::Child(p, e) => {
-            let parent = enter_path(hoist, registry, p, e.optional)?;
-            enter_position(hoist, registry, parent, k, optional)
+            let parent = enter_path(hoist, nodes, p, e.optional)?;
+            enter_position(hoist, nodes, parent, k, optional)
         }
     }
 }
 
 // The path of node k has an optional first entry.
-fn starts_optional(registry: &Registry, k: NodeId) -> bool
-    requires { (k.0 < count_in registry.now.words) }
-    ensures { result ≡ starts_optional (full_path_of (registry_of registry.now.words) k).path }
+fn starts_optional(nodes: Nodes, k: NodeId) -> bool
+    requires { (k.0 < count_in nodes.words.now) }
+    ensures { result ≡ starts_optional (full_path_of (registry_of nodes.entry.words.now) k).path }
 {
     let mut at = k;
     let mut optional = false;
-    while let Node::Child(p, e) = registry.load(at) {
+    while let Node::Child(p, e) = nodes.load(at) {
         at = p;
         optional = e.optional;
     }
@@ -343,30 +362,30 @@ fn starts_optional(registry: &Registry, k: NodeId) -> bool
 }
 
 // The paths of the set whose first entry is optional as said, in their order; or there was no room.
-fn enter_members(hoist: &mut [u64], registry: &Registry, set: NodeBits, ahead: bool) -> Option<()>
-    requires { HoldsPositions hoist.old × Members (registry_of registry.now.words) (members_of set.words) }
-    ensures { OnSome result (EntersPaths registry.now.words hoist.old hoist.new ahead
-        (map (full_path_of (registry_of registry.now.words)) (members_of set.words))) }
+fn enter_members(hoist: &mut [u64], nodes: Nodes, set: NodeBits, ahead: bool) -> Option<()>
+    requires { HoldsPositions hoist.old × Members (registry_of nodes.words.now) (members_of set.words) }
+    ensures { OnSome result (EntersPaths nodes.entry.words.now hoist.old hoist.new ahead
+        (map (full_path_of (registry_of nodes.entry.words.now)) (members_of set.words))) }
 {
     for k in set.members() {
-        if starts_optional(registry, k) == ahead {
-            enter_path(hoist, registry, k, false)?;
+        if starts_optional(nodes, k) == ahead {
+            enter_path(hoist, nodes, k, false)?;
         }
     }
     Some(())
 }
 
 // The hoistable tree of the set, whatever the words were; or they have no room for it.
-pub fn build_tree(hoist: &mut [u64], registry: &Registry, set: NodeBits) -> Option<()>
+pub fn build_tree(hoist: &mut [u64], nodes: Nodes, set: NodeBits) -> Option<()>
     requires { (0 < length hoist.old) × (length hoist.old ≤ 513)
-        × Members (registry_of registry.now.words) (members_of set.words) }
-    ensures { OnSome result (HoldsTree registry.now.words hoist.new
-        (hoistable_tree (map (full_path_of (registry_of registry.now.words)) (members_of set.words)))) }
+        × Members (registry_of nodes.words.now) (members_of set.words) }
+    ensures { OnSome result (HoldsTree nodes.entry.words.now hoist.new
+        (hoistable_tree (map (full_path_of (registry_of nodes.entry.words.now)) (members_of set.words)))) }
 {
     let room = hoist.len() - 1;
     hoist[room] = 0;
-    enter_members(hoist, registry, set, true)?;
-    enter_members(hoist, registry, set, false)
+    enter_members(hoist, nodes, set, true)?;
+    enter_members(hoist, nodes, set, false)
 }
 
 // 1 where a word's position is NonNull.
@@ -380,13 +399,13 @@ fn nonnull(word: u64) -> u32
 // position.
 fn levels_below(
     hoist: &[u64],
-    registry: &Registry,
+    nodes: Nodes,
     s: &[u8],
     position: Option<usize>,
     entries: Entries,
 ) -> u32
     requires { HoldsPositions hoist.now × Stands hoist.now position × Candidate entries.left s.now entries.at }
-    ensures { result ≡ number_of (levels_of (found_in registry.now.words hoist.now (number_in position))
+    ensures { result ≡ number_of (levels_of (found_in nodes.entry.words.now hoist.now (number_in position))
         (entries_at entries.left s.now entries.at)) }
 {
     let Some(number) = position else {
@@ -396,31 +415,31 @@ fn levels_below(
     let Some((entry, rest)) = entries.next(s) else {
         return here;
     };
-    let child = child_by_key(hoist, registry, number, Key::Property(entry.property));
-    here + levels_below(hoist, registry, s, child, rest) * 2
+    let child = child_by_key(hoist, nodes, number, Key::Property(entry.property));
+    here + levels_below(hoist, nodes, s, child, rest) * 2
 }
 
 // At which levels of a candidate the hoistable tree of the set is NonNull: bit j for level j. The
 // levels are read from the words of the tree, where it was built.
 pub fn nonnull_levels(
     tree: Option<&[u64]>,
-    registry: &Registry,
+    nodes: Nodes,
     set: NodeBits,
     s: &[u8],
     candidate: CandidateNames,
 ) -> u32
-    requires { Candidate candidate.entries.left s.now candidate.entries.at × Members (registry_of registry.now.words) (members_of set.words)
-        × MayHoldTree registry.now.words (option_copied tree) (members_of set.words) }
-    ensures { result ≡ number_of (non_null_levels (registry_of registry.now.words) (members_of set.words) candidate.identifier
+    requires { Candidate candidate.entries.left s.now candidate.entries.at × Members (registry_of nodes.words.now) (members_of set.words)
+        × MayHoldTree nodes.words.now (option_copied tree) (members_of set.words) }
+    ensures { result ≡ number_of (non_null_levels (registry_of nodes.entry.words.now) (members_of set.words) candidate.identifier
         (entries_at candidate.entries.left s.now candidate.entries.at)) }
 {
     match tree {
         Some(hoist) => {
-            let root = child_by_key(hoist, registry, 0, Key::Identifier(candidate.identifier));
-            levels_below(hoist, registry, s, root, candidate.entries)
+            let root = child_by_key(hoist, nodes, 0, Key::Identifier(candidate.identifier));
+            levels_below(hoist, nodes, s, root, candidate.entries)
         }
         None => {
-            let levels = decided_levels(registry, set, s, candidate);
+            let levels = decided_levels(nodes, set, s, candidate);
             levels.nonnull()
         }
     }

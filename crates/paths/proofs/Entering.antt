@@ -170,7 +170,8 @@ module _ (s : List ℕ) (at : ℕ) (there : IsRead (read_path_fields 4 s at)) wh
       abbrev root : Reached
       root = get_or_create_identifier reg head.identifier head.reactive head.span
 
-      path_entered : (r : Result EnteredPath Refusal) (us ps : List ℕ) → Enters (read_many head.entries (read_entry 4) s entries_at) (λ es. walk_from own_mark root es) r us ps
+      path_entered : (r : Result EnteredPath Refusal) (us ps : List ℕ)
+          → Enters (read_many head.entries (read_entry 4) s entries_at) (λ es. walk_from own_mark root es) r us ps
           → Enters (read_path_fields 4 s at) (get_or_create_property reg) r us ps
       unfolding get_or_create_property
       path_entered r us ps h =

@@ -39,7 +39,23 @@ use Rattle.model.specs.Registry.{
 }
 use Rattle.model.specs.RegistryLaws as Placed
 use Rattle.model.specs.RegistryLaws.{Sound, Proper, Extends}
-use Rattle.model.proofs.RegistryLaws.{WasFound, WasMade, found_or_made, entry_optional, extends_length, find_extends, ensure_extends, path_extends, path_proper, found, path_longer, again_root, again_child, child_after, child_found}
+use Rattle.model.proofs.RegistryLaws.{
+  WasFound,
+  WasMade,
+  found_or_made,
+  entry_optional,
+  extends_length,
+  find_extends,
+  ensure_extends,
+  path_extends,
+  path_proper,
+  found,
+  path_longer,
+  again_root,
+  again_child,
+  child_after,
+  child_found,
+}
 use Rattle.model.specs.Sets.{NodeSet, same_node}
 use Rattle.model.specs.Reduction.{reduced_mark}
 use Rattle.model.specs.ReductionLaws.{LeadsBack}

@@ -62,7 +62,7 @@ pub fn walk_again(
     ensures { Arrives (walk_path (reduced_mark (members_of set.now.words)) (registry_of registry.old.words)
         (full_path_of (registry_of registry.old.words) k)) result registry.new.words registry.new.optional.words }
 {
-    let Node::Child(p, e) = registry.load(k) else {
+    let Node::Child(p, e) = registry::load(&registry.words, k) else {
         return Ok((k, 0));
     };
     let (q, made) = walk_again(registry, set, p)?;
@@ -76,7 +76,7 @@ fn leads_back(registry: &Registry, set: &NodeBits, k: NodeId) -> bool
     ensures { result ≡ leads_back (registry_of registry.now.words) (members_of set.now.words) k }
 {
     let mut at = k;
-    while let Node::Child(p, e) = registry.load(at) {
+    while let Node::Child(p, e) = registry::load(&registry.words, at) {
         if reduced_mark(set, p, e) != e.optional {
             return false;
         }

@@ -1,8 +1,8 @@
 // The registry of property paths: nodes numbered from 0 as made, in words: three words a node, and
 // the number of nodes behind them. A node is looked for among those of its bucket, of which there
 // are 512. 128 more words say where each bucket's last node is, and a node's first word where the
-// one before it is. A set of its own has the nodes with an optional entry, so that a reduction finds
-// them at once.
+// one before it is. A set of its own has the nodes with an optional entry, so that a reduction
+// finds them at once.
 #![tactic(auto)]
 
 ghost use Rattle.std.specs.Prelude.{◌≡◌, ◌<◌, ◌+◌, ◌*◌, ◌%◌, ◌^◌, ◌++◌, ◌∷◌, [], length, eqb, ◌&&◌};
@@ -31,7 +31,7 @@ ghost use Rattle.registry.specs.Words.{
 };
 ghost use Rattle.registry.specs.Props.{StandsAt-prop};
 ghost use Rattle.std.proofs.Props.{props};
-ghost use Rattle.registry.specs.Words.{Sized, BucketsLinked, KeySought, Held, Arrives};
+ghost use Rattle.registry.specs.Words.{HoldsRegistry, Sized, BucketsLinked, KeySought, Held, Arrives};
 
 use entries::{DependencyPathEntry, IdentifierId, NodeId, PropertyLiteral, Refusal};
 use rows::NodeBits;
@@ -54,7 +54,8 @@ impl Node {
 // A node as three words, and back. The first word has the identifier (of a root) below the parent,
 // and three marks above it, of which the second is worth two of the first and the third four. Above
 // them stands the link to the node before it in its bucket.
-// Design: packed words, and no array of `Node`, which would take about twice the room (fixed memory).
+// Design: packed words, and no array of `Node`, which would take about twice the room (fixed
+// memory).
 const PARENT: u64 = 4294967296;
 
 const OPTIONAL: u64 = 281474976710656;
@@ -130,6 +131,42 @@ impl Node {
 
 // The words.
 
+pub fn count(ws: &[u64; 1665]) -> usize
+    ensures { result ≡ count_in ws.now }
+{
+    ws[1536] as usize
+}
+
+pub fn load(ws: &[u64; 1665], k: NodeId) -> Node
+    requires { k.0 < 512 }
+    ensures { result ≡ stored_node ws.now k.0 }
+{
+    let at = k.0 * 3;
+    Node::unpack(ws[at], ws[at + 1], ws[at + 2])
+}
+
+// The nodes that words hold, for those who only read them.
+#[derive(Clone, Copy)]
+pub struct Nodes<'a> {
+    pub words: &'a [u64; 1665],
+    pub ghost holds: { HoldsRegistry words.now } by { Prim.hlevel (props, StandsAt-prop) },
+}
+
+impl Nodes<'_> {
+    pub fn count(self) -> usize
+        ensures { result ≡ count_in self.entry.words.now }
+    {
+        count(self.words)
+    }
+
+    pub fn load(self, k: NodeId) -> Node
+        requires { k.0 < 512 }
+        ensures { result ≡ stored_node self.entry.words.now k.0 }
+    {
+        load(self.words, k)
+    }
+}
+
 // The bucket in which a key and a value are looked for.
 fn bucket(key: u64, value: u64) -> usize
     requires { key < reactive_unit }
@@ -190,7 +227,8 @@ fn has_key(ws: &[u64; 1665], k: usize, key: u64, value: u64) -> bool
 
 // The node with this key and value, where there is one. They occur once, so that the search may go
 // from the last node of the bucket to the first, along the links.
-// Design: ends and links are numbers, 0 for none, since they share words with others (fixed memory).
+// Design: ends and links are numbers, 0 for none, since they share words with others (fixed
+// memory).
 fn find(ws: &[u64; 1665], b: usize, key: u64, value: u64) -> Option<NodeId>
     requires { Sized ws.now × BucketsLinked ws.now × (b ≡ bucket_by key value) × (b < 512) }
     ensures { KeySought ws.now key value result }
@@ -252,20 +290,6 @@ impl Registry {
         }
     }
 
-    pub fn count(&self) -> usize
-        ensures { result ≡ count_in self.now.words }
-    {
-        self.words[1536] as usize
-    }
-
-    pub fn load(&self, k: NodeId) -> Node
-        requires { k.0 < 512 }
-        ensures { result ≡ stored_node self.now.words k.0 }
-    {
-        let at = k.0 * 3;
-        Node::unpack(self.words[at], self.words[at + 1], self.words[at + 2])
-    }
-
     // The node with the key and value of these words, made where there is none, and how many nodes
     // were made for it, 1 or 0.
     fn find_or_make(&mut self, head: u64, value: u64, span: u64) -> Result<(NodeId, usize), Refusal>
@@ -278,7 +302,7 @@ impl Registry {
         if let Some(k) = find(&self.words, b, key, value) {
             return Ok((k, 0));
         }
-        let end = self.count();
+        let end = count(&self.words);
         if end < Node::LIMIT {
             push(&mut self.words, b, head, value, span);
             note(&mut self.optional, head, NodeId(end));

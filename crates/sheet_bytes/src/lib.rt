@@ -14,7 +14,7 @@ ghost use Rattle.writer.specs.Writes.{HasRoom, Puts};
 ghost use Rattle.sheet_bytes.specs.Sheet.{root_of, set_record, set_records, WritesSheet};
 
 use entries::{BlockId, IdentifierId, NodeId, RoundsRun};
-use registry::{Node, Registry};
+use registry::{Node, Nodes};
 use writer::Writer;
 
 // Design: a mark is the number that its two bytes make, as the format has it; no code goes by it.
@@ -33,13 +33,13 @@ pub struct PathRoot {
 }
 
 // What node k's path has of its root, which is reached from parent to parent.
-fn root_of(registry: &Registry, k: NodeId) -> PathRoot
-    requires { k.0 < count_in registry.now.words }
-    ensures { result ≡ root_of (full_path_of (registry_of registry.now.words) k) }
+fn root_of(nodes: Nodes, k: NodeId) -> PathRoot
+    requires { k.0 < count_in nodes.words.now }
+    ensures { result ≡ root_of (full_path_of (registry_of nodes.entry.words.now) k) }
 {
     let mut at = k;
     loop {
-        match registry.load(at) {
+        match nodes.load(at) {
             Node::Root(identifier, reactive, _) => {
                 return PathRoot {
                     identifier,
@@ -76,12 +76,12 @@ fn put_origin(w: &mut Writer, n: Node)
 
 // A node: its parent, its root's identifier, the entry by which it is a child, its span and its
 // root's reactive mark.
-fn put_node(registry: &Registry, k: NodeId, w: &mut Writer)
-    requires { (k.0 < count_in registry.now.words) × HasRoom w.old 23 }
-    ensures { Puts w.old w.new 23 (node_bytes span_width (node_at (registry_of registry.now.words) k.0)) }
+fn put_node(nodes: Nodes, k: NodeId, w: &mut Writer)
+    requires { (k.0 < count_in nodes.words.now) × HasRoom w.old 23 }
+    ensures { Puts w.old w.new 23 (node_bytes span_width (node_at (registry_of nodes.entry.words.now) k.0)) }
 {
-    let n = registry.load(k);
-    let root = root_of(registry, k);
+    let n = nodes.load(k);
+    let root = root_of(nodes, k);
     w.number(2, NO);
     w.number(2, parent_number(n));
     w.number(4, u64::from(root.identifier.0));
@@ -91,12 +91,13 @@ fn put_node(registry: &Registry, k: NodeId, w: &mut Writer)
 }
 
 // All nodes, in the order of their making.
-fn put_nodes(registry: &Registry, w: &mut Writer)
+fn put_nodes(nodes: Nodes, w: &mut Writer)
     requires { HasRoom w.old (23 * 512) }
-    ensures { Puts w.old w.new (23 * count_in registry.now.words) (concat_map (node_bytes span_width) (registry_of registry.now.words)) }
+    ensures { Puts w.old w.new (23 * count_in nodes.entry.words.now)
+        (concat_map (node_bytes span_width) (registry_of nodes.entry.words.now)) }
 {
-    for k in 0..registry.count() {
-        put_node(registry, NodeId(k), w);
+    for k in 0..nodes.count() {
+        put_node(nodes, NodeId(k), w);
     }
 }
 
@@ -144,7 +145,7 @@ fn put_head(w: &mut Writer, nodes: usize, blocks: usize, run: RoundsRun, nodes_b
 
 // The whole sheet, from the buffer's start on.
 pub fn put_sheet(
-    registry: &Registry,
+    nodes: Nodes,
     sets: &[u64],
     ids: &[u32; 128],
     blocks: usize,
@@ -153,12 +154,12 @@ pub fn put_sheet(
     out: &mut [u8],
 ) -> usize
     requires { (blocks ≤ 128) × Lent blocks sets.now × (least_buffer ≤ length out.old) }
-    ensures { WritesSheet registry.now.words sets.now ids.now blocks run.rounds run.settled nodes_before
+    ensures { WritesSheet nodes.entry.words.now sets.now ids.now blocks run.rounds run.settled nodes_before
         out.old out.new result }
 {
     let mut w = Writer { out, at: 0 };
-    put_head(&mut w, registry.count(), blocks, run, nodes_before);
-    put_nodes(registry, &mut w);
+    put_head(&mut w, nodes.count(), blocks, run, nodes_before);
+    put_nodes(nodes, &mut w);
     put_blocks(sets, ids, blocks, &mut w);
     w.at
 }

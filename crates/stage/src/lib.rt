@@ -32,7 +32,7 @@ use entries::{Refusal, RoundsRun};
 use graph::Graph;
 use job::JobHead;
 use propagation::Joining;
-use registry::Registry;
+use registry::{Nodes, Registry};
 
 // What is written of a job that is propagated.
 // Design: an enum and no closure, since `perform` is public and its contract says by it what is
@@ -199,7 +199,9 @@ impl<'a> Accepted<'a> {
         match operation {
             Operation::Answer => self.put_answer(registry, sets, run, out),
             Operation::Sheet => sheet_bytes::put_sheet(
-                registry,
+                Nodes {
+                    words: &registry.words,
+                },
                 sets,
                 self.ids,
                 self.head.blocks,
@@ -230,7 +232,9 @@ impl<'a> Accepted<'a> {
         answer_bytes::put_answer(
             sets,
             self.s,
-            registry,
+            Nodes {
+                words: &registry.words,
+            },
             set,
             self.head.candidates_at,
             self.head.candidates,

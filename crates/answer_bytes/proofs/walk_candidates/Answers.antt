@@ -33,7 +33,7 @@ loop-preserved c =
     let k = c.args.candidates.now in
     let kept = c.add_candidate.auto.tree in (
       rw c.from.ensures
-          (subst (Adding k.s.now k.start k.count (registry_of k.registry.now.words) (members_of k.set.words) c.add_candidate.new.tree
+          (subst (Adding k.s.now k.start k.count (registry_of k.nodes.words.now) (members_of k.set.words) c.add_candidate.new.tree
           (c.in-Ok.entries_at + 14 * c.in-Ok.head.entries)) (omega arith)
           (adding_more c.loop.invariant.0 c.requires.1.1 (omega arith) (sym c.in-Ok.ensures) _ _ c.nonnull_levels-levels.ensures kept c.add_candidate.ensures)),
       kept ∙ c.loop.invariant.1,

@@ -10,6 +10,6 @@ use Rattle.answer_bytes.proofs.walk_candidates.Given as goal
 
 abbrev pub invariant-loop : goal.invariant-loop
 invariant-loop l =
-    Adding l.candidates.s.now l.candidates.start l.candidates.count (registry_of l.candidates.registry.now.words)
+    Adding l.candidates.s.now l.candidates.start l.candidates.count (registry_of l.candidates.nodes.words.now)
     (members_of l.candidates.set.words) l.tree l.at (l.candidates.count - l.counter)
     × (length l.tree ≡ length l.initial.tree)

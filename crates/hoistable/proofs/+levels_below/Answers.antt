@@ -11,14 +11,14 @@ use Rattle.hoistable.proofs.Below.{stands_here, at_number, below_number, levels_
 use Rattle.hoistable.proofs.+levels_below.Goals as goal
 
 pub returns-in_default : goal.returns-in_default
-returns-in_default t c = levels_above c.args.registry.now.words c.args.hoist.now _ _ c.in_default.is
+returns-in_default t c = levels_above c.args.nodes.words.now c.args.hoist.now _ _ c.in_default.is
 
 pub returns-in_default-next : goal.returns-in_default-next
 returns-in_default-next t c =
     let here = stands_here c.args.hoist.now _ c.in-Some.is c.requires.1 in
-    c.nonnull-here.ensures.0 ∙ at_number c.args.registry.now.words c.args.hoist.now c.in-Some.number (λ none. omega arith)
-    ∙ ap (λ n. flag (at_non_null (found_in c.args.registry.now.words c.args.hoist.now n))) (sym (ap number_in c.in-Some.is))
-    ∙ levels_last c.requires.2 c.in_default-next.ensures (found_in c.args.registry.now.words c.args.hoist.now (number_in c.args.position))
+    c.nonnull-here.ensures.0 ∙ at_number c.args.nodes.words.now c.args.hoist.now c.in-Some.number (λ none. omega arith)
+    ∙ ap (λ n. flag (at_non_null (found_in c.args.nodes.words.now c.args.hoist.now n))) (sym (ap number_in c.in-Some.is))
+    ∙ levels_last c.requires.2 c.in_default-next.ensures (found_in c.args.nodes.words.now c.args.hoist.now (number_in c.args.position))
 
 pub levels_below-requires : goal.levels_below-requires
 levels_below-requires t c =
@@ -29,19 +29,19 @@ levels_below-requires t c =
 pub overflow_mul-result : goal.overflow_mul-result
 overflow_mul-result t c =
     let small = levels_small (candidate_later c.requires.2 c.in-Some-next.ensures)
-    (found_in c.args.registry.now.words c.args.hoist.now (number_in c.child_by_key-child.result)) c.levels_below.ensures in
+    (found_in c.args.nodes.words.now c.args.hoist.now (number_in c.child_by_key-child.result)) c.levels_below.ensures in
     omega arith
 
 pub overflow_add-result : goal.overflow_add-result
 overflow_add-result t c =
     let small = levels_small (candidate_later c.requires.2 c.in-Some-next.ensures)
-    (found_in c.args.registry.now.words c.args.hoist.now (number_in c.child_by_key-child.result)) c.levels_below.ensures in
+    (found_in c.args.nodes.words.now c.args.hoist.now (number_in c.child_by_key-child.result)) c.levels_below.ensures in
     let one = c.nonnull-here.ensures.1 in
     omega arith
 
 pub returns : goal.returns
 returns t c =
-    let ws = c.args.registry.now.words in
+    let ws = c.args.nodes.words.now in
     let hoist = c.args.hoist.now in
     let number = c.in-Some.number in
     let here = stands_here hoist _ c.in-Some.is c.requires.1 in

@@ -5,7 +5,7 @@ use Rattle.hoistable.proofs.Positions.{seeking, seeking_hit, seeking_miss, seeki
 use Rattle.hoistable.proofs.child_by_key.Goals as goal
 
 pub loop-j-init : goal.loop-j-init
-loop-j-init c = seeking c.args.registry.now.words c.args.hoist.now c.args.parent (key_in c.args.key) _ refl c.requires.1
+loop-j-init c = seeking c.args.nodes.words.now c.args.hoist.now c.args.parent (key_in c.args.key) _ refl c.requires.1
 
 pub returns-then-is_child : goal.returns-then-is_child
 returns-then-is_child c =

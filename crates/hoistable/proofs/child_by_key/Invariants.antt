@@ -4,4 +4,4 @@ use Rattle.hoistable.proofs.Positions.{Seeking}
 use Rattle.hoistable.proofs.child_by_key.Given as goal
 
 abbrev pub invariant-loop-j : goal.invariant-loop-j
-invariant-loop-j l = Seeking l.registry.words l.hoist l.parent (key_in l.key) l.end l.j
+invariant-loop-j l = Seeking l.nodes.words.now l.hoist l.parent (key_in l.key) l.end l.j

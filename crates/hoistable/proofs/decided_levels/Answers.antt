@@ -9,7 +9,7 @@ use Rattle.hoistable.proofs.decided_levels.Goals as goal
 
 pub loop-k-init : goal.loop-k-init
 loop-k-init c =
-    deciding_start c.args.candidate.identifier (entries_at c.args.candidate.entries.left c.args.s.now c.args.candidate.entries.at) c.args.registry.now.words
+    deciding_start c.args.candidate.identifier (entries_at c.args.candidate.entries.left c.args.s.now c.args.candidate.entries.at) c.args.nodes.words.now
     c.args.set.words _ c.requires.1
     (ap (λ (m : MembersFrom). members_from m.set.now.words m.from) c.into_iter-k-iterator.ensures.into_iter_gives ∙ c.members-k-items.ensures)
     c.none-ahead.ensures c.none-rest.ensures

@@ -12,6 +12,6 @@ use Rattle.hoistable.proofs.decided_levels.Given as goal
 abbrev pub invariant-loop-k : goal.invariant-loop-k
 invariant-loop-k l =
     let es = entries_at l.candidate.entries.left l.s l.candidate.entries.at in
-    Deciding l.candidate.identifier es l.registry.words
-    (decided l.candidate.identifier es [] [] (map (full_path_of (registry_of l.registry.words)) (members_of l.fn.set.words))) l.ahead l.rest
+    Deciding l.candidate.identifier es l.nodes.words.now
+    (decided l.candidate.identifier es [] [] (map (full_path_of (registry_of l.nodes.words.now)) (members_of l.fn.set.words))) l.ahead l.rest
     (members_from l.k-iterator.set.now.words l.k-iterator.from)

@@ -8,7 +8,7 @@ use Rattle.hoistable.proofs.enter_members.Goals as goal
 
 pub loop-k-init : goal.loop-k-init
 loop-k-init c =
-    entering c.args.registry.now.words c.args.set.words c.args.ahead c.args.hoist.now _ c.requires.0 c.requires.1
+    entering c.args.nodes.words.now c.args.set.words c.args.ahead c.args.hoist.now _ c.requires.0 c.requires.1
     (ap (λ (m : MembersFrom). members_from m.set.now.words m.from) c.into_iter-k-iterator.ensures.into_iter_gives ∙ c.members-k-items.ensures)
 
 pub loop-k-preserved : goal.loop-k-preserved

@@ -5,4 +5,4 @@ use Rattle.hoistable.proofs.enter_members.Given as goal
 
 abbrev pub invariant-loop-k : goal.invariant-loop-k
 invariant-loop-k l =
-    Entering l.registry.words l.initial.hoist l.fn.set.words l.ahead l.hoist (members_from l.k-iterator.set.now.words l.k-iterator.from)
+    Entering l.nodes.words.now l.initial.hoist l.fn.set.words l.ahead l.hoist (members_from l.k-iterator.set.now.words l.k-iterator.from)

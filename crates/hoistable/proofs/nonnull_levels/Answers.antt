@@ -16,11 +16,12 @@ pub returns-in-Some : goal.returns-in-Some
 returns-in-Some c =
     c.levels_below.ensures
     ∙ tree_levels (members_of c.args.set.words) c.args.candidate.identifier
-    (entries_at c.args.candidate.entries.left c.args.s.now c.args.candidate.entries.at) (tree_given c.args.tree (members_of c.args.set.words) c.in-Some.is c.requires.2)
+    (entries_at c.args.candidate.entries.left c.args.s.now c.args.candidate.entries.at)
+    (tree_given c.args.tree (members_of c.args.set.words) c.in-Some.is c.requires.2)
     c.child_by_key-root.ensures.0
 
 pub returns-in-None : goal.returns-in-None
 returns-in-None c =
-    decided_number (registry_of c.args.registry.now.words) (members_of c.args.set.words) c.args.candidate.identifier
+    decided_number (registry_of c.args.nodes.words.now) (members_of c.args.set.words) c.args.candidate.identifier
     (entries_at c.args.candidate.entries.left c.args.s.now c.args.candidate.entries.at)
     c.decided_levels-levels.ensures c.nonnull.ensures

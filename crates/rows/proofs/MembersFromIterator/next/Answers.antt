@@ -1,5 +1,5 @@
--- The walk over a set's members meets what it says of itself: by `Ahead`, what lies before it is the
--- member found and what lies behind that one.
+-- The walk over a set's members meets what it says of itself: by `Ahead`, what lies before it is
+-- the member found and what lies behind that one.
 use native.Mathlib.Omega.{arith}
 use mathlib.Core.Path.{sym, ◌∙◌}
 use Rattle.rows.proofs.Ahead.{next_at}
