@@ -112,11 +112,7 @@ fn compare_next(
 }
 
 // All operations on a job.
-fn compare_all(
-    list: &mut impl Read,
-    job: &[u8],
-    room: usize,
-) -> io::Result<Option<[Compared; 5]>> {
+fn compare_all(list: &mut impl Read, job: &[u8], room: usize) -> io::Result<Option<[Compared; 5]>> {
     let none = Compared {
         agrees: false,
         refusal: None,
