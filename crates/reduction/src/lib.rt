@@ -41,7 +41,7 @@ fn step(
         registry.new.words registry.new.optional.words }
 {
     let kept = reduced_mark(set, q, e);
-    if q.0 == p.0 && kept == e.optional {
+    if q == p && kept == e.optional {
         return Ok((k, made_before));
     }
     let child = DependencyPathEntry {
@@ -101,7 +101,7 @@ fn pass(registry: &mut Registry, set: &mut NodeBits) -> Result<bool, Refusal>
             continue;
         }
         let (q, _) = walk_again(registry, set, k)?;
-        if q.0 != k.0 {
+        if q != k {
             set.remove(k);
             set.insert(q);
             changed = true;

@@ -27,9 +27,9 @@ insert-requires c =
     node_inside c.loop-k.registry.words c.loop-k.set.words c.loop-k.changed c.in-Some.k c.walk_again.new.registry.words c.in_ok-q.q _
     c.in_ok-q.ensures.1 c.loop-k.registry.held.sound c.walk_again.new.registry.held.sized.room
 
-pub loop-k-preserved-then-q-k : goal.loop-k-preserved-then-q-k
-loop-k-preserved-then-q-k c =
+pub loop-k-preserved-then-ne : goal.loop-k-preserved-then-ne
+loop-k-preserved-then-ne c =
     let vs = c.walk_again.new.registry.words in
     along_more c.loop-k.invariant c.in-Some.k _ c.in-Some.ensures.steps vs c.insert.new.self.words true
-    (node_moved c.loop-k.registry.words c.loop-k.set.words c.loop-k.changed c.in-Some.k vs c.in_ok-q.q _ c.in_ok-q.ensures.1 c.if-q-k.true
+    (node_moved c.loop-k.registry.words c.loop-k.set.words c.loop-k.changed c.in-Some.k vs c.in_ok-q.q _ c.in_ok-q.ensures.1 (search rules)
     c.insert.new.self.words (c.insert.ensures ∙ ap (insert c.in_ok-q.q) c.remove.ensures))
