@@ -19,6 +19,8 @@ use rows::NodeBits;
 use writer::Writer;
 
 // The mark of an answer.
+// Design: a number, as its definition (`AN` in `model`) and `Writer::number`, which writes it, have
+// it; no code goes by it.
 pub const AN: u64 = 0x4E41;
 
 // From so many candidates on the hoistable tree is built. For fewer that takes longer than it
@@ -30,6 +32,9 @@ const FEW_NODES: usize = 64;
 
 // The candidates of a job, from a place in its bytes on, and what they walk by: the registry's
 // nodes, and the scope block's set.
+// Design: that they are read, and the set is of the nodes, is a clause (`Given`) and not of the
+// type: its definition and that of `Added` are of this type and stand in one module with
+// `CandidatesAt` and `WritesAnswer`, which the type would have to name in its turn.
 #[derive(Clone, Copy)]
 struct Candidates<'a> {
     s: &'a [u8],
@@ -80,18 +85,14 @@ fn walk_with_tree(candidates: &Candidates, tree: &mut [u64], hoist: &mut [u64])
     requires { TreeRoom tree.old candidates.now.count × Given candidates.now × (0 < length hoist.old) × (length hoist.old ≤ 513) }
     ensures { Added candidates.now tree.new }
 {
-    let built: Option<&[u64]> = match hoistable::build_tree(
-        hoist,
-        candidates.nodes,
-        candidates.set,
-    ) {
-        Some(()) => Some(hoist),
-        None => None,
-    };
-    walk_candidates(candidates, tree, built);
+    let built = hoistable::build_tree(hoist, candidates.nodes, candidates.set);
+    let hoist: &[u64] = hoist;
+    walk_candidates(candidates, tree, built.map(|()| hoist));
 }
 
 // The dependency tree of the candidates, whatever the words were.
+// Design: two arrays and one function over slices. As a const parameter the two lengths would stand
+// at two calls all the same, and `walk_candidates` would be compiled twice.
 fn add_candidates(candidates: &Candidates, tree: &mut [u64])
     requires { TreeRoom tree.old candidates.now.count × Given candidates.now }
     ensures { Added candidates.now tree.new }
@@ -119,6 +120,7 @@ fn put_head(w: &mut Writer, count: usize, run: RoundsRun)
 
 // The whole answer, from the buffer's start on. The head is written last, since it has the number
 // of returned paths. `tree` is lent for the dependency tree, whatever its words are.
+// Design: eight parameters and no struct, which would be made at the one call and taken apart here.
 pub fn put_answer(
     tree: &mut [u64],
     s: &[u8],

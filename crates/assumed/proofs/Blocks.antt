@@ -108,8 +108,8 @@ module _ {s : List ℕ} {n : ℕ} {places : List ℕ} (job : PlacedJob s n place
   count : length (blocks_of s) ≡ n
   count = ap length (blocks_read job.job job.blocks) ∙ job.blocks.count
 
-  pub block_read : (b : ℕ) → b < n → IsRead (read_block 4 s (get_or places b 0))
-  block_read b l = let t = block_there job.job job.blocks b l in record { value = t.0; next = t.1; read = t.2 }
+  pub block_read : (b : ℕ) → b < n → {at : ℕ} → at ≡ get_or places b 0 → IsRead (read_block 4 s at)
+  block_read b l here = let t = block_there job.job job.blocks b l in record { value = t.0; next = t.1; read = ap (read_block 4 s) here ∙ t.2 }
 
   module _ {room : ℕ} {ws sets : List ℕ} {made b : ℕ} (x : Starting (blocks_of s) n room ws sets made b) where
     all_entered : n ≤ b → start_of (blocks_of s) ≡ record { registry = registry_of ws; sets = rows_of sets n; made = made }
@@ -135,38 +135,38 @@ module _ {s : List ℕ} {n : ℕ} {places : List ℕ} (job : PlacedJob s n place
           sym (ap (λ (st : Started). st.made) is),
         )
 
-    module _ (some : b < n) (r : Result EnteredSet Refusal) (us ps : List ℕ)
-        (entered : EntersAll (mapped assumed_of (read_block 4 s (get_or places b 0))) (none_entered (registry_of ws)) r us ps) where
+    module _ (some : b < n) {at : ℕ} (here : at ≡ get_or places b 0) (r : Result EnteredSet Refusal) (us ps : List ℕ)
+        (entered : EntersAll (mapped assumed_of (read_block 4 s at)) (none_entered (registry_of ws)) r us ps) where
       -- the block that is entered, and what that does to the whole
       next_block : (a : Block)
           × (start_of (blocks_of s) ≡ after (rows_of sets b) made (enter_blocks (registry_of ws) (a ∷ drop (suc b) (blocks_of s))))
           × (next : ℕ) × Fills (enter_block (registry_of ws) a) next r us ps
       next_block =
           let t = block_there job.job job.blocks b some in
-          let here : drop b (blocks_of s) ≡ t.0 ∷ drop (suc b) (blocks_of s) =
+          let first : drop b (blocks_of s) ≡ t.0 ∷ drop (suc b) (blocks_of s) =
           subst (λ (bs : List Block). drop b bs ≡ t.0 ∷ drop (suc b) bs) (sym (blocks_read job.job job.blocks)) t.3 in (
             t.0,
-            x.same ∙ ap (λ bs. after (rows_of sets b) made (enter_blocks (registry_of ws) bs)) here,
+            x.same ∙ ap (λ bs. after (rows_of sets b) made (enter_blocks (registry_of ws) bs)) first,
             t.1,
-            subst (λ (y : Read Block). EntersAll (mapped assumed_of y) (none_entered (registry_of ws)) r us ps) t.2 entered,
+            subst (λ (y : Read Block). EntersAll (mapped assumed_of y) (none_entered (registry_of ws)) r us ps) (ap (read_block 4 s) here ∙ t.2) entered,
           )
 
-    pub starting_full : (some : b < n) (e : Refusal) (us ps : List ℕ)
-        → EntersAll (mapped assumed_of (read_block 4 s (get_or places b 0))) (none_entered (registry_of ws)) (Err e) us ps
+    pub starting_full : (some : b < n) {at : ℕ} (here : at ≡ get_or places b 0) (e : Refusal) (us ps : List ℕ)
+        → EntersAll (mapped assumed_of (read_block 4 s at)) (none_entered (registry_of ws)) (Err e) us ps
         → (e ≡ ManyNodes) × (node_limit < length (start_of (blocks_of s)).registry)
     unfolding enter_blocks
-    starting_full some e us ps entered =
-        let t = next_block some (Err e) us ps entered in
+    starting_full some here e us ps entered =
+        let t = next_block some here (Err e) us ps entered in
         let full = t.3 in
         let longer = extends_length (blocks_extend (enter_block (registry_of ws) t.0).registry (drop (suc b) (blocks_of s))) in
         (full.0, subst (λ (st : Started). node_limit < length st.registry) (sym t.1) (omega arith))
 
-    pub starting_more : (some : b < n) (r : EnteredSet) (us ps : List ℕ)
-        → EntersAll (mapped assumed_of (read_block 4 s (get_or places b 0))) (none_entered (registry_of ws)) (Ok r) us ps
+    pub starting_more : (some : b < n) {at : ℕ} (here : at ≡ get_or places b 0) (r : EnteredSet) (us ps : List ℕ)
+        → EntersAll (mapped assumed_of (read_block 4 s at)) (none_entered (registry_of ws)) (Ok r) us ps
         → (more : List ℕ) → RowSet sets more b (members_of r.set.words) → Starting (blocks_of s) n room us more (made + r.made) (b + 1)
     unfolding enter_blocks
-    starting_more some r us ps entered more stored =
-        let t = next_block some (Ok r) us ps entered in
+    starting_more some here r us ps entered more stored =
+        let t = next_block some here (Ok r) us ps entered in
         let block = enter_block (registry_of ws) t.0 in
         let is = t.3 in
         let longer = subst (λ (y : PathsEntered). length y.registry + 0 ≡ length (registry_of ws) + y.made) is.1

@@ -32,6 +32,9 @@ struct EnteredSet {
 
 impl EnteredSet {
     // One path more, whose fields stand at a place.
+    // Design: here and below, `made ≤ length ..` is a clause and not of the type, since it is of a
+    // set and a registry that changes at each step; and `IsRead` is one, since each function reads
+    // by another reader.
     fn enter_fields(&mut self, s: &[u8], at: usize, registry: &mut Registry) -> Result<(), Refusal>
         requires { (self.old.made ≤ length (registry_of registry.old.words)) × IsRead (read_path_fields span_width s.now at) }
         ensures { EntersAll (mapped itself (read_path_fields span_width s.now at))
@@ -106,8 +109,8 @@ fn enter_block(s: &[u8], at: usize, registry: &mut Registry) -> Result<EnteredSe
 
 // The assumed paths of all blocks of the job that was read, in job order, into a registry that has
 // no node: how many nodes were made in all.
-// Design: `places` is the reader's array, with the number of blocks beside it (fixed memory).
-// `PlacedJob`, which the reader ensures, speaks of both.
+// Design: `places` is the reader's array, with the number of blocks beside it: `PlacedJob`, which
+// the reader ensures and which is required here (docs/PROOFS.md names `enter_blocks`), is of both.
 pub fn enter_blocks(
     s: &[u8],
     places: &[usize; 128],
@@ -120,8 +123,8 @@ pub fn enter_blocks(
         sets.new }
 {
     let mut made = 0;
-    for b in 0..blocks {
-        let entered = enter_block(s, places[b], registry)?;
+    for (b, at) in places[..blocks].iter().enumerate() {
+        let entered = enter_block(s, *at, registry)?;
         rows::set_row(sets, b, entered.set);
         made += entered.made;
     }

@@ -74,6 +74,8 @@ pub struct Entries {
 
 impl Entries {
     // The next one, and those after it. They were read before, so that no field is refused here.
+    // Design: here and below, that entries are read from the bytes is a clause (`AreRead`,
+    // `Candidate`): `nonnull_levels`, which docs/PROOFS.md names, takes bytes and candidate apart.
     fn next(self, s: &[u8]) -> Option<(DependencyPathEntry, Entries)>
         requires { AreRead self.left s.now self.at }
         ensures { Follows (entries_at self.left s.now self.at) s.now self.left result }
@@ -92,11 +94,7 @@ impl Entries {
         ensures { NextIs e.property (entries_at self.left s.now self.at) s.now result }
     {
         let (entry, rest) = self.next(s)?;
-        if entry.property == e.property {
-            Some(rest)
-        } else {
-            None
-        }
+        (entry.property == e.property).then_some(rest)
     }
 }
 
@@ -109,6 +107,8 @@ pub struct CandidateNames {
 
 // What is known of the first levels: bit j of `optional` is 1 where the position at level j is
 // Optional, and `end` is what the bit after them is worth.
+// Design: that both are `Small` is a clause and not of the type: `further` doubles `end`, and that
+// the result is `Small` is known of the candidate's list (`Agrees`) and not of the levels before.
 #[derive(Clone, Copy)]
 struct Levels {
     pub end: u32,
@@ -231,6 +231,8 @@ fn follow(nodes: Nodes, s: &[u8], candidate: CandidateNames, k: NodeId) -> Agree
 // What the set's paths decide of the candidate's levels. Those with an optional first entry come
 // first in the tree's order, so what they decide is kept apart until the end. A path whose root is
 // another's decides nothing, and may go with either.
+// Design: here and below, that the set is of the nodes (`Members`) is a clause, as it is of
+// `nonnull_levels` and `build_tree`, which docs/PROOFS.md names and which take both apart.
 fn decided_levels(nodes: Nodes, set: NodeBits, s: &[u8], candidate: CandidateNames) -> Levels
     requires { Candidate candidate.entries.left s.now candidate.entries.at
         × Members (registry_of nodes.words.now) (members_of set.words) }
@@ -270,6 +272,7 @@ fn word_of(k: NodeId, parent: usize, optional: bool) -> u64
 }
 
 // The key of a node's position.
+// Design: no `From<Node> for Key`, since both types are of other crates.
 fn key_of(n: Node) -> Key
     ensures { key_in result ≡ key_of n }
 {
@@ -290,6 +293,8 @@ fn is_child(nodes: Nodes, word: u64, parent: usize, key: Key) -> bool
 
 // The number of the position below a number that has the key, where there is one. It was made after
 // its parent.
+// Design: a `for` over numbers and no `position` over the words from `parent` on, which counts from
+// there, so that `parent` had to be added again, and whose closure needs a contract: no plainer.
 fn child_by_key(hoist: &[u64], nodes: Nodes, parent: usize, key: Key) -> Option<usize>
     requires { HoldsPositions hoist.now × (parent ≤ positions_in hoist.now) }
     ensures { (number_in result ≡ number_below nodes.entry.words.now hoist.now parent (key_in key)) × Stands hoist.now result }
@@ -348,6 +353,9 @@ fn enter_path(hoist: &mut [u64], nodes: Nodes, k: NodeId, optional: bool) -> Opt
 }
 
 // The path of node k has an optional first entry.
+// Design: a walk up the parents, as `root_of` in `sheet_bytes` and `leads_back` in `reduction` are.
+// Each keeps or tests something else at a parent, so that one walk of all would take a closure with
+// a contract for each, which is longer than this loop.
 fn starts_optional(nodes: Nodes, k: NodeId) -> bool
     requires { (k.0 < count_in nodes.words.now) }
     ensures { result ≡ starts_optional (full_path_of (registry_of nodes.entry.words.now) k).path }
@@ -362,6 +370,7 @@ fn starts_optional(nodes: Nodes, k: NodeId) -> bool
 }
 
 // The paths of the set whose first entry is optional as said, in their order; or there was no room.
+// Design: `ahead` is compared with what `starts_optional` tells, so a bool, as in `EntersPaths`.
 fn enter_members(hoist: &mut [u64], nodes: Nodes, set: NodeBits, ahead: bool) -> Option<()>
     requires { HoldsPositions hoist.old × Members (registry_of nodes.words.now) (members_of set.words) }
     ensures { OnSome result (EntersPaths nodes.entry.words.now hoist.old hoist.new ahead

@@ -25,6 +25,8 @@ pub struct EnteredPath {
 }
 
 // `count` entries more of a path.
+// Design: `made ≤ count_in ..` is a clause and not of the type, since it is of a path and of a
+// registry that changes at each step; and so is `IsRead`, since each function has another reader.
 fn enter_entries(
     s: &[u8],
     count: u8,

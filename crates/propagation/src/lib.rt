@@ -6,7 +6,11 @@
 // two blocks the one with the greater mark was left first. A block is dirty where its join in a
 // walk of that direction may have an effect.
 // Design: the marks of an order stay numbers, since they also say which of two blocks was left
-// first, and 257 bytes are what is lent for an order: fixed memory.
+// first, and marks, blocks and count stay in the same bytes: `OrderNoted`, which docs/PROOFS.md
+// names, and the edits `order_by_the_last` and `order_not_zeroed` are of these bytes.
+// Design: a direction is a bool, as it is in the definitions (`neighbours`, `in_order`, `walk_in`).
+// Design: that a number is a block (`b < size_in ..`) is a clause. Blocks come out of loops and of
+// bytes, so that a value of a type of blocks would be made at each call, which is no plainer.
 #![tactic(auto)]
 
 ghost use Rattle.std.specs.Prelude.{◌≡◌, true, false, ◌<◌, get_or, replicate};
@@ -45,6 +49,8 @@ use rows::NodeBits;
 
 // Which neighbours of a block join: those that are Done; or all, where every one is Done, and else
 // none.
+// Design: an enum and no closure, since the contracts of `propagate_non_null` and of
+// `stage::perform`, which are public, say by it which rule it is (`rule_of`).
 #[derive(Clone, Copy)]
 pub enum Joining {
     DoneNeighbours,
@@ -56,10 +62,7 @@ impl Joining {
     fn asks_all(self) -> bool
         ensures { result ≡ asks_all self }
     {
-        match self {
-            Joining::DoneNeighbours => false,
-            Joining::StrictNeighbours => true,
-        }
+        matches!(self, Joining::StrictNeighbours)
     }
 }
 
@@ -220,6 +223,8 @@ impl Walk<'_> {
     // Where the set of block b has changed, dirty are the blocks that it joins, in a walk of this
     // direction those on the other side, and in one of the other direction those on this side and
     // the block itself.
+    // Design: `dirty` and `other` stay two parameters, here and below. The two walks of a round
+    // take them the other way round, so that a struct of both would be made again for each walk.
     fn mark_changed(self, b: usize, changed: bool, dirty: &mut [bool; 128], other: &mut [bool; 128])
         requires { b < size_in self.graph.bytes.now }
         ensures { Touched self.entry.graph.bytes.now self.entry.backward b changed dirty.old other.old dirty.new other.new }
