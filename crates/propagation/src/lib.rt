@@ -271,6 +271,8 @@ impl Walk<'_> {
 
     // The blocks in the order in which they are left, each joined with those that were left before
     // it.
+    // Design: by number and not over a slice of the order, since a step of a walk is defined by its
+    // number (`step_left`): the block that it leaves, and which blocks were Done before.
     fn run(
         self,
         dirty: &mut [bool; 128],
