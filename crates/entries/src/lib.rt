@@ -59,6 +59,7 @@ impl PropertyLiteral {
 
 // One step of a path: `.property`, or `?.property` where `optional`. The span is the host's number
 // for a place in its source; 0 is none. A job's spans have 32 bits; 64 leave room for wider ones.
+// Design: a span is a number and no `Option`, since the job's bytes and the model's paths have 0.
 #[derive(Clone, Copy)]
 pub struct DependencyPathEntry {
     pub property: PropertyLiteral,

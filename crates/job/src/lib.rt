@@ -17,6 +17,8 @@ use entries::{BlockId, DependencyPathEntry, IdentifierId, PropertyLiteral, Refus
 use fields::Read;
 
 // A mark is the number that its two bytes make, the first lowest.
+// Design: numbers and no enum, since `read_mark` and `read_path` are read at any number of two
+// bytes.
 pub const BL: u16 = 0x4C42;
 
 pub const PA: u16 = 0x4150;
@@ -49,6 +51,8 @@ pub struct InstructionAndRange {
 }
 
 // Of a raw read, the identifier's scope, and whether the identifier is known to be immutable.
+// Design: a flag and two numbers, since `read_scope_and_known` and the model's `RawRead` keep both
+// numbers also where the flag is 0.
 #[derive(Clone, Copy)]
 pub struct ScopeAndKnown {
     pub has_scope: bool,
@@ -74,6 +78,8 @@ pub struct BlockHead {
     pub raw: u8,
 }
 
+// Design: apart from `JobHead`, which has the place of the candidates too: a header is read where
+// that place is not known, and its answer is the model's header (`got_header`).
 #[derive(Clone, Copy)]
 pub struct Header {
     pub blocks: u16,

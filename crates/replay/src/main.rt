@@ -38,6 +38,7 @@ fn next_length(list: &mut impl Read) -> io::Result<Option<usize>> {
 
 // Reads n bytes of the list, and answers whether they were there and had room. Where a read fails,
 // of the space only the length is promised.
+// Design: a bool, since the caller has n: an `Option` of it would say the same number again.
 fn fill(list: &mut impl Read, space: &mut [u8], n: usize) -> io::Result<bool>
     ensures room { IfOk result (λ filled. (filled ≡ true) → (n ≤ length space.new)) }
     ensures err { OnErr result (length space.new ≡ length space.old) }
@@ -112,6 +113,8 @@ fn compare_next(
 }
 
 // All operations on a job.
+// Design: an array that is filled in turn, since a read may fail and end it, and nothing is on the
+// heap to collect into.
 fn compare_all(list: &mut impl Read, job: &[u8], room: usize) -> io::Result<Option<[Compared; 5]>> {
     let none = Compared {
         agrees: false,
@@ -149,6 +152,7 @@ struct Tally {
     refused: [u64; 11],
 }
 
+// Design: refusals are counted by number in an array, since they are printed in that order.
 impl Tally {
     const NOTHING: Tally = Tally {
         agreed: 0,
@@ -174,6 +178,8 @@ impl Tally {
 }
 
 // The tally of each operation, and how many records had one that did not agree.
+// Design: in the order of `PROGRAMS`, as a record's results are; with the program in each tally
+// they would be zipped all the same.
 #[derive(Clone, Copy)]
 struct Tallies {
     operations: [Tally; 5],
@@ -206,6 +212,7 @@ fn line(rt: &impl Print, text: &str, n: u64) -> io::Result<()> {
 }
 
 // How many were written, and how many refused by each number.
+// Design: no `Display`, since the words before each number are another operation's each time.
 fn lines(rt: &impl Print, written: &str, refused: &str, tally: &Tally) -> io::Result<()> {
     line(rt, written, tally.written)?;
     for (number, n) in tally.refused.iter().enumerate().skip(1) {

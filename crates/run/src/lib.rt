@@ -47,6 +47,8 @@ fn respond(program: Program, job: &[u8], out: &mut [u8]) -> usize
     match perform(program, job, out) {
         Ok(length) => length,
         Err(refusal) => {
+            // Design: three bytes that `replay` spells too, since a function for both would be
+            // public, with a contract and an edit of its own, and no shorter.
             out[..3].copy_from_slice(&[b'R', b'F', u8::from(refusal)]);
             3
         }
@@ -84,6 +86,8 @@ pub fn write_full<W: Write>(writer: &mut W, bytes: &[u8]) -> io::Result<()>
     ensures err { OnErr result (AppendsFront (W.contents writer.old) (W.contents writer.new)
         bytes.now) }
 {
+    // Design: a loop and no `write_all`, whose contract does not say what was written on an error,
+    // as the clause `err` does.
     let mut rest = bytes;
     while !rest.is_empty() {
         let taken = writer.write(rest)?;

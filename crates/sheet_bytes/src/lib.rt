@@ -33,6 +33,8 @@ pub struct PathRoot {
 }
 
 // What node k's path has of its root, which is reached from parent to parent.
+// Design: a walk beside those of `hoistable` and `reduction`, which take other things on the way:
+// an iterator for all would be longer than the line that they share.
 fn root_of(nodes: Nodes, k: NodeId) -> PathRoot
     requires { k.0 < count_in nodes.words.now }
     ensures { result ≡ root_of (full_path_of (registry_of nodes.entry.words.now) k) }
@@ -122,6 +124,8 @@ fn put_block(sets: &[u64], b: usize, id: BlockId, w: &mut Writer)
 }
 
 // All blocks, in job order.
+// Design: an array and a count, since `put_sheet` is named in docs/PROOFS.md, and its contract
+// (`WritesSheet`) takes both.
 fn put_blocks(sets: &[u64], ids: &[u32; 128], blocks: usize, w: &mut Writer)
     requires { (blocks ≤ 128) × Lent blocks sets.now × HasRoom w.old (70 * 128) }
     ensures { Puts w.old w.new (70 * blocks) (set_records ids.now sets.now 0 blocks) }

@@ -119,6 +119,8 @@ impl<'a> Accepted<'a> {
 
     // The assumed paths are entered and the blocks propagated: refusal 9, or the operation's bytes.
     // `work` is for the blocks' sets, and then for the dependency tree.
+    // Design: `least_buffer` and `WorkRoom` are clauses, since words and buffer are lent to each
+    // method apart from the job, and each says what it leaves in them.
     fn perform_in(
         &self,
         joining: Joining,
@@ -260,6 +262,8 @@ pub fn perform(
     job.perform(joining, operation, out)
 }
 
+// Design: four functions beside `perform`, since docs/PROOFS.md names each, and each contract is
+// the model's own verdict (`answer_of`, `sheet_of`, `strict_answer_of`, `strict_sheet_of`).
 // The answer of a job, in the out buffer, or the refusal.
 #[tactic(auto, unfolding(crate::specs::Jobs::verdict_of, model::specs::Answer::answer_of))]
 pub fn answer(s: &[u8], out: &mut [u8]) -> Result<usize, Refusal>
@@ -304,6 +308,7 @@ pub fn thin(s: &[u8], out: &mut [u8]) -> Result<usize, Refusal>
 }
 
 // Document 01's number: the length, or minus the refusal's number.
+// Design: no `From`, since neither `Result` nor `i64` is a type of this repository.
 fn number(outcome: Result<usize, Refusal>) -> i64
     requires { FitsNumber outcome }
     ensures { result ≡ outcome_number outcome }
@@ -316,6 +321,7 @@ fn number(outcome: Result<usize, Refusal>) -> i64
 
 // What the C interface returns and leaves: a slice is a pointer and a length. `stage_c` exports
 // these under the same names; from a crate that other crates use nothing is exported.
+// Design: five functions that differ in the operation, since C calls each by its name.
 
 #[unsafe(no_mangle)]
 pub extern "C" fn scope_deps_answer(job: &[u8], out: &mut [u8]) -> i64

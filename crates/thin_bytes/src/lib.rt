@@ -90,6 +90,8 @@ fn is_repeat(s: &[u8], first: usize, earlier: u16, at: usize) -> bool
 
 // One path more, behind `earlier` ones of its list that stand from `first` on: it is written unless
 // it equals one of them. The job was read, so that it is there.
+// Design: bytes, place of the list and writer are parameters, since the clauses (`PathNext`,
+// `ThinsPath`, `ThinsPaths`) take each; the writer alone changes, and `first` is another per list.
 fn thin_path(
     s: &[u8],
     first: usize,

@@ -44,6 +44,8 @@ use writer::Writer;
 const HEAD_SIZE: usize = 10;
 
 // What stands before a path's entries, at the place after its mark.
+// Design: zeros where nothing is read, in two functions, since the definitions of the same names,
+// by which the specs read, are total in that way and have two types.
 #[tactic(auto, unfolding(crate::specs::Words::head_at))]
 fn head_at(s: &[u8], at: usize) -> PathHead
     ensures { result ≡ head_at s.now at }
@@ -136,6 +138,7 @@ fn merged_word(w: u64, with: PropertyAccessType) -> u64
 }
 
 // The word with a link that it has not yet, to the first child or to the next sibling.
+// Design: `child` is a bool, since the definitions `link_in` and `linked_word` take one.
 fn with_link(w: u64, child: bool, number: usize) -> u64
     requires { (link_in child w ≡ 0) × (number < 2048) }
     ensures { result ≡ linked_word child w number }
@@ -167,6 +170,7 @@ fn has_key(s: &[u8], parent: usize, place: usize, key: Key) -> bool
 
 // The walk of a candidate.
 
+// Design: no `From<bool>`, since a bool does not say that it is the mark NonNull.
 fn step_access(nonnull: bool) -> PropertyAccessType
     ensures { result ≡ step_access nonnull }
 {
@@ -195,11 +199,7 @@ fn first_child(tree: &[u64], parent: usize) -> Option<usize>
     ensures { Leads tree.now parent parent result }
 {
     if parent == 0 {
-        if tree[tree.len() - 1] == 0 {
-            None
-        } else {
-            Some(1)
-        }
+        (tree[tree.len() - 1] != 0).then_some(1)
     } else {
         child_in(tree[parent - 1])
     }
@@ -208,6 +208,8 @@ fn first_child(tree: &[u64], parent: usize) -> Option<usize>
 // The number of the position that has the step's parent and key, or, where there is none, that of
 // the last child of the parent, behind which it would stand: the parent's own where there is no
 // child.
+// Design: a walk beside that of `collect_minimal_deps_in_subtree`: this one stops, that one writes
+// and goes down. An iterator of children would be longer than the two lines that they share.
 fn seek(tree: &[u64], s: &[u8], key: Key, step: u64) -> Result<usize, usize>
     requires { Sized tree.now × (parent_in step ≤ count_in tree.now) × (key_in key ≡ key_at s.now (parent_in step) (place_in step)) }
     ensures { Seeks s.now tree.now step result }
@@ -227,6 +229,9 @@ fn seek(tree: &[u64], s: &[u8], key: Key, step: u64) -> Result<usize, usize>
 }
 
 // Merges an access into position i.
+// Design: words, as the caller lends them, and no struct with `Sized` and `Held`: `add_candidate`
+// and `derive_minimal_dependencies`, which are public and in docs/PROOFS.md, take the words with
+// clauses.
 fn merge_at(tree: &mut [u64], i: usize, with: PropertyAccessType)
     requires { i < length tree.old }
     ensures { tree.new ≡ set tree.old i (merged_word (get_or tree.old i 0) with) }
@@ -325,10 +330,13 @@ pub fn add_candidate(tree: &mut [u64], s: &[u8], at: usize, levels: u32)
 // The paths that are derived.
 
 // The mark of a returned path.
+// Design: a number and no enum, since `path_bytes` takes a mark as the number of its two bytes.
 pub const DE: u16 = 0x4544;
 
 // What a path takes of a position: as its root, identifier and reactive; as one of its entries, the
 // entry.
+// Design: one struct with fields that a root or a child does not use, since the definition
+// `parts_of` of the contract gives all three of any position.
 #[derive(Clone, Copy)]
 struct Position {
     identifier: IdentifierId,

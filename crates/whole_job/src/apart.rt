@@ -50,8 +50,9 @@ impl<'a> Stamps<'a> {
     }
 
     // The same from each of `count` ids, read from a place on.
-    // Design: a loop beside that of `ids_apart`, since one over both would need an iterator of the
-    // ids in bytes, which is longer than this loop.
+    // Design: a loop that moves a place, as in `ids_into` and in `edges`. An iterator of the ids
+    // would be a struct with the proof that its items are these `notes`, for two lines of each
+    // loop.
     fn fields_apart(&mut self, s: &[u8], start: usize, count: u8, stamp: u8) -> bool
         ensures { result ≡ true → BlocksStamped self.old self.new stamp
             (notes note_value count (read_number 4) s.now start) }

@@ -36,6 +36,8 @@ fn unknown_in(ids: &[u32], known: &[u32]) -> bool
 }
 
 // `count` ids from a place on, which were read before, stored.
+// Design: an array of the most ids with a count, since memory is fixed; and a place that moves,
+// since the clause speaks of the notes of `read_many`, which moves it.
 fn ids_into(s: &[u8], start: usize, count: u8, out: &mut [u32; 64])
     requires { (count ≤ 64) × IsRead (read_many count read_block_id s.now start) }
     ensures { out.new ≡ sets out.old 0 (notes note_value count (read_number 4) s.now start) }
@@ -59,6 +61,8 @@ fn predecessors_at<'a>(s: &[u8], at: usize, out: &'a mut [u32; 64]) -> &'a [u32]
 }
 
 // Whether the predecessors of a block at one of these places pass a test.
+// Design: `BlocksRead` is a clause, since it is said in this file alone, of bytes and cut places,
+// and `checked_by` would have to build a type for both from this same clause.
 fn any_block<F: Fn(&[u32]) -> bool>(s: &[u8], places: &[usize], test: F) -> bool
     ghost passes: { List ℕ → Bool }
     requires callable { F.IsAlwaysCallable test }

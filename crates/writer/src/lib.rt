@@ -15,6 +15,7 @@ pub struct Writer<'a> {
     pub at: usize,
 }
 
+// Design: the room is a clause, and no fact in the type, since each method asks another.
 impl<'a> Writer<'a> {
     // A number in so many bytes.
     pub fn number(&mut self, bytes: usize, x: u64)
@@ -60,6 +61,8 @@ impl<'a> Writer<'a> {
     }
 
     // What stands before a path's entries, under a mark, and how many entries there are.
+    // Design: no struct of these, since identifier and mark are of a path's root, and the span is
+    // of its last position (`tree::put_path`).
     pub fn path_head(
         &mut self,
         mark: u16,
