@@ -14,6 +14,7 @@ use entries::NodeId;
 use std::array;
 
 // Node k is bit k % 64 of word k / 64.
+// Design: `k.0 < 512` stays a clause: a `NodeId` with that bound would ask more of who builds one.
 #[derive(Clone, Copy)]
 pub struct NodeBits {
     pub words: [u64; 8],
@@ -68,6 +69,7 @@ impl NodeBits {
         }
     }
 
+    // Design: no derived `==`: docs/PROOFS.md names this, whose promise is of the sets.
     pub fn same_set(self, other: NodeBits) -> bool
         ensures { result ≡ same_set (members_of self.words) (members_of other.words) }
     {
@@ -85,6 +87,7 @@ impl NodeBits {
     pub fn next(&self, from: usize) -> Option<NodeId>
         ensures { result ≡ first_of (members_from self.now.words from) }
     {
+        // Design: words by index, since behind the last one the slice `words[from / 64..]` is none.
         let mut k = from;
         for at in from / 64..8 {
             let left = self.words[at] >> (k % 64);
@@ -127,7 +130,7 @@ impl<'a> Iterator for MembersFrom<'a> {
 
 // Row b is the eight words from b * 8 on.
 // Design: rows are words of a lent slice, and no array of sets, since these words are lent for the
-// dependency tree afterwards (fixed memory).
+// dependency tree afterwards (fixed memory). `Lent` is of another count of rows in each contract.
 pub fn row(ws: &[u64], b: usize) -> NodeBits
     requires { Lent (b + 1) ws.now }
     ensures { members_of result.words ≡ row_of ws.now b }
@@ -144,11 +147,11 @@ pub fn intersection_of_rows(ws: &[u64], places: &[u8]) -> NodeBits
     ensures { members_of result.words ≡ intersection_of (map (row_of ws.now) places.now) }
 {
     if places.len() == 0 {
-        return NodeBits { words: [0; 8] };
+        return NodeBits::empty();
     }
     let mut found = row(ws, usize::from(places[0]));
-    for i in 1..places.len() {
-        found = found.intersection(row(ws, usize::from(places[i])));
+    for b in &places[1..] {
+        found = found.intersection(row(ws, usize::from(*b)));
     }
     found
 }
