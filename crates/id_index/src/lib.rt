@@ -8,7 +8,7 @@ ghost use Rattle.std.specs.Prelude.{◌≡◌, ◌≤◌, length};
 ghost use Rattle.id_index.specs.Index.{block_by};
 
 // The ids of blocks, and an index of them.
-// Design: the bytes stay numbers, since `Option<u8>` would take twice the memory, which is fixed.
+// Design: the bytes stay numbers, and no `Option<u8>`, since `place_by` reads them as numbers.
 #[derive(Drop)]
 pub struct IdIndex<'a> {
     pub ids: &'a [u32],

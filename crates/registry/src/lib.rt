@@ -54,8 +54,8 @@ impl Node {
 // A node as three words, and back. The first word has the identifier (of a root) below the parent,
 // and three marks above it, of which the second is worth two of the first and the third four. Above
 // them stands the link to the node before it in its bucket.
-// Design: packed words, and no array of `Node`, which would take about twice the room (fixed
-// memory).
+// Design: packed words, and no array of `Node`, since the definitions `stored_node` and `unpack`,
+// on which the registry's theorems and edits rest, read the node from words.
 const PARENT: u64 = 4294967296;
 
 const OPTIONAL: u64 = 281474976710656;
