@@ -14,16 +14,18 @@ use Rattle.model.specs.Tests.{ltb_less, ltb_not_less}
 use Rattle.model.specs.ReadingBytes.{got}
 use Rattle.model.specs.Registry.{node_limit}
 use Rattle.model.specs.Rounds.{Rounds}
-use Rattle.model.specs.Propagation.{Work, JoiningRule}
+use Rattle.model.specs.Strict.{strict_neighbours, strict_answer_of, strict_sheet_of}
+use Rattle.model.specs.Propagation.{Work, JoiningRule, done_neighbours}
 use Rattle.model.specs.Job.{HD, Job, read_job}
 use Rattle.model.specs.Stage.{start_of, propagated}
-use Rattle.model.specs.Answer.{Verdict, writes, turns_back, within_nodes, on_job, least_buffer, longest_job, span_width, buffer_after}
+use Rattle.model.specs.Answer.{Verdict, writes, turns_back, within_nodes, on_job, least_buffer, longest_job, span_width, buffer_after, answer_of, sheet_of}
 use Rattle.registry.proofs.View.{registry_length}
 use Rattle.writer.specs.Writes.{Writes}
 use Rattle.entries.specs.declared.RoundsRun.{RoundsRun}
 use Rattle.propagation.specs.Propagates.{HoldsRounds}
 use Rattle.propagation.proofs.Answers.{propagated_registry}
 use Rattle.stage.specs.declared.Operation.{Operation}
+use Rattle.stage.specs.declared.Operation.TheVariants as operation
 use Rattle.std.specs.Prelude.{Result, Ok, Err}
 use Rattle.stage.specs.declared.Accepted.{Accepted}
 use Rattle.stage.specs.Jobs.{operation_bytes, outcome_of, TurnedBack, Meets, verdict_of, job_verdict}
@@ -78,3 +80,21 @@ module _ (rule : JoiningRule) (op : Operation) (s out : List ℕ) where
   by_job o same wide =
       let short : length s ≤ longest_job = subst (λ (l : List ℕ). length l ≤ longest_job) same o.short in
       rw (same, ltb_not_less (length out) least_buffer wide, ltb_not_less longest_job (length s) short)
+
+-- The operations, each under its rule.
+
+pub answer_verdict : (s out : List ℕ) → verdict_of done_neighbours operation.Answer s out ≡ answer_of s out
+unfolding verdict_of answer_of
+answer_verdict s out = refl
+
+pub sheet_verdict : (s out : List ℕ) → verdict_of done_neighbours operation.Sheet s out ≡ sheet_of s out
+unfolding verdict_of sheet_of
+sheet_verdict s out = refl
+
+pub strict_answer_verdict : (s out : List ℕ) → verdict_of strict_neighbours operation.Answer s out ≡ strict_answer_of s out
+unfolding verdict_of strict_answer_of
+strict_answer_verdict s out = refl
+
+pub strict_sheet_verdict : (s out : List ℕ) → verdict_of strict_neighbours operation.Sheet s out ≡ strict_sheet_of s out
+unfolding verdict_of strict_sheet_of
+strict_sheet_verdict s out = refl

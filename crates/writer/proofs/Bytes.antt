@@ -172,18 +172,20 @@ sets_before [] vs l k i h = refl
 sets_before (u ∷ us) vs l k i h = ap (λ (t : List ℕ). sets t (suc i) us) (set_before vs l k i u (omega arith)) ∙ sets_before us vs (set l i u) k (suc i)
     (omega arith)
 
+pub writes_before : {a b c : List ℕ} {at size next end : ℕ} {front rest : List ℕ} → length front ≡ size → Writes a b (at + size) rest end
+    → Writes b c at front next → Writes a c at (front ++ rest) end
+writes_before {a} {b} {c} {at} {size} {next} {end} {front} {rest} e w h =
+    let first : Writes a (sets a at front) at front (at + size) = record { is = refl; ends = ap (λ (n : ℕ). at + n) (sym e) } in
+    let second : Writes (sets a at front) c (at + size) rest end = record
+    { is = h.is ∙ ap (λ (l : List ℕ). sets l at front) w.is ∙ sets_before front rest a (at + size) at (omega arith); ends = w.ends } in
+    writes_then first second
+
 pub puts_before : {a b c : Writer} {m n : ℕ} {front rest : List ℕ} → Puts (moved a (a.at + m)) b n rest → Puts (moved b a.at) c m front
     → Puts a (moved c b.at) (m + n) (front ++ rest)
 puts_before {a} {b} {c} {m} {n} {front} {rest} w h =
     let size : length front ≡ m = let e = h.next in let f = h.writes.ends in omega arith in
-    let first : Writes a.out.now (sets a.out.now a.at front) a.at front (a.at + m) =
-    record { is = refl; ends = ap (λ (k : ℕ). a.at + k) (sym size) } in
-    let second : Writes (sets a.out.now a.at front) c.out.now (a.at + m) rest b.at = record {
-      is = h.writes.is ∙ ap (λ (l : List ℕ). sets l a.at front) w.writes.is ∙ sets_before front rest a.out.now (a.at + m) a.at (omega arith);
-      ends = w.writes.ends;
-    } in
     record {
-      writes = writes_then first second;
+      writes = writes_before size w.writes h.writes;
       next = w.next ∙ add_assoc a.at m n;
       long = h.long ∙ w.long;
       same = h.same ∙ w.same;
