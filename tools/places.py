@@ -16,8 +16,10 @@ from collections import Counter, defaultdict
 top = os.path.join(os.path.dirname(os.path.abspath(__file__)), "..")
 listed = None
 words = sys.argv[1:]
-if words[:1] == ["--list"]:
-    listed, words = words[1], words[2:]
+if "--list" in words:
+    at = words.index("--list")
+    listed = words[at + 1]
+    del words[at : at + 2]
 if words:
     top = words[0]
 
@@ -110,7 +112,7 @@ for path, text in crates():
         names = {}
         shape = re.sub(r"\b[a-z_]\w*\b", lambda m: names.setdefault(m.group(0), f"v{len(names)}"), shape)
         shape = re.sub(r"\s+", " ", shape)
-        if len(shape) > 20:
+        if len(shape) > 8:
             shapes[shape].append(f"{path}:{line}: {name}")
 for same in shapes.values():
     if len(same) > 1:
