@@ -4,6 +4,8 @@
 // bit r % 8 of byte r / 8 says that the block of rank r is a successor of block b. Of the 64 bytes
 // from 2305 + b * 64 on, byte i is the place of predecessor i of block b. The graph of n blocks
 // takes 2305 + n * 64 bytes.
+// Design: a layout of bytes, and no struct of arrays: they are lent, and with as many rows of
+// predecessors as there are blocks (`GraphFits`), which an array of one length would not be.
 #![tactic(auto)]
 
 ghost use Rattle.std.specs.Prelude.{◌≡◌, true, false, ◌≤◌, ◌<◌, length};
@@ -18,6 +20,7 @@ pub struct Graph<'a> {
 }
 
 // The neighbours of a block in a direction that are still to come, those from a number on.
+// Design: the direction is a `bool`, since the definitions `neighbours` and `Finds` take one.
 #[derive(Clone, Copy)]
 pub struct Neighbours<'a> {
     pub graph: Graph<'a>,
@@ -55,6 +58,8 @@ fn successor_bits(graph: &[u8], b: usize, half: usize) -> u64
 }
 
 // The lowest set bit of a word from a bit on, where there is one.
+// Design: not `NodeBits::next`, which searches eight words that are stored: these two are put
+// together of bytes as they are met, and to make both first would load bytes for nothing.
 fn lowest_bit(w: u64, from: usize) -> Option<usize>
     requires { from < 64 }
     ensures { Lowest w from result }
@@ -87,11 +92,8 @@ impl<'a> Graph<'a> {
         requires { b < size_in self.bytes.now }
         ensures { Finds self.entry.bytes.now true b from result }
     {
-        // Design: a turn passes a word, and the first begins within one, so a `for` over words
-        // would have to say for each where it begins: no plainer.
         let mut r = from.max(128 - size(self.bytes));
-        while r < 128 {
-            let at = r / 64;
+        for at in r / 64..2 {
             if let Some(bit) = lowest_bit(successor_bits(self.bytes, b, at), r % 64) {
                 let rank = at * 64 + bit;
                 let k = usize::from(self.bytes[129 + rank]);

@@ -71,6 +71,7 @@ pub fn walk_again(
 
 // Whether the path of node k, walked again under the marks that the set leaves, leads back to k:
 // each optional entry keeps its mark. This goes up the parents and searches nothing.
+// Design: a walk of its own, since those of `hoistable` and `sheet_bytes` keep other things.
 fn leads_back(registry: &Registry, set: &NodeBits, k: NodeId) -> bool
     requires { k.0 < count_in registry.now.words }
     ensures { result ≡ leads_back (registry_of registry.now.words) (members_of set.now.words) k }

@@ -48,6 +48,7 @@ impl Node {
     pub const LIMIT: usize = 512;
 
     // What stands for the parent of a root.
+    // Design: a number, as the sheet's format has it (`parent_number`).
     pub const ROOT: u64 = 65535;
 }
 
@@ -131,6 +132,7 @@ impl Node {
 
 // The words.
 
+// Design: `count` and `load` stand beside the methods of `Nodes`, since they ask less of the words.
 pub fn count(ws: &[u64; 1665]) -> usize
     ensures { result ≡ count_in ws.now }
 {
@@ -197,6 +199,7 @@ fn raise(ends: u64, i: usize, rise: u64) -> u64
 }
 
 // One node more in these words, which is the last of its bucket b.
+// Design: a node's three words apart, as `Packed` has them; `Node` is what they stand for.
 fn push(ws: &mut [u64; 1665], b: usize, head: u64, value: u64, span: u64)
     requires { Sized ws.old × BucketsLinked ws.old × NodesPacked ws.old × (count_in ws.old < 512)
         × Packed head value span × (head < link_unit) × (b ≡ bucket_by (head % reactive_unit) value) × (b < 512) }
@@ -292,6 +295,7 @@ impl Registry {
 
     // The node with the key and value of these words, made where there is none, and how many nodes
     // were made for it, 1 or 0.
+    // Design: a number, since the model's `made` is a sum of them.
     fn find_or_make(&mut self, head: u64, value: u64, span: u64) -> Result<(NodeId, usize), Refusal>
         requires { Packed head value span × (head < link_unit) × Inside (unpack head value span) (count_in self.old.words) }
         ensures { Arrives (reached_for (registry_of self.old.words) (unpack head value span)) result self.new.words
@@ -313,6 +317,7 @@ impl Registry {
     }
 
     // The root for an identifier.
+    // Design: two functions, as in the Rust, which differ in the node that they ask for.
     pub fn get_or_create_identifier(
         &mut self,
         identifier: IdentifierId,
