@@ -59,15 +59,13 @@ fn next_part(list: &mut impl Read, space: &mut [u8]) -> io::Result<Option<usize>
         return Ok(None);
     };
     let filled = fill(list, space, n)?;
-    Ok(if filled { Some(n) } else { None })
+    Ok(filled.then_some(n))
 }
 
 // Whether the buffer holds these bytes and is as it was after them.
 fn holds(out: &[u8], bytes: &[u8]) -> bool {
-    match out.strip_prefix(bytes) {
-        Some(rest) => rest.iter().all(|b| *b == 0xA5),
-        None => false,
-    }
+    out.strip_prefix(bytes)
+        .is_some_and(|rest| rest.iter().all(|b| *b == 0xA5))
 }
 
 // 65,536 bytes that no operation has written, for out buffers of all lengths in the list. The
