@@ -1,4 +1,5 @@
 // Program `answer`: a job on standard input, its answer on standard output.
+// Design: five programs, each a crate of one line, since they have five names; `run` does the work.
 #![tactic(auto)]
 
 use run::Program;

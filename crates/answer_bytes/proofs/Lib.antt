@@ -1,2 +1,2 @@
-pub mod Candidates
+pub mod Walks
 pub mod Whole

@@ -8,6 +8,10 @@ use Rattle.model.specs.Sets.{NodeSet}
 use Rattle.model.specs.Registry.{PropertyPathRegistry, full_path_of}
 use Rattle.model.specs.Tree.{dependency_tree, derive_minimal_dependencies}
 use Rattle.model.specs.Answer.{u8, u16, flag, AN, DE, path_bytes, span_width, longest_job}
+use Rattle.model.specs.ReductionLaws.{Members}
+use Rattle.rows.specs.Members.{members_of}
+use Rattle.registry.specs.Words.{registry_of}
+use Rattle.answer_bytes.specs.declared.Candidates.{Candidates}
 use Rattle.writer.specs.Writes.{Writes}
 use Rattle.tree.specs.Tree.{Held, forest_of}
 
@@ -31,6 +35,14 @@ pub record AddsCandidates (s : List ℕ) (start count : ℕ) (reg : PropertyPath
   pub held : Held s tree
   pub is : (cs : List ReactiveScopeDependency) (end : ℕ) → read_many count (read_path span_width CA) s start ≡ got cs end
       → forest_of s tree ≡ dependency_tree (map (full_path_of reg) set) cs
+
+-- The candidates are read from their place on, and the set has nodes of the registry alone.
+abbrev pub Given : Candidates → Type 0
+Given c = Members (registry_of c.nodes.words.now) (members_of c.set.words) × CandidatesAt c.s.now c.start c.count
+
+-- The words hold their dependency tree.
+abbrev pub Added : Candidates → List ℕ → Type 0
+Added c tree = AddsCandidates c.s.now c.start c.count (registry_of c.nodes.words.now) (members_of c.set.words) tree
 
 -- "AN, count u16, rounds u8, settled u8 (1 or 0)"
 abbrev pub head_bytes : ℕ → ℕ → Bool → List ℕ

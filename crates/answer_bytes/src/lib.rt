@@ -3,20 +3,24 @@
 // tree is built for them once.
 #![tactic(auto)]
 
-ghost use Rattle.std.specs.Prelude.{◌≡◌, ◌≤◌, ◌<◌, length};
+ghost use Rattle.std.specs.Prelude.{◌≤◌, ◌<◌, length, option_copied};
 ghost use Rattle.model.specs.ReductionLaws.{Members};
 ghost use Rattle.model.specs.Answer.{least_buffer};
 ghost use Rattle.rows.specs.Members.{members_of};
-ghost use Rattle.registry.specs.Words.{registry_of, HoldsRegistry};
+ghost use Rattle.registry.specs.Words.{registry_of};
 ghost use Rattle.hoistable.specs.Positions.{MayHoldTree};
-ghost use Rattle.writer.specs.Writes.{Writes};
-ghost use Rattle.answer_bytes.specs.Answers.{CandidatesAt, TreeRoom, AddsCandidates, head_bytes, WritesAnswer};
+ghost use Rattle.writer.specs.Writes.{HasRoom, Puts};
+ghost use Rattle.answer_bytes.specs.Answers.{CandidatesAt, TreeRoom, Given, Added, head_bytes, WritesAnswer};
 
-use job::ReadPathHead;
+use entries::RoundsRun;
+use hoistable::{CandidateNames, Entries};
+use registry::Nodes;
 use rows::NodeBits;
-use writer::{flag, put_number};
+use writer::Writer;
 
 // The mark of an answer.
+// Design: a number, as its definition (`AN` in `model`) and `Writer::number`, which writes it, have
+// it; no code goes by it.
 pub const AN: u64 = 0x4E41;
 
 // From so many candidates on the hoistable tree is built. For fewer that takes longer than it
@@ -26,146 +30,124 @@ const SEVERAL: usize = 3;
 // Up to so many nodes it is built in fewer words, which take less time to clear.
 const FEW_NODES: usize = 64;
 
-// Each candidate from a place on walks, and is added to the dependency tree, whatever its words
-// were. `hoist` may hold the hoistable tree of the scope block's set.
-fn walk_candidates(
-    tree: &mut [u64],
-    hoist: &[u64],
-    s: &[u8],
-    ws: &[u64; 1665],
+// The candidates of a job, from a place in its bytes on, and what they walk by: the registry's
+// nodes, and the scope block's set.
+// Design: that they are read, and the set is of the nodes, is a clause (`Given`) and not of the
+// type: its definition and that of `Added` are of this type and stand in one module with
+// `CandidatesAt` and `WritesAnswer`, which the type would have to name in its turn.
+#[derive(Clone, Copy)]
+struct Candidates<'a> {
+    s: &'a [u8],
+    nodes: Nodes<'a>,
     set: NodeBits,
     start: usize,
     count: usize,
-)
-    requires { TreeRoom tree.old count × HoldsRegistry ws.now × Members (registry_of ws.now) (members_of set.words)
-        × CandidatesAt s.now start count × MayHoldTree ws.now hoist.now (members_of set.words) }
-    ensures { AddsCandidates s.now start count (registry_of ws.now) (members_of set.words)
-        tree.new }
-{
-    tree::clear(tree);
-    let mut at = start;
-    let mut left = count;
-    while 0 < left {
-        let fields_at = at + 2;
-        let head_field = job::path_head_at(s, fields_at);
-        let ReadPathHead::Value(head, entries_at) = head_field else {
-            return;
-        };
-        let identifier = head.identifier;
-        let levels = hoistable::nonnull_levels(
-            hoist,
-            ws,
-            set,
-            s,
-            identifier,
-            entries_at,
-            head.entries,
-        );
-        tree::add_candidate(tree, s, fields_at, levels);
-        at = entries_at + job::ENTRY_SIZE * (head.entries as usize);
-        left = left - 1;
-    }
 }
 
-// The candidates walk without the hoistable tree: one word is lent in its place, which is no tree.
-fn walk_without_tree(
-    tree: &mut [u64],
-    s: &[u8],
-    ws: &[u64; 1665],
-    set: NodeBits,
-    start: usize,
-    count: usize,
-)
-    requires { TreeRoom tree.old count × HoldsRegistry ws.now × Members (registry_of ws.now) (members_of set.words)
-        × CandidatesAt s.now start count }
-    ensures { AddsCandidates s.now start count (registry_of ws.now) (members_of set.words)
-        tree.new }
+// Each candidate walks, and is added to the dependency tree, whatever its words were. `hoist` is
+// the hoistable tree of the scope block's set, where it was built.
+fn walk_candidates(candidates: &Candidates, tree: &mut [u64], hoist: Option<&[u64]>)
+    requires { TreeRoom tree.old candidates.now.count × Given candidates.now
+        × MayHoldTree candidates.now.nodes.words.now (option_copied hoist) (members_of candidates.now.set.words) }
+    ensures { Added candidates.now tree.new }
 {
-    let none = [0u64; 1];
-    walk_candidates(tree, &none, s, ws, set, start, count);
+    let Candidates {
+        s,
+        nodes,
+        set,
+        start,
+        count,
+    } = *candidates;
+    tree::clear(tree);
+    let mut at = start;
+    for _ in 0..count {
+        let fields_at = at + 2;
+        let Ok((head, entries_at)) = job::path_head_at(s, fields_at) else {
+            return;
+        };
+        let candidate = CandidateNames {
+            identifier: head.identifier,
+            entries: Entries {
+                at: entries_at,
+                left: head.entries,
+            },
+        };
+        let levels = hoistable::nonnull_levels(hoist, nodes, set, s, candidate);
+        tree::add_candidate(tree, s, fields_at, levels);
+        at = entries_at + job::ENTRY_SIZE * usize::from(head.entries);
+    }
 }
 
 // The candidates walk with the hoistable tree, built in words that are lent, or without it where
 // there is no room. `add_candidates` lends enough, since each position has a node of its own, but
 // no proof needs that.
-fn walk_with_tree(
-    tree: &mut [u64],
-    hoist: &mut [u64],
-    s: &[u8],
-    ws: &[u64; 1665],
-    set: NodeBits,
-    start: usize,
-    count: usize,
-)
-    requires { TreeRoom tree.old count × HoldsRegistry ws.now × Members (registry_of ws.now) (members_of set.words)
-        × CandidatesAt s.now start count × (0 < length hoist.old) × (length hoist.old ≤ 513) }
-    ensures { AddsCandidates s.now start count (registry_of ws.now) (members_of set.words)
-        tree.new }
+fn walk_with_tree(candidates: &Candidates, tree: &mut [u64], hoist: &mut [u64])
+    requires { TreeRoom tree.old candidates.now.count × Given candidates.now × (0 < length hoist.old) × (length hoist.old ≤ 513) }
+    ensures { Added candidates.now tree.new }
 {
-    if hoistable::build_tree(hoist, ws, set) {
-        walk_candidates(tree, hoist, s, ws, set, start, count);
-    } else {
-        walk_without_tree(tree, s, ws, set, start, count);
-    }
+    let built = hoistable::build_tree(hoist, candidates.nodes, candidates.set);
+    let hoist: &[u64] = hoist;
+    walk_candidates(candidates, tree, built.map(|()| hoist));
 }
 
-// The dependency tree of the candidates from a place on, whatever the words were; `set` is the
-// scope block's.
-fn add_candidates(
-    tree: &mut [u64],
-    s: &[u8],
-    ws: &[u64; 1665],
-    set: NodeBits,
-    start: usize,
-    count: usize,
-)
-    requires { TreeRoom tree.old count × HoldsRegistry ws.now × Members (registry_of ws.now) (members_of set.words)
-        × CandidatesAt s.now start count }
-    ensures { AddsCandidates s.now start count (registry_of ws.now) (members_of set.words)
-        tree.new }
+// The dependency tree of the candidates, whatever the words were.
+// Design: two arrays and one function over slices. As a const parameter the two lengths would stand
+// at two calls all the same, and `walk_candidates` would be compiled twice.
+fn add_candidates(candidates: &Candidates, tree: &mut [u64])
+    requires { TreeRoom tree.old candidates.now.count × Given candidates.now }
+    ensures { Added candidates.now tree.new }
 {
-    if count < SEVERAL {
-        walk_without_tree(tree, s, ws, set, start, count);
-    } else if registry::count(ws) <= FEW_NODES {
+    if candidates.count < SEVERAL {
+        walk_candidates(candidates, tree, None);
+    } else if candidates.nodes.count() <= FEW_NODES {
         let mut hoist = [0u64; 65];
-        walk_with_tree(tree, &mut hoist, s, ws, set, start, count);
+        walk_with_tree(candidates, tree, &mut hoist);
     } else {
         let mut hoist = [0u64; 513];
-        walk_with_tree(tree, &mut hoist, s, ws, set, start, count);
+        walk_with_tree(candidates, tree, &mut hoist);
     }
 }
 
 // What stands before the returned paths.
-fn put_head(out: &mut [u8], count: usize, rounds: u8, settled: bool) -> usize
-    requires { 6 ≤ length out.old }
-    ensures { Writes out.old out.new 0 (head_bytes count rounds settled) result }
+fn put_head(w: &mut Writer, count: usize, run: RoundsRun)
+    requires { HasRoom w.old 6 }
+    ensures { Puts w.old w.new 6 (head_bytes count run.rounds run.settled) }
 {
-    let count_at = put_number(out, 0, 2, AN);
-    let rounds_at = put_number(out, count_at, 2, count as u64);
-    let settled_at = put_number(out, rounds_at, 1, rounds as u64);
-    put_number(out, settled_at, 1, flag(settled))
+    w.number(2, AN);
+    w.number(2, count as u64);
+    w.rounds(run);
 }
 
 // The whole answer, from the buffer's start on. The head is written last, since it has the number
 // of returned paths. `tree` is lent for the dependency tree, whatever its words are.
+// Design: eight parameters and no struct, which would be made at the one call and taken apart here.
 pub fn put_answer(
     tree: &mut [u64],
     s: &[u8],
-    ws: &[u64; 1665],
+    nodes: Nodes,
     set: NodeBits,
     start: usize,
     count: usize,
-    rounds: u8,
-    settled: bool,
+    run: RoundsRun,
     out: &mut [u8],
 ) -> usize
-    requires { TreeRoom tree.old count × HoldsRegistry ws.now × Members (registry_of ws.now) (members_of set.words)
+    requires { TreeRoom tree.old count × Members (registry_of nodes.words.now) (members_of set.words)
         × CandidatesAt s.now start count × (least_buffer ≤ length out.old) }
-    ensures { WritesAnswer s.now start count (registry_of ws.now)
-        (members_of set.words) rounds settled out.old out.new result }
+    ensures { WritesAnswer s.now start count (registry_of nodes.entry.words.now)
+        (members_of set.words) run.rounds run.settled out.old out.new result }
 {
-    add_candidates(tree, s, ws, set, start, count);
-    let written = tree::derive_minimal_dependencies(tree, s, out, 6);
-    put_head(out, written.count, rounds, settled);
-    written.at
+    let candidates = Candidates {
+        s,
+        nodes,
+        set,
+        start,
+        count,
+    };
+    add_candidates(&candidates, tree);
+    let mut w = Writer { out, at: 6 };
+    let count = tree::derive_minimal_dependencies(tree, s, &mut w);
+    let end = w.at;
+    w.at = 0;
+    put_head(&mut w, count, run);
+    end
 }

@@ -4,7 +4,9 @@ use Prim.Native.Nat.{ℕ, zero, suc, ◌+◌, ◌*◌, ◌≤◌, ◌<◌}
 use native.Mathlib.Omega.{arith}
 use native.Mathlib.Nat.{zero-add, add-zero}
 use mathlib.Core.Path.{◌≡◌, refl, sym, ap, subst, ◌∙◌}
-use mathlib.Core.Bool.{true, false}
+use Rattle.std.specs.Prelude.{Result, Ok, Err}
+use Rattle.entries.specs.declared.Refusal.{Refusal}
+use Rattle.entries.specs.declared.Refusal.TheVariants.{ManyNodes}
 use mathlib.Core.List.{List, [], ◌∷◌, ◌++◌, append_assoc, append-nil}
 use lib.ListN.{length, get_or, set, drop, drop_of_length-le}
 use lib.Seq.{get_or-set_same}
@@ -25,7 +27,7 @@ use Rattle.job.specs.Kept.{blocks_of, PlacedJob}
 use Rattle.job.specs.Passing.{IsRead}
 use Rattle.job.proofs.BlocksAt.{blocks_read, block_there}
 use Rattle.assumed.specs.declared.EnteredSet.{EnteredSet}
-use Rattle.assumed.specs.Start.{FillsBy, Fills, EntersAll, StartHeld}
+use Rattle.assumed.specs.Start.{Fills, EntersAll, StartHeld}
 use Rattle.assumed.proofs.Filling.{paths_extend}
 
 -- The blocks that are left.
@@ -81,18 +83,15 @@ one_more front more made e reg s made_here bs cs is stored same =
 
 -- The blocks that are left start, after the sets before them, what is wanted, and what was made for
 -- those before is among the nodes. There is as much room for sets as at the start.
-pub record Starting (bs : List Block) (n room : ℕ) (ws os sets : List ℕ) (made b : ℕ) : Type 0 where
-  pub held : Held ws os
+pub record Starting (bs : List Block) (n room : ℕ) (ws sets : List ℕ) (made b : ℕ) : Type 0 where
   pub among : made ≤ length (registry_of ws)
   pub long : length sets ≡ room
   pub below : b ≤ n
   pub same : start_of bs ≡ after (rows_of sets b) made (enter_blocks (registry_of ws) (drop b bs))
 
-pub starting : (bs : List Block) (n : ℕ) (ws os sets : List ℕ) → Held ws os → registry_of ws ≡ []
-    → Starting bs n (length sets) ws os sets 0 0
+pub starting : (bs : List Block) (n : ℕ) (ws sets : List ℕ) → registry_of ws ≡ [] → Starting bs n (length sets) ws sets 0 0
 unfolding rows_of
-starting bs n ws os sets held none = record {
-  held = held;
+starting bs n ws sets none = record {
   among = omega arith;
   long = refl;
   below = omega arith;
@@ -102,17 +101,17 @@ starting bs n ws os sets held none = record {
 }
 
 -- what was made is among the nodes, for which the words have room
-pub starting_few : {bs : List Block} {n room : ℕ} {ws os sets : List ℕ} {made b : ℕ} → Starting bs n room ws os sets made b → made ≤ 512
-starting_few {ws = ws} x = let size = registry_length ws in let room = x.held.sized.room in let among = x.among in omega arith
+pub starting_few : {bs : List Block} {n room : ℕ} {ws os sets : List ℕ} {made b : ℕ} → Held ws os → Starting bs n room ws sets made b → made ≤ 512
+starting_few {ws = ws} held x = let size = registry_length ws in let room = held.sized.room in let among = x.among in omega arith
 
 module _ {s : List ℕ} {n : ℕ} {places : List ℕ} (job : PlacedJob s n places) where
   count : length (blocks_of s) ≡ n
   count = ap length (blocks_read job.job job.blocks) ∙ job.blocks.count
 
-  pub block_read : (b : ℕ) → b < n → IsRead (read_block 4 s (get_or places b 0))
-  block_read b l = let t = block_there job.job job.blocks b l in record { value = t.0; next = t.1; read = t.2 }
+  pub block_read : (b : ℕ) → b < n → {at : ℕ} → at ≡ get_or places b 0 → IsRead (read_block 4 s at)
+  block_read b l here = let t = block_there job.job job.blocks b l in record { value = t.0; next = t.1; read = ap (read_block 4 s) here ∙ t.2 }
 
-  module _ {room : ℕ} {ws os sets : List ℕ} {made b : ℕ} (x : Starting (blocks_of s) n room ws os sets made b) where
+  module _ {room : ℕ} {ws sets : List ℕ} {made b : ℕ} (x : Starting (blocks_of s) n room ws sets made b) where
     all_entered : n ≤ b → start_of (blocks_of s) ≡ record { registry = registry_of ws; sets = rows_of sets n; made = made }
     unfolding enter_blocks
     all_entered none =
@@ -123,11 +122,12 @@ module _ {s : List ℕ} {n : ℕ} {places : List ℕ} (job : PlacedJob s n place
         x.same ∙ ap (λ bs. after (rows_of sets b) made (enter_blocks (registry_of ws) bs)) gone
         ∙ (λ i. record { registry = registry_of ws; sets = rows i; made = add-zero made i })
 
-    pub starting_end : n * 8 ≤ room → n ≤ b → StartHeld (start_of (blocks_of s)) n ws os sets × (made ≡ (start_of (blocks_of s)).made)
-    starting_end enough none =
+    pub starting_end : (os : List ℕ) → Held ws os → n * 8 ≤ room → n ≤ b
+        → StartHeld (start_of (blocks_of s)) n ws os sets × (made ≡ (start_of (blocks_of s)).made)
+    starting_end os held enough none =
         let is = all_entered none in (
           record {
-            held = x.held;
+            held = held;
             lent = rw x.long enough;
             registry = ap (λ (st : Started). st.registry) is;
             sets = ap (λ (st : Started). st.sets) is;
@@ -135,48 +135,49 @@ module _ {s : List ℕ} {n : ℕ} {places : List ℕ} (job : PlacedJob s n place
           sym (ap (λ (st : Started). st.made) is),
         )
 
-    module _ (some : b < n) (r : EnteredSet) (us ps : List ℕ)
-        (entered : EntersAll (mapped assumed_of (read_block 4 s (get_or places b 0))) (none_entered (registry_of ws)) r us ps) where
+    module _ (some : b < n) {at : ℕ} (here : at ≡ get_or places b 0) (r : Result EnteredSet Refusal) (us ps : List ℕ)
+        (entered : EntersAll (mapped assumed_of (read_block 4 s at)) (none_entered (registry_of ws)) r us ps) where
       -- the block that is entered, and what that does to the whole
       next_block : (a : Block)
           × (start_of (blocks_of s) ≡ after (rows_of sets b) made (enter_blocks (registry_of ws) (a ∷ drop (suc b) (blocks_of s))))
           × (next : ℕ) × Fills (enter_block (registry_of ws) a) next r us ps
       next_block =
           let t = block_there job.job job.blocks b some in
-          let here : drop b (blocks_of s) ≡ t.0 ∷ drop (suc b) (blocks_of s) =
+          let first : drop b (blocks_of s) ≡ t.0 ∷ drop (suc b) (blocks_of s) =
           subst (λ (bs : List Block). drop b bs ≡ t.0 ∷ drop (suc b) bs) (sym (blocks_read job.job job.blocks)) t.3 in (
             t.0,
-            x.same ∙ ap (λ bs. after (rows_of sets b) made (enter_blocks (registry_of ws) bs)) here,
+            x.same ∙ ap (λ bs. after (rows_of sets b) made (enter_blocks (registry_of ws) bs)) first,
             t.1,
-            subst (λ (y : Read Block). EntersAll (mapped assumed_of y) (none_entered (registry_of ws)) r us ps) t.2 entered,
+            subst (λ (y : Read Block). EntersAll (mapped assumed_of y) (none_entered (registry_of ws)) r us ps) (ap (read_block 4 s) here ∙ t.2) entered,
           )
 
-      pub starting_full : r.full ≡ true → node_limit < length (start_of (blocks_of s)).registry
-      unfolding enter_blocks
-      starting_full e =
-          let t = next_block in
-          let f : node_limit < length (enter_block (registry_of ws) t.0).registry =
-          subst (λ f. FillsBy f (enter_block (registry_of ws) t.0) t.2 r us ps) e t.3 in
-          let longer = extends_length (blocks_extend (enter_block (registry_of ws) t.0).registry (drop (suc b) (blocks_of s))) in
-          subst (λ (st : Started). node_limit < length st.registry) (sym t.1) (omega arith)
+    pub starting_full : (some : b < n) {at : ℕ} (here : at ≡ get_or places b 0) (e : Refusal) (us ps : List ℕ)
+        → EntersAll (mapped assumed_of (read_block 4 s at)) (none_entered (registry_of ws)) (Err e) us ps
+        → (e ≡ ManyNodes) × (node_limit < length (start_of (blocks_of s)).registry)
+    unfolding enter_blocks
+    starting_full some here e us ps entered =
+        let t = next_block some here (Err e) us ps entered in
+        let full = t.3 in
+        let longer = extends_length (blocks_extend (enter_block (registry_of ws) t.0).registry (drop (suc b) (blocks_of s))) in
+        (full.0, subst (λ (st : Started). node_limit < length st.registry) (sym t.1) (omega arith))
 
-      pub starting_more : r.full ≡ false → (more : List ℕ) → RowSet sets more b (members_of r.set.words)
-          → Starting (blocks_of s) n room us ps more (made + r.made) (b + 1)
-      unfolding enter_blocks
-      starting_more e more stored =
-          let t = next_block in
-          let block = enter_block (registry_of ws) t.0 in
-          let is : FillsBy false block t.2 r us ps = subst (λ f. FillsBy f block t.2 r us ps) e t.3 in
-          let longer = subst (λ (y : PathsEntered). length y.registry + 0 ≡ length (registry_of ws) + y.made) is.1
-          (paths_longer (none_entered (registry_of ws)) (assumed_of t.0)) in
-          record {
-            held = is.0;
-            among = let so_far = x.among in omega arith;
-            long = stored.long ∙ x.long;
-            below = omega arith;
-            same =
-                t.1
-                ∙ one_more (rows_of sets b) (rows_of more (b + 1)) made block (registry_of us) (members_of r.set.words) r.made
-                (drop (suc b) (blocks_of s)) (drop (b + 1) (blocks_of s)) is.1
-                (row_more sets more b (members_of r.set.words) stored) (let next : suc b ≡ b + 1 = omega arith in ap (λ k. drop k (blocks_of s)) next);
-          }
+    pub starting_more : (some : b < n) {at : ℕ} (here : at ≡ get_or places b 0) (r : EnteredSet) (us ps : List ℕ)
+        → EntersAll (mapped assumed_of (read_block 4 s at)) (none_entered (registry_of ws)) (Ok r) us ps
+        → (more : List ℕ) → RowSet sets more b (members_of r.set.words) → Starting (blocks_of s) n room us more (made + r.made) (b + 1)
+    unfolding enter_blocks
+    starting_more some here r us ps entered more stored =
+        let t = next_block some here (Ok r) us ps entered in
+        let block = enter_block (registry_of ws) t.0 in
+        let is = t.3 in
+        let longer = subst (λ (y : PathsEntered). length y.registry + 0 ≡ length (registry_of ws) + y.made) is.1
+        (paths_longer (none_entered (registry_of ws)) (assumed_of t.0)) in
+        record {
+          among = let so_far = x.among in omega arith;
+          long = stored.long ∙ x.long;
+          below = omega arith;
+          same =
+              t.1
+              ∙ one_more (rows_of sets b) (rows_of more (b + 1)) made block (registry_of us) (members_of r.set.words) r.made
+              (drop (suc b) (blocks_of s)) (drop (b + 1) (blocks_of s)) is.1
+              (row_more sets more b (members_of r.set.words) stored) (let next : suc b ≡ b + 1 = omega arith in ap (λ k. drop k (blocks_of s)) next);
+        }

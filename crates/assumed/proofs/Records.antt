@@ -1,6 +1,7 @@
 -- What a block's records bring, by their parts: a ready path, behind its mark, and a raw read's
 -- path where its head says that it is kept; and all of them, those of the raw reads first.
 use Prim.Native.Nat.{ℕ, ◌+◌}
+use Rattle.std.specs.Prelude.{Result}
 use mathlib.Core.Path.{◌≡◌, refl, sym, ap, subst, ◌∙◌}
 use mathlib.Core.Bool.{Bool, true, false, cond}
 use mathlib.Core.List.{List, [], ◌∷◌, ◌++◌, map, append_assoc}
@@ -13,20 +14,16 @@ use Rattle.model.specs.Lists.{select}
 use Rattle.model.specs.ReadingBytes.{Read, got, refused, and_then, mapped, read_many, read_number, read_mark}
 use Rattle.model.specs.RawReads.{RawRead, is_immutable_at_instr, kept_paths}
 use Rattle.model.specs.Job.{PA, RD, read_path_fields, read_path, read_raw_read}
-use Rattle.fields.proofs.Within.{mark_fields}
+use Rattle.fields.proofs.Steps.{mark_fields}
 use Rattle.model.specs.Stage.{PathsEntered}
-use Rattle.rows.specs.Members.{members_of}
-use Rattle.registry.specs.Words.{registry_of, Held}
 use Rattle.job.specs.Passing.{IsRead, passed}
 use Rattle.job.specs.Head.{read_raw_head, raw_read_of}
 use Rattle.job.specs.declared.RawHead.{RawHead}
 use Rattle.job.proofs.Heads.{path_by_fields, raw_read_fields, raw_read_by_head}
 use Rattle.job.proofs.Many.{many_view, many_then}
 use Rattle.job.proofs.Passing.{not_both, mapped_got, then_got, passed_got}
-use Rattle.assumed.specs.declared.Brought.{Brought}
-use Rattle.assumed.specs.declared.Brought.TheVariants.{Fields, Nothing, Never}
 use Rattle.assumed.specs.declared.EnteredSet.{EnteredSet}
-use Rattle.assumed.specs.Start.{itself, path_if_kept, read_brought_by, read_brought, Brings, all_of, entered_so_far, FillsBy, EntersAll}
+use Rattle.assumed.specs.Start.{itself, path_if_kept, read_brought_by, read_brought, all_of, EntersAll}
 
 -- By the mark that stands there.
 
@@ -37,7 +34,7 @@ brought_by s at e = ap (λ (x : Read Unit). read_brought_by x s at) e
 -- A ready path.
 
 module _ (s : List ℕ) (at : ℕ) {fields_at : ℕ} (marked : read_mark PA s at ≡ got tt fields_at) where
-  pub ready_fields : read_path 4 PA s at ≡ read_path_fields 4 s fields_at
+  ready_fields : read_path 4 PA s at ≡ read_path_fields 4 s fields_at
   ready_fields = path_by_fields PA s at ∙ ap (λ (x : Read Unit). and_then x (λ _ n. read_path_fields 4 s n)) marked
 
 -- A raw read.
@@ -66,7 +63,7 @@ module _ (s : List ℕ) (at : ℕ) {head : RawHead} {fields_at : ℕ} (headed : 
       go (got d n) = ap (λ (ds : List ReactiveScopeDependency). got ds n) (kept d)
       go (refused r) = refl
 
-  pub raw_kept : ((d : ReactiveScopeDependency) → is_immutable_at_instr (raw_read_of head d) ≡ true)
+  raw_kept : ((d : ReactiveScopeDependency) → is_immutable_at_instr (raw_read_of head d) ≡ true)
       → mapped path_if_kept (read_raw_read 4 s at) ≡ mapped itself (read_path_fields 4 s fields_at)
   raw_kept e = by_head true e
 
@@ -78,32 +75,27 @@ module _ (s : List ℕ) (at : ℕ) {head : RawHead} {fields_at : ℕ} (headed : 
       → read_path_fields 4 s fields_at ≡ refused r → mapped path_if_kept (read_raw_read 4 s at) ≡ refused r
   raw_cut e cut = by_head false e ∙ ap (mapped (λ d. [])) cut
 
--- The answers of `brought_at` by their case.
+-- A record, by what it brings.
 
-module _ (x : Read (List ReactiveScopeDependency)) (s : List ℕ) (q : Brought) (brings : Brings x s q) where
-  module _ {at : ℕ} (is : q ≡ Fields at) where
-    of_fields : x ≡ mapped itself (read_path_fields 4 s at)
-    of_fields = subst (Brings x s) is brings
+-- the fields of one path
+pub fields_there : {x : Read (List ReactiveScopeDependency)} {y : Read ReactiveScopeDependency} → x ≡ mapped itself y → IsRead x → IsRead y
+fields_there {y = y} brings there =
+    let m = mapped_got itself y (sym brings ∙ there.read) in
+    record { value = m.0; next = there.next; read = m.1 }
 
-    pub fields_there : IsRead x → IsRead (read_path_fields 4 s at)
-    fields_there there =
-        let m = mapped_got itself (read_path_fields 4 s at) (sym of_fields ∙ there.read) in
-        record { value = m.0; next = there.next; read = m.1 }
+pub record_entered : {x y : Read (List ReactiveScopeDependency)} (start : PathsEntered) (r : Result EnteredSet Refusal) (ws os : List ℕ) → x ≡ y
+    → EntersAll y start r ws os → EntersAll x start r ws os
+record_entered start r ws os brings = subst (λ (z : Read (List ReactiveScopeDependency)). EntersAll z start r ws os) (sym brings)
 
-    pub record_entered : (start : PathsEntered) (r : EnteredSet) (ws os : List ℕ) → EntersAll (mapped itself (read_path_fields 4 s at)) start r ws os
-        → EntersAll x start r ws os
-    record_entered start r ws os = subst (λ (y : Read (List ReactiveScopeDependency)). EntersAll y start r ws os) (sym of_fields)
+-- a ready path, and a raw read that is kept
+pub ready_brings : (s : List ℕ) (at : ℕ) {fields_at : ℕ} → read_mark PA s at ≡ got tt fields_at
+    → read_brought s at ≡ mapped itself (read_path_fields 4 s fields_at)
+ready_brings s at marked = brought_by s at marked ∙ ap (mapped itself) (ready_fields s at marked)
 
-  pub record_passed : {next : ℕ} → q ≡ Nothing next → (e r : EnteredSet) (ws os : List ℕ) → Held ws os → r.set ≡ e.set → r.made ≡ e.made → r.at ≡ next
-      → r.full ≡ false → EntersAll x (entered_so_far (registry_of ws) e) r ws os
-  record_passed {next} is e r ws os held set made place room =
-      let same : entered_so_far (registry_of ws) e ≡ entered_so_far (registry_of ws) r =
-      λ i. record { registry = registry_of ws; set = members_of (sym set i).words; made = sym made i } in
-      subst (λ (y : Read (List ReactiveScopeDependency)). EntersAll y (entered_so_far (registry_of ws) e) r ws os) (sym (subst (Brings x s) is brings))
-      (subst (λ f. FillsBy f (entered_so_far (registry_of ws) e) next r ws os) (sym room) (held, same, place))
-
-  pub never_brought : {B : Type 0} → q ≡ Never → B
-  never_brought is = absurd (subst (Brings x s) is brings)
+pub kept_brings : (s : List ℕ) (at : ℕ) {r : Refusal} {head : RawHead} {fields_at : ℕ} → read_mark PA s at ≡ refused r
+    → read_raw_head s at ≡ got head fields_at → ((d : ReactiveScopeDependency) → is_immutable_at_instr (raw_read_of head d) ≡ true)
+    → read_brought s at ≡ mapped itself (read_path_fields 4 s fields_at)
+kept_brings s at other headed kept = brought_by s at other ∙ raw_kept s at headed kept
 
 -- All records of a block.
 

@@ -1,21 +1,19 @@
 -- What entering the assumed paths leaves in the lent words.
-use Rattle.std.specs.Prelude.{ℕ, ◌≤◌, ◌<◌, ◌≡◌, Bool, true, false, List, [], ◌∷◌, length}
+use Rattle.std.specs.Prelude.{ℕ, ◌<◌, ◌≡◌, List, [], ◌∷◌, length, Result, Ok, Err}
+use Rattle.entries.specs.declared.Refusal.{Refusal}
+use Rattle.entries.specs.declared.Refusal.TheVariants.{ManyNodes}
 use Rattle.entries.specs.Path.{ReactiveScopeDependency}
 use Rattle.model.specs.Lists.{concat_map}
 use Rattle.model.specs.ReadingBytes.{Read, got, refused, ByteReader, mapped, read_mark}
 use Rattle.model.specs.RawReads.{RawRead, kept_paths}
-use Rattle.model.specs.Job.{PA, read_path_fields, read_path, read_raw_read}
+use Rattle.model.specs.Job.{PA, read_path, read_raw_read}
 use Rattle.model.specs.Answer.{span_width}
 use Rattle.model.specs.Registry.{node_limit, PropertyPathRegistry}
 use Rattle.model.specs.Stage as stage
 use Rattle.rows.specs.Members.{members_of}
 use Rattle.rows.specs.Rows.{Lent, rows_of}
 use Rattle.registry.specs.Words.{registry_of, Held}
-use Rattle.assumed.specs.declared.Brought.{Brought}
-use Rattle.assumed.specs.declared.Brought.TheVariants.{Fields, Nothing, Never}
 use Rattle.assumed.specs.declared.EnteredSet.{EnteredSet}
-use Rattle.assumed.specs.declared.BlocksEntered.{BlocksEntered}
-use Rattle.assumed.specs.declared.BlocksEntered.TheVariants.{All, Full}
 
 -- one path, as a list
 abbrev pub itself : ReactiveScopeDependency → List ReactiveScopeDependency
@@ -35,12 +33,6 @@ read_brought_by (refused r) s at = mapped path_if_kept (read_raw_read span_width
 unfoldable pub read_brought : ByteReader (List ReactiveScopeDependency)
 read_brought s at = read_brought_by (read_mark PA s at) s at
 
--- That, by where the fields of a path stand, or by the place after a record that brings none.
-abbrev pub Brings : Read (List ReactiveScopeDependency) → List ℕ → Brought → Type 0
-Brings x s (Fields at) = x ≡ mapped itself (read_path_fields span_width s at)
-Brings x s (Nothing next) = x ≡ got [] next
-Brings x s Never = ⊥
-
 -- what all records bring
 abbrev pub all_of : List (List ReactiveScopeDependency) → List ReactiveScopeDependency
 all_of dss = concat_map (λ (ds : List ReactiveScopeDependency). ds) dss
@@ -49,24 +41,21 @@ all_of dss = concat_map (λ (ds : List ReactiveScopeDependency). ds) dss
 abbrev pub entered_so_far : PropertyPathRegistry → EnteredSet → stage.PathsEntered
 entered_so_far reg e = record { registry = reg; set = members_of e.set.words; made = e.made }
 
--- The words hold a registry, and what was made for a block's paths so far is among its nodes.
-pub record Entering (ws os : List ℕ) (e : EnteredSet) : Type 0 where
-  pub held : Held ws os
-  pub among : e.made ≤ length (registry_of ws)
+-- what was entered, or why it was not
+abbrev pub came_to : Result Unit Refusal → EnteredSet → Result EnteredSet Refusal
+came_to (Ok u) e = Ok e
+came_to (Err r) e = Err r
 
 -- The words hold the registry that the paths lead to, the set is that of their nodes, as many nodes
--- were made for them, and the place is the one after them; or that registry has no room.
-abbrev pub FillsBy : Bool → stage.PathsEntered → ℕ → EnteredSet → List ℕ → List ℕ → Type 0
-FillsBy true want end r ws os = node_limit < length want.registry
-FillsBy false want end r ws os = Held ws os × (want ≡ entered_so_far (registry_of ws) r) × (r.at ≡ end)
-
--- The same, by whether the code says that there was no room.
-abbrev pub Fills : stage.PathsEntered → ℕ → EnteredSet → List ℕ → List ℕ → Type 0
-Fills want end r ws os = FillsBy r.full want end r ws os
+-- were made for them, and the place is the one after them; or that registry has no room, which is
+-- refusal 9.
+abbrev pub Fills : stage.PathsEntered → ℕ → Result EnteredSet Refusal → List ℕ → List ℕ → Type 0
+Fills want end (Ok r) ws os = Held ws os × (want ≡ entered_so_far (registry_of ws) r) × (r.at ≡ end)
+Fills want end (Err e) ws os = (e ≡ ManyNodes) × (node_limit < length want.registry)
 
 -- The paths that a part of the job brings, which was read, are entered after what was entered so
 -- far.
-abbrev pub EntersAll : Read (List ReactiveScopeDependency) → stage.PathsEntered → EnteredSet → List ℕ → List ℕ → Type 0
+abbrev pub EntersAll : Read (List ReactiveScopeDependency) → stage.PathsEntered → Result EnteredSet Refusal → List ℕ → List ℕ → Type 0
 EntersAll (got ds end) start r ws os = Fills (stage.enter_paths start ds) end r ws os
 EntersAll (refused x) start r ws os = ⊥
 
@@ -78,7 +67,7 @@ pub record StartHeld (want : stage.Started) (n : ℕ) (ws os rows : List ℕ) : 
   pub sets : want.sets ≡ rows_of rows n
 
 -- "All assumed paths are entered first, in job order": that, with as many nodes made for them, or
--- that the registry has no room.
-abbrev pub Starts : stage.Started → ℕ → BlocksEntered → List ℕ → List ℕ → List ℕ → Type 0
-Starts want n (All made) ws os sets = StartHeld want n ws os sets × (made ≡ want.made)
-Starts want n Full ws os sets = node_limit < length want.registry
+-- that the registry has no room, which is refusal 9.
+abbrev pub Starts : stage.Started → ℕ → Result ℕ Refusal → List ℕ → List ℕ → List ℕ → Type 0
+Starts want n (Ok made) ws os sets = StartHeld want n ws os sets × (made ≡ want.made)
+Starts want n (Err e) ws os sets = (e ≡ ManyNodes) × (node_limit < length want.registry)

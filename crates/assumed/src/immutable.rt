@@ -21,20 +21,13 @@ fn mutable_at_instr(head: RawHead) -> bool
 {
     let range = head.range;
     let scope = head.scope;
-    if range.end as u64 <= range.start as u64 + 1 {
-        return false;
-    }
-    if scope.has_scope {
-        return in_range(range.instruction, scope.start, scope.end);
-    }
-    false
+    u64::from(range.end) > u64::from(range.start) + 1
+        && scope.has_scope
+        && in_range(range.instruction, scope.start, scope.end)
 }
 
 pub fn is_immutable_at_instr(head: RawHead) -> bool
     ensures { (d : ReactiveScopeDependency) → result ≡ is_immutable_at_instr (raw_read_of head d) }
 {
-    if mutable_at_instr(head) {
-        return head.scope.known_immutable;
-    }
-    true
+    !mutable_at_instr(head) || head.scope.known_immutable
 }

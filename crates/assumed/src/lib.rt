@@ -1,228 +1,132 @@
 // All assumed paths of a job entered into the registry, straight from its bytes, and each block's
 // set of them stored in its row: of the raw reads those that are kept, and then the ready paths.
+// The job was read before, so that no field is refused here: a refusal says that the registry has
+// no room.
 #![tactic(auto)]
 
-ghost use Rattle.std.specs.Prelude.{◌≡◌, true, false, ◌≤◌};
+ghost use Rattle.std.specs.Prelude.{◌≡◌, [], ◌≤◌, length};
 ghost use Rattle.rows.specs.Rows.{Lent};
-ghost use Rattle.registry.specs.Words.{registry_of, Held, HoldsNone};
+ghost use Rattle.registry.specs.Words.{registry_of};
 ghost use Rattle.model.specs.ReadingBytes.{mapped, read_many};
 ghost use Rattle.model.specs.Job.{read_path_fields, read_block, assumed_of};
 ghost use Rattle.model.specs.Answer.{span_width};
 ghost use Rattle.model.specs.Stage.{none_entered, start_of};
 ghost use Rattle.job.specs.Kept.{blocks_of, PlacedJob};
 ghost use Rattle.job.specs.Passing.{IsRead};
-ghost use Rattle.assumed.specs.Start.{itself, read_brought, Brings, all_of, entered_so_far, Entering, EntersAll, Starts};
+ghost use Rattle.assumed.specs.Start.{itself, read_brought, all_of, entered_so_far, came_to, EntersAll, Starts};
 
-use fields::Passed;
-use job::{ReadBlockHead, ReadRawHead};
-use paths::EnteredPath;
+use entries::Refusal;
+use registry::Registry;
 use rows::NodeBits;
 
 mod immutable;
 
-// The nodes of the paths entered, how many nodes were made for them, and the place after them; or
-// that the registry had no room.
+// How far a block's paths are entered: their nodes, how many nodes were made for them, and the
+// place after what was read.
 #[derive(Clone, Copy)]
-pub struct EnteredSet {
+struct EnteredSet {
     pub set: NodeBits,
     pub made: usize,
     pub at: usize,
-    pub full: bool,
 }
 
-// That the registry has no room for what follows, or that a field that was read before is refused,
-// which never happens. The other fields mean nothing then.
-fn stopped(so_far: EnteredSet) -> EnteredSet
-    ensures { result.full ≡ true }
-{
-    let set = so_far.set;
-    EnteredSet {
-        set,
-        made: so_far.made,
-        at: so_far.at,
-        full: true,
+impl EnteredSet {
+    // One path more, whose fields stand at a place.
+    // Design: here and below, `made ≤ length ..` is a clause and not of the type, since it is of a
+    // set and a registry that changes at each step; and `IsRead` is one, since each function reads
+    // by another reader.
+    fn enter_fields(&mut self, s: &[u8], at: usize, registry: &mut Registry) -> Result<(), Refusal>
+        requires { (self.old.made ≤ length (registry_of registry.old.words)) × IsRead (read_path_fields span_width s.now at) }
+        ensures { EntersAll (mapped itself (read_path_fields span_width s.now at))
+            (entered_so_far (registry_of registry.old.words) self.old) (came_to result self.new)
+            registry.new.words registry.new.optional.words }
+    {
+        let path = paths::enter_path(s, at, registry)?;
+        self.set.insert(path.node);
+        self.made += path.made;
+        self.at = path.next;
+        Ok(())
     }
-}
 
-// One path more, whose fields stand at a place and were read before.
-fn enter_fields(
-    s: &[u8],
-    at: usize,
-    ws: &mut [u64; 1665],
-    optional: &mut [u64; 8],
-    so_far: EnteredSet,
-) -> EnteredSet
-    requires { Entering ws.old optional.old so_far × IsRead (read_path_fields span_width s.now at) }
-    ensures { EntersAll (mapped itself (read_path_fields span_width s.now at))
-        (entered_so_far (registry_of ws.old) so_far) result ws.new optional.new }
-{
-    let entered = paths::enter_path(s, at, ws, optional);
-    let EnteredPath::At(node, made_here, next) = entered else {
-        return stopped(so_far);
-    };
-    let set = so_far.set;
-    EnteredSet {
-        set: set.insert(node),
-        made: so_far.made + made_here,
-        at: next,
-        full: false,
-    }
-}
-
-// Where the fields of the path stand that the record at a place brings; or that it brings none, and
-// the place after it. A field that was read before is never refused.
-#[derive(Clone, Copy)]
-enum Brought {
-    Fields(usize),
-    Nothing(usize),
-    Never,
-}
-
-// What the record at a place brings, which was read before: a ready path, or that of a raw read
-// where it is kept.
-fn brought_at(s: &[u8], at: usize) -> Brought
-    requires { IsRead (read_brought s.now at) }
-    ensures { Brings (read_brought s.now at) s.now result }
-{
-    let ready = fields::mark_at(s, at, job::PA);
-    if let Passed::To(fields_at) = ready {
-        return Brought::Fields(fields_at);
-    }
-    let head_field = job::raw_head_at(s, at);
-    let ReadRawHead::Value(head, fields_at) = head_field else {
-        return Brought::Never;
-    };
-    if immutable::is_immutable_at_instr(head) {
-        return Brought::Fields(fields_at);
-    }
-    let path = job::past_path_fields(s, fields_at);
-    let Passed::To(next) = path else {
-        return Brought::Never;
-    };
-    Brought::Nothing(next)
-}
-
-// One record more, which was read before: what it brings is entered.
-fn enter_record(
-    s: &[u8],
-    ws: &mut [u64; 1665],
-    optional: &mut [u64; 8],
-    so_far: EnteredSet,
-) -> EnteredSet
-    requires { Entering ws.old optional.old so_far × IsRead (read_brought s.now so_far.at) }
-    ensures { EntersAll (read_brought s.now so_far.at) (entered_so_far (registry_of ws.old) so_far)
-        result ws.new optional.new }
-{
-    let brought = brought_at(s, so_far.at);
-    match brought {
-        Brought::Fields(at) => enter_fields(s, at, ws, optional, so_far),
-        Brought::Nothing(next) => {
-            let set = so_far.set;
-            EnteredSet {
-                set,
-                made: so_far.made,
-                at: next,
-                full: false,
+    // One record more: a ready path, or a raw read, whose path is entered where it is kept. Both
+    // end in one call of `enter_fields`, so that it and `paths::enter_path` have one caller and are
+    // inlined (docs/DECISIONS.md).
+    fn enter_record(&mut self, s: &[u8], registry: &mut Registry) -> Result<(), Refusal>
+        requires { (self.old.made ≤ length (registry_of registry.old.words)) × IsRead (read_brought s.now self.old.at) }
+        ensures { EntersAll (read_brought s.now self.old.at) (entered_so_far (registry_of registry.old.words) self.old)
+            (came_to result self.new) registry.new.words registry.new.optional.words }
+    {
+        let fields_at = match fields::mark_at(s, self.at, job::PA) {
+            Ok(at) => at,
+            Err(_) => {
+                let (head, at) = job::raw_head_at(s, self.at)?;
+                if !immutable::is_immutable_at_instr(head) {
+                    let next = job::past_path_fields(s, at)?;
+                    self.at = next;
+                    return Ok(());
+                }
+                at
             }
+        };
+        self.enter_fields(s, fields_at, registry)
+    }
+
+    // `count` records more.
+    fn enter_records(
+        &mut self,
+        s: &[u8],
+        count: u16,
+        registry: &mut Registry,
+    ) -> Result<(), Refusal>
+        requires { (self.old.made ≤ length (registry_of registry.old.words)) × IsRead (read_many count read_brought s.now self.old.at) }
+        ensures { EntersAll (mapped all_of (read_many count read_brought s.now self.old.at))
+            (entered_so_far (registry_of registry.old.words) self.old) (came_to result self.new)
+            registry.new.words registry.new.optional.words }
+    {
+        for _ in 0..count {
+            self.enter_record(s, registry)?;
         }
-        Brought::Never => stopped(so_far),
+        Ok(())
     }
 }
 
-// `count` records, which were read before.
-fn enter_records(
-    s: &[u8],
-    count: u16,
-    ws: &mut [u64; 1665],
-    optional: &mut [u64; 8],
-    start: EnteredSet,
-) -> EnteredSet
-    requires entering { Entering ws.old optional.old start × IsRead (read_many count read_brought s.now start.at) }
-    requires full_value { start.full ≡ false }
-    ensures { EntersAll (mapped all_of (read_many count read_brought s.now start.at))
-        (entered_so_far (registry_of ws.old) start) result ws.new optional.new }
-{
-    let mut so_far = start;
-    let mut left = count;
-    while 0 < left {
-        so_far = enter_record(s, ws, optional, so_far);
-        if so_far.full {
-            return so_far;
-        }
-        left = left - 1;
-    }
-    so_far
-}
-
-// The assumed paths of the block at a place, which was read before.
-fn enter_block(s: &[u8], at: usize, ws: &mut [u64; 1665], optional: &mut [u64; 8]) -> EnteredSet
-    requires { Held ws.old optional.old × IsRead (read_block span_width s.now at) }
+// The assumed paths of the block at a place.
+fn enter_block(s: &[u8], at: usize, registry: &mut Registry) -> Result<EnteredSet, Refusal>
+    requires { IsRead (read_block span_width s.now at) }
     ensures { EntersAll (mapped assumed_of (read_block span_width s.now at))
-        (none_entered (registry_of ws.old)) result ws.new optional.new }
+        (none_entered (registry_of registry.old.words)) result registry.new.words registry.new.optional.words }
 {
-    let empty = NodeBits::empty();
-    let none = EnteredSet {
-        set: empty,
-        made: 0,
-        at,
-        full: false,
-    };
-    let head_field = job::block_head_at(s, at);
-    let ReadBlockHead::Value(head, ids_at) = head_field else {
-        return stopped(none);
-    };
-    let ids = job::past_ids(s, ids_at, head.predecessors);
-    let Passed::To(records_at) = ids else {
-        return stopped(none);
-    };
-    let start = EnteredSet {
-        set: empty,
+    let (head, ids_at) = job::block_head_at(s, at)?;
+    let records_at = job::past_ids(s, ids_at, head.predecessors)?;
+    let mut entered = EnteredSet {
+        set: NodeBits::empty(),
         made: 0,
         at: records_at,
-        full: false,
     };
-    enter_records(
-        s,
-        head.raw as u16 + head.assumed as u16,
-        ws,
-        optional,
-        start,
-    )
+    entered.enter_records(s, u16::from(head.raw) + u16::from(head.assumed), registry)?;
+    Ok(entered)
 }
 
-// How many nodes were made in all, once every assumed path was entered; or the registry had no
-// room.
-#[derive(Clone, Copy)]
-pub enum BlocksEntered {
-    All(usize),
-    Full,
-}
-
-// The assumed paths of all blocks of the job that was read, in job order, into a registry that
-// starts with no node.
+// The assumed paths of all blocks of the job that was read, in job order, into a registry that has
+// no node: how many nodes were made in all.
+// Design: `places` is the reader's array, with the number of blocks beside it: `PlacedJob`, which
+// the reader ensures and which is required here (docs/PROOFS.md names `enter_blocks`), is of both.
 pub fn enter_blocks(
     s: &[u8],
     places: &[usize; 128],
     blocks: usize,
-    ws: &mut [u64; 1665],
-    optional: &mut [u64; 8],
+    registry: &mut Registry,
     sets: &mut [u64],
-) -> BlocksEntered
-    requires { PlacedJob s.now blocks places.now × (blocks ≤ 128) × HoldsNone ws.old optional.old × Lent blocks sets.old }
-    ensures { Starts (start_of (blocks_of s.now)) blocks result ws.new optional.new
+) -> Result<usize, Refusal>
+    requires { PlacedJob s.now blocks places.now × (blocks ≤ 128) × (registry_of registry.old.words ≡ []) × Lent blocks sets.old }
+    ensures { Starts (start_of (blocks_of s.now)) blocks result registry.new.words registry.new.optional.words
         sets.new }
 {
     let mut made = 0;
-    let mut b: usize = 0;
-    while b < blocks {
-        let at = places[b];
-        let entered = enter_block(s, at, ws, optional);
-        if entered.full {
-            return BlocksEntered::Full;
-        }
+    for (b, at) in places[..blocks].iter().enumerate() {
+        let entered = enter_block(s, *at, registry)?;
         rows::set_row(sets, b, entered.set);
-        made = made + entered.made;
-        b += 1;
+        made += entered.made;
     }
-    BlocksEntered::All(made)
+    Ok(made)
 }

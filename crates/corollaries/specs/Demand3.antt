@@ -2,7 +2,7 @@
 -- and any buffer: where an outcome is a length, that many bytes from the buffer's start on are an
 -- answer that meets it. The theorems over the definitions are `demand_3` and `strict_demand_3` of
 -- the crate `safety`.
-use Rattle.std.specs.Prelude.{ℕ, ◌<◌, ◌≡◌, List, take, replicate, pos}
+use Rattle.std.specs.Prelude.{ℕ, ◌<◌, ◌≡◌, List, take, replicate, pos, Ok}
 use Rattle.model.specs.ListLaws.{All}
 use Rattle.model.specs.Answer.{
   writes,
@@ -18,13 +18,12 @@ use Rattle.model.specs.Job.{HD}
 use Rattle.safety.specs.Runs.{WithoutLoops}
 use Rattle.safety.specs.Statement.{AnyBlocks, AnswerMeetsDemand3}
 use Rattle.safety.proofs.Demand3.{demand_3, strict_demand_3}
-use Rattle.stage.specs.declared.Outcome.TheVariants.{Written}
 use Rattle.stage.specs.Jobs.{Meets}
 use Rattle.corollaries.specs.Leaves.{outcome-holds, number-holds, output-holds}
 
 module _ (job before after : List ℕ) (n : ℕ) (bytes : All (λ b. b < 256) job) where
   -- of what `answer` leaves
-  pub answer_meets_demand_3 : Meets (answer_of job before) (Written n) before after
+  pub answer_meets_demand_3 : Meets (answer_of job before) (Ok n) before after
       → AnswerMeetsDemand3 HD span_width WithoutLoops job (take n after)
   answer_meets_demand_3 = outcome-holds (AnswerMeetsDemand3 HD span_width WithoutLoops job) (answer_of job before)
       (λ answer. demand_3 job before answer bytes) before after n
@@ -36,7 +35,7 @@ module _ (job before after : List ℕ) (n : ℕ) (bytes : All (λ b. b < 256) jo
       (λ answer. demand_3 job before answer bytes) before after n
 
   -- of what `strict_answer` leaves
-  pub strict_answer_meets_demand_3 : Meets (strict_answer_of job before) (Written n) before after
+  pub strict_answer_meets_demand_3 : Meets (strict_answer_of job before) (Ok n) before after
       → AnswerMeetsDemand3 HD span_width AnyBlocks job (take n after)
   strict_answer_meets_demand_3 = outcome-holds (AnswerMeetsDemand3 HD span_width AnyBlocks job) (strict_answer_of job before)
       (λ answer. strict_demand_3 job before answer bytes) before after n

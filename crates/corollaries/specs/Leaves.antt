@@ -1,11 +1,10 @@
 -- What an operation leaves at the buffer's start, where it writes: the bytes of its verdict. So
 -- what holds of the bytes of a verdict holds of the bytes that functions and programs leave.
-use Rattle.std.specs.Prelude.{ℕ, zero, suc, ◌<◌, ◌≡◌, refl, List, ◌++◌, length, take, drop, ℤ, pos, neg_ℤ}
+use Rattle.std.specs.Prelude.{ℕ, zero, suc, ◌<◌, ◌≡◌, refl, List, length, take, drop, pos, neg_ℤ, Ok}
 use Rattle.std.proofs.Common.{arith, sym, ap, subst, ◌∙◌}
 use Rattle.std.proofs.Math.Seq.{take-append_seam}
 use Rattle.entries.specs.Refusals.{refusal_number, number_positive}
 use Rattle.model.specs.Answer.{Verdict, writes, turns_back, program_output, number_returned, buffer_after}
-use Rattle.stage.specs.declared.Outcome.TheVariants.{Written}
 use Rattle.stage.specs.Jobs.{outcome_of, Meets}
 
 -- what a verdict writes stands at the buffer's start
@@ -15,7 +14,7 @@ written_first v bytes before after e b =
     ap (take (length bytes)) (b ∙ ap (λ v. buffer_after v before) e) ∙ take-append_seam bytes (drop (length bytes) before)
 
 -- a length comes from a verdict that writes as many bytes
-length_written : (v : Verdict) (n : ℕ) → Written n ≡ outcome_of v → (bytes : List ℕ) × (v ≡ writes bytes) × (n ≡ length bytes)
+length_written : (v : Verdict) (n : ℕ) → Ok n ≡ outcome_of v → (bytes : List ℕ) × (v ≡ writes bytes) × (n ≡ length bytes)
 length_written (writes bytes) n e = (bytes, refl, cc)
 length_written (turns_back r) n e = absurd (let z : ◌≡◌ {A = ℕ} 0 1 = cc in omega arith)
 
@@ -40,7 +39,7 @@ left-holds P v holds before after n w b =
 
 -- it holds of the n bytes of an outcome
 pub outcome-holds {ℓ} : (P : List ℕ → Type ℓ) (v : Verdict) → HoldsWritten P v → (before after : List ℕ) (n : ℕ)
-    → Meets v (Written n) before after → P (take n after)
+    → Meets v (Ok n) before after → P (take n after)
 outcome-holds P v holds before after n m = left-holds P v holds before after n (length_written v n m.outcome) m.buffer
 
 -- of the n bytes of a number that a C function returns

@@ -1,13 +1,12 @@
 -- Document 02, E4, of the bytes that `sheet` and `strict_sheet` leave, for any job and any buffer:
 -- where an outcome is a length, that many bytes from the buffer's start on are a sheet that tells
 -- its nodes. The theorem over the definitions is `sheet_tells_nodes` of the crate `laws`.
-use Rattle.std.specs.Prelude.{ℕ, ◌≡◌, List, take, replicate, pos}
+use Rattle.std.specs.Prelude.{ℕ, ◌≡◌, List, take, replicate, pos, Ok}
 use Rattle.model.specs.Propagation.{done_neighbours}
 use Rattle.model.specs.Job.{HD}
 use Rattle.model.specs.Answer.{writes, least_buffer, span_width, sheet_of, sheet_program, number_returned, buffer_after}
 use Rattle.model.specs.Strict.{strict_neighbours, strict_sheet_of, strict_sheet_program}
 use Rattle.laws.specs.SheetNodes.{TellsNodes, sheet_tells_nodes}
-use Rattle.stage.specs.declared.Outcome.TheVariants.{Written}
 use Rattle.stage.specs.Jobs.{Meets}
 use Rattle.corollaries.specs.Leaves.{outcome-holds, number-holds, output-holds}
 
@@ -23,7 +22,7 @@ module _ (job out : List ℕ) where
 
 module _ (job before after : List ℕ) (n : ℕ) where
   -- of what `sheet` leaves
-  pub sheet_leaves_nodes : Meets (sheet_of job before) (Written n) before after
+  pub sheet_leaves_nodes : Meets (sheet_of job before) (Ok n) before after
       → TellsNodes HD span_width done_neighbours job (take n after)
   sheet_leaves_nodes = outcome-holds (TellsNodes HD span_width done_neighbours job) (sheet_of job before) (of_sheet job before)
       before after n
@@ -35,7 +34,7 @@ module _ (job before after : List ℕ) (n : ℕ) where
       before after n
 
   -- of what `strict_sheet` leaves
-  pub strict_sheet_leaves_nodes : Meets (strict_sheet_of job before) (Written n) before after
+  pub strict_sheet_leaves_nodes : Meets (strict_sheet_of job before) (Ok n) before after
       → TellsNodes HD span_width strict_neighbours job (take n after)
   strict_sheet_leaves_nodes = outcome-holds (TellsNodes HD span_width strict_neighbours job) (strict_sheet_of job before)
       (of_strict_sheet job before) before after n

@@ -1,9 +1,10 @@
 -- Document 02, E2: "On loop-free jobs it writes the same bytes as the existing one", of what the
 -- functions and the programs leave. The theorem over the definitions is `strict_same` of the crate
 -- `safety`.
-use Rattle.std.specs.Prelude.{ℕ, ◌≡◌, List, replicate, ℤ}
+use Rattle.std.specs.Prelude.{ℕ, ◌≡◌, List, replicate, ℤ, Result}
 use Rattle.std.proofs.Common.{sym, ◌∙◌}
 use Rattle.std.proofs.Math.Path.{ap}
+use Rattle.entries.specs.declared.Refusal.{Refusal}
 use Rattle.model.specs.Job.{Job, HD, read_job}
 use Rattle.model.specs.Answer.{
   Verdict,
@@ -21,7 +22,6 @@ use Rattle.model.specs.Strict.{strict_answer_of, strict_answer_program, strict_s
 use Rattle.laws.specs.Fits.{HoldsIfRead}
 use Rattle.safety.specs.Runs.{WithoutLoops}
 use Rattle.safety.proofs.StrictSame.{strict_same}
-use Rattle.stage.specs.declared.Outcome.{Outcome}
 use Rattle.stage.specs.Jobs.{outcome_of, Meets}
 
 -- what a C function returns and leaves, as its contract says it
@@ -36,7 +36,7 @@ returns_same before e a b = (
   a.1 ∙ ap (λ v. buffer_after v before) e ∙ sym b.1,
 )
 
-meets_same : {v w : Verdict} {r q : Outcome} {before after left : List ℕ} → v ≡ w → Meets v r before after → Meets w q before left
+meets_same : {v w : Verdict} {r q : Result ℕ Refusal} {before after left : List ℕ} → v ≡ w → Meets v r before after → Meets w q before left
     → (r ≡ q) × (after ≡ left)
 meets_same {before = before} e a b = (
   a.outcome ∙ ap outcome_of e ∙ sym b.outcome,
@@ -47,11 +47,11 @@ meets_same {before = before} e a b = (
 module _ (job : List ℕ) (free : HoldsIfRead (λ (j : Job). WithoutLoops j.blocks) (read_job HD span_width job)) where
   module _ (before after left : List ℕ) where
     -- of `strict_answer` beside `answer`, and `strict_sheet` beside `sheet`, on equal buffers
-    pub strict_answer_same : {r q : Outcome} → Meets (strict_answer_of job before) r before after
+    pub strict_answer_same : {r q : Result ℕ Refusal} → Meets (strict_answer_of job before) r before after
         → Meets (answer_of job before) q before left → (r ≡ q) × (after ≡ left)
     strict_answer_same = meets_same (strict_same job before free).0
 
-    pub strict_sheet_same : {r q : Outcome} → Meets (strict_sheet_of job before) r before after
+    pub strict_sheet_same : {r q : Result ℕ Refusal} → Meets (strict_sheet_of job before) r before after
         → Meets (sheet_of job before) q before left → (r ≡ q) × (after ≡ left)
     strict_sheet_same = meets_same (strict_same job before free).1
 

@@ -2,13 +2,12 @@
 -- outcome is a length, that many bytes from the buffer's start on are a job with the same answers
 -- and sheets, and their own thin job. The theorems over the definitions are those of the crate
 -- `thin_laws`.
-use Rattle.std.specs.Prelude.{ℕ, ◌≤◌, ◌<◌, ◌≡◌, List, length, take, replicate, pos}
+use Rattle.std.specs.Prelude.{ℕ, ◌≤◌, ◌<◌, ◌≡◌, List, length, take, replicate, pos, Ok}
 use Rattle.model.specs.ListLaws.{All}
 use Rattle.model.specs.Answer.{writes, answer_of, sheet_of, number_returned, buffer_after}
 use Rattle.model.specs.Strict.{strict_answer_of, strict_sheet_of}
 use Rattle.model.specs.Thin.{least_thin_buffer, thin_of, thin_program}
 use Rattle.thin_laws.specs.Theorems.{thin_same, thin_again}
-use Rattle.stage.specs.declared.Outcome.TheVariants.{Written}
 use Rattle.stage.specs.Jobs.{Meets}
 use Rattle.corollaries.specs.Leaves.{outcome-holds, number-holds, output-holds}
 
@@ -33,7 +32,7 @@ thin_job_of job out t bytes e = record {
 
 module _ (job before after : List ℕ) (n : ℕ) (bytes : All (λ b. b < 256) job) where
   -- of what `thin` leaves
-  pub thin_leaves : Meets (thin_of job before) (Written n) before after → ThinJobOf job (take n after)
+  pub thin_leaves : Meets (thin_of job before) (Ok n) before after → ThinJobOf job (take n after)
   thin_leaves = outcome-holds (ThinJobOf job) (thin_of job before) (λ t. thin_job_of job before t bytes) before after n
 
   -- of what `scope_deps_thin` leaves, where it returns n

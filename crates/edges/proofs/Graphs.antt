@@ -17,7 +17,7 @@ use Rattle.model.specs.Rounds.{places_from}
 use Rattle.rows.specs.Members.{bit}
 use Rattle.rows.proofs.Words.{zero_bit}
 use Rattle.graph.specs.Bytes.{size_in, degree_in, predecessor_in, block_of_rank, is_successor, predecessors_from, successors_from, RoomFor}
-use Rattle.graph.proofs.Neighbours.{none_among}
+use Rattle.graph.proofs.Coming.{none_among}
 use Rattle.edges.specs.Rows.{RowsFilled}
 use Rattle.edges.specs.Order.{order_from, Ordered}
 use Rattle.edges.specs.Successors.{RanksFit, names_as_predecessor, AllMarked}

@@ -5,3 +5,4 @@ pub mod Marking
 pub mod Succeeding
 pub mod Graphs
 pub mod Jobs
+pub mod Fronts

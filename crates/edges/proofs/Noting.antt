@@ -2,12 +2,16 @@
 use Prim.Native.Nat.{ℕ, zero, suc, ◌+◌, ◌*◌, ◌-◌, ◌≤◌, ◌<◌}
 use native.Mathlib.Omega.{arith}
 use native.Mathlib.Nat.{add-zero, zero-add}
-use mathlib.Core.Path.{◌≡◌, refl, sym, ap, subst, ◌∙◌}
+use mathlib.Core.Bool.{Bool, true, false, not}
+use mathlib.Core.Path.{◌≡◌, refl, sym, ap, ap₂, subst, ◌∙◌}
 use mathlib.Core.List.{List, [], ◌∷◌}
 use lib.ListN.{length, get_or, set, length-set}
 use lib.Seq.{sets}
 use Rattle.entries.specs.declared.BlockId.{BlockId}
-use Rattle.model.specs.Tests.{by_cond, eqb_equal, eqb_apart}
+use Rattle.std.specs.Prelude.{Option, Some, None, cond, eqb, ltb}
+use Rattle.std.specs.List.{position, position_or_len}
+use Rattle.std.specs.Option.{unwrap_or}
+use Rattle.model.specs.Tests.{by_cond, ltb_false}
 use Rattle.model.specs.ReadingBytes.{got, read_number}
 use Rattle.model.specs.Job.{same_block}
 use Rattle.laws.specs.Fits.{holds_got}
@@ -15,29 +19,22 @@ use Rattle.id_index.specs.Index.{place_by, leads}
 use Rattle.job.specs.Head.{read_block_head}
 use Rattle.job.specs.declared.BlockHead.{BlockHead}
 use Rattle.job.proofs.Bounds.{predecessors_most}
-use Rattle.edges.specs.Rows.{ids_from, ids_noted, place_among, IdsOnce, places_noted, row_at, with_row}
+use Rattle.edges.specs.Rows.{ids_from, ids_noted, place_among, block_among, IdsOnce, places_noted, row_at, with_row}
 
--- The search for a place, from k on.
+-- The first place of a number is that of its id, among the ids of all blocks.
 
-module _ (ids : List ℕ) (n k : ℕ) (i : BlockId) where
-  more : k < n → n - k ≡ suc (n - (k + 1))
-  more l = omega arith
+ids_shift : (x : ℕ) (xs : List ℕ) (k n : ℕ) → ids_from (x ∷ xs) (suc k) n ≡ ids_from xs k n
+ids_shift x xs k zero = refl
+ids_shift x xs k (suc n) = ap (λ (l : List BlockId). record { 0 = get_or xs k 0 } ∷ l) (ids_shift x xs (suc k) n)
 
-  pub place_here : k < n → get_or ids k 0 ≡ i.0 → k + place_among (ids_from ids k (n - k)) i ≡ k
-  place_here l e = ap (λ m. k + place_among (ids_from ids k m) i) (more l) ∙ rw (eqb_equal (get_or ids k 0) i.0 e) (add-zero k)
+prefix_place : (t : Bool) {m n : ℕ} → m ≡ n → cond (not t) (1 + m) 0 ≡ cond t 0 (suc n)
+prefix_place true e = refl
+prefix_place false e = omega arith
 
-  pub place_later : k < n → ¬ (get_or ids k 0 ≡ i.0) → k + place_among (ids_from ids k (n - k)) i ≡ k + 1 + place_among (ids_from ids (k + 1) (n - (k + 1))) i
-  place_later l e =
-      let next : suc k ≡ k + 1 = omega arith in
-      ap (λ m. k + place_among (ids_from ids k m) i) (more l)
-      ∙ rw (eqb_apart (get_or ids k 0) i.0 e)
-      (ap (λ m. k + suc (place_among (ids_from ids m (n - (k + 1))) i)) next ∙ up (place_among (ids_from ids (k + 1) (n - (k + 1))) i))
-    where
-      up : (m : ℕ) → k + suc m ≡ k + 1 + m
-      up m = omega arith
-
-  pub place_none : n ≤ k → k + place_among (ids_from ids k (n - k)) i ≡ k
-  place_none l = let none : n - k ≡ 0 = omega arith in ap (λ m. k + place_among (ids_from ids k m) i) none ∙ add-zero k
+pub place_position : (i : BlockId) (ids : List ℕ) → position_or_len (λ x. eqb x i.0) ids ≡ place_among (ids_from ids 0 (length ids)) i
+place_position i [] = refl
+place_position i (x ∷ xs) =
+    prefix_place (eqb x i.0) (place_position i xs ∙ ap (λ (l : List BlockId). place_among l i) (sym (ids_shift x xs 0 (length xs))))
 
 -- Where no id stands twice, the block to which an index leads is the first with the id.
 pub place_led : (ids : List ℕ) (n : ℕ) (index : List ℕ) (i : BlockId) {k : ℕ} → IdsOnce ids n → k ≡ place_by ids n index i.0 → k < n
@@ -59,6 +56,22 @@ ids_count ids k (suc n) = ap suc (ids_count ids (suc k) n)
 pub place_few : (ids : List ℕ) (n : ℕ) {r : ℕ} (i : BlockId) → r ≡ place_among (ids_noted ids n) i → r ≤ n
 unfolding ids_noted
 place_few ids n {r} i e = let h = place_within (ids_noted ids n) i in let c = ids_count ids 0 n in omega arith
+
+-- A search in all ids finds that place, or is at their end.
+
+pub block_position : (ids : List ℕ) (i : BlockId) → position (λ x. eqb x i.0) ids ≡ block_among (ids_noted ids (length ids)) i
+unfolding ids_noted
+block_position ids i = ap₂ (λ (k n : ℕ). cond (ltb k n) (Some k) None) (place_position i ids) (sym (ids_count ids 0 (length ids)))
+
+pub among_or_end : (ids : List ℕ) (i : BlockId)
+    → unwrap_or (block_among (ids_noted ids (length ids)) i) (length ids) ≡ place_among (ids_noted ids (length ids)) i
+unfolding ids_noted
+among_or_end ids i =
+    let l = ids_from ids 0 (length ids) in
+    let within = place_within l i in
+    let count = ids_count ids 0 (length ids) in
+    by_cond (λ (o : Option ℕ). unwrap_or o (length ids) ≡ place_among l i) (ltb (place_among l i) (length l))
+    (λ t. refl) (λ f. let m = ltb_false (place_among l i) (length l) f in omega arith)
 
 -- The places noted.
 

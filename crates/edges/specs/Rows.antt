@@ -1,5 +1,26 @@
 -- The predecessors of blocks by place, from a job's bytes and what was noted of its blocks.
-use Rattle.std.specs.Prelude.{ℕ, zero, suc, ◌+◌, ◌*◌, ◌≤◌, ◌<◌, ◌≡◌, refl, cond, List, [], ◌∷◌, length, get_or, set}
+use Rattle.std.specs.Prelude.{
+  ℕ,
+  zero,
+  suc,
+  ◌+◌,
+  ◌*◌,
+  ◌≤◌,
+  ◌<◌,
+  ◌≡◌,
+  refl,
+  cond,
+  Option,
+  Some,
+  None,
+  List,
+  [],
+  ◌∷◌,
+  length,
+  get_or,
+  set,
+  ltb,
+}
 use Rattle.std.proofs.Common.{ap}
 use Rattle.std.proofs.lemmas.List.Edits.{sets}
 use Rattle.entries.specs.declared.BlockId.{BlockId}
@@ -23,6 +44,12 @@ ids_noted ids n = ids_from ids 0 n
 abbrev pub place_among : List BlockId → BlockId → ℕ
 place_among [] i = zero
 place_among (k ∷ ids) i = cond (same_block k i) zero (suc (place_among ids i))
+
+-- the same as an answer: none where it is behind the last
+abbrev pub block_among : List BlockId → BlockId → Option ℕ
+block_among ids i =
+    let k = place_among ids i in
+    cond (ltb k (length ids)) (Some k) None
 
 -- Among the ids of blocks it is the block's place (`place_of`).
 pub place_among_lem : (bs : List Block) (i : BlockId) → place_among (ids_of bs) i ≡ place_of bs i

@@ -9,19 +9,20 @@ ghost use Rattle.entries.specs.Access.{is_optional_access, is_dependency_access,
 ghost use Rattle.entries.specs.Refusals.{refusal_number};
 
 // A variable of the compiled function (`IdentifierId` of the Rust).
-#[derive(Clone, Copy)]
+#[derive(Clone, Copy, PartialEq, Eq)]
 pub struct IdentifierId(pub u32);
 
 // A block of the compiled function (`BlockId` of the Rust).
-#[derive(Clone, Copy)]
+#[derive(Clone, Copy, PartialEq, Eq)]
 pub struct BlockId(pub u32);
 
 // A node of the registry: its place in the order of making.
-#[derive(Clone, Copy)]
+#[derive(Clone, Copy, PartialEq, Eq)]
 pub struct NodeId(pub usize);
 
-// A property: the host's number for a name, or the stored bits of a number.
-#[derive(Clone, Copy)]
+// A property: the host's number for a name, or the stored bits of a number. Two are equal where
+// kind and 64 bits are.
+#[derive(Clone, Copy, PartialEq, Eq)]
 pub enum PropertyLiteral {
     String(u64),
     Number(u64),
@@ -29,6 +30,7 @@ pub enum PropertyLiteral {
 
 impl PropertyLiteral {
     // From a kind and a value, and back.
+    // Design: no `From<(bool, u64)>`, since a pair does not say what its mark tells.
     pub fn of(number: bool, value: u64) -> PropertyLiteral
         ensures { result ≡ property_of number value }
     {
@@ -42,10 +44,7 @@ impl PropertyLiteral {
     pub fn is_number(self) -> bool
         ensures { result ≡ is_number self }
     {
-        match self {
-            PropertyLiteral::String(_) => false,
-            PropertyLiteral::Number(_) => true,
-        }
+        matches!(self, PropertyLiteral::Number(_))
     }
 
     pub fn value(self) -> u64
@@ -56,26 +55,11 @@ impl PropertyLiteral {
             PropertyLiteral::Number(v) => v,
         }
     }
-
-    // The same kind and the same 64 bits.
-    pub fn same(self, other: PropertyLiteral) -> bool
-        ensures { result ≡ same_property self other }
-    {
-        match self {
-            PropertyLiteral::String(a) => match other {
-                PropertyLiteral::String(b) => a == b,
-                PropertyLiteral::Number(_) => false,
-            },
-            PropertyLiteral::Number(a) => match other {
-                PropertyLiteral::String(_) => false,
-                PropertyLiteral::Number(b) => a == b,
-            },
-        }
-    }
 }
 
 // One step of a path: `.property`, or `?.property` where `optional`. The span is the host's number
 // for a place in its source; 0 is none. A job's spans have 32 bits; 64 leave room for wider ones.
+// Design: a span is a number and no `Option`, since the job's bytes and the model's paths have 0.
 #[derive(Clone, Copy)]
 pub struct DependencyPathEntry {
     pub property: PropertyLiteral,
@@ -85,35 +69,25 @@ pub struct DependencyPathEntry {
 
 impl DependencyPathEntry {
     // The same property and the same optional mark; the span does not count.
+    // Design: no derived `==`, which would count the span, or would not show that it does not.
     pub fn same(self, other: DependencyPathEntry) -> bool
         ensures { result ≡ same_entry self other }
     {
-        let a = self.property;
-        let b = other.property;
-        if a.same(b) {
-            self.optional == other.optional
-        } else {
-            false
-        }
+        self.property == other.property && self.optional == other.optional
     }
 }
 
 // `are_equal_paths` of the Rust: as many entries, and the same property and the same optional mark
 // at each place; spans do not count.
+#[tactic(auto, using(crate::proofs::EqualPaths::unequal))]
 pub fn are_equal_paths(a: &[DependencyPathEntry], b: &[DependencyPathEntry]) -> bool
     ensures { result ≡ are_equal_paths a.now b.now }
 {
-    let mut equal = a.len() == b.len();
-    let mut i = 0;
-    while equal && i < a.len() {
-        equal = a[i].same(b[i]);
-        i += 1;
-    }
-    equal
+    a.len() == b.len() && a.iter().zip(b).all(|(x, y)| x.same(*y))
 }
 
 // How a position of the dependency tree is reached, and whether a dependency ends there.
-#[derive(Clone, Copy)]
+#[derive(Clone, Copy, PartialEq, Eq)]
 pub enum PropertyAccessType {
     OptionalAccess,
     UnconditionalAccess,
@@ -123,61 +97,46 @@ pub enum PropertyAccessType {
 
 impl PropertyAccessType {
     // The kind that is optional or not, and a dependency or not.
+    // Design: no `From<(bool, bool)>`, since a pair does not say which mark is which.
     pub fn of(optional: bool, dependency: bool) -> PropertyAccessType
         ensures { result ≡ access_of optional dependency }
     {
-        if optional {
-            if dependency {
-                PropertyAccessType::OptionalDependency
-            } else {
-                PropertyAccessType::OptionalAccess
-            }
-        } else {
-            if dependency {
-                PropertyAccessType::UnconditionalDependency
-            } else {
-                PropertyAccessType::UnconditionalAccess
-            }
+        match (optional, dependency) {
+            (true, true) => PropertyAccessType::OptionalDependency,
+            (true, false) => PropertyAccessType::OptionalAccess,
+            (false, true) => PropertyAccessType::UnconditionalDependency,
+            (false, false) => PropertyAccessType::UnconditionalAccess,
         }
     }
 
+    // Design: `is_optional` and `is_dependency` test two marks, each a function of the Rust; one
+    // with the mark as a parameter would be no shorter.
     pub fn is_optional(self) -> bool
         ensures { result ≡ is_optional_access self }
     {
-        match self {
-            PropertyAccessType::OptionalAccess => true,
-            PropertyAccessType::UnconditionalAccess => false,
-            PropertyAccessType::OptionalDependency => true,
-            PropertyAccessType::UnconditionalDependency => false,
-        }
+        matches!(
+            self,
+            PropertyAccessType::OptionalAccess | PropertyAccessType::OptionalDependency
+        )
     }
 
     pub fn is_dependency(self) -> bool
         ensures { result ≡ is_dependency_access self }
     {
-        match self {
-            PropertyAccessType::OptionalAccess => false,
-            PropertyAccessType::UnconditionalAccess => false,
-            PropertyAccessType::OptionalDependency => true,
-            PropertyAccessType::UnconditionalDependency => true,
-        }
+        matches!(
+            self,
+            PropertyAccessType::OptionalDependency | PropertyAccessType::UnconditionalDependency
+        )
     }
 
     // `merge_access` of the Rust: optional only if both are, a dependency if either is.
     pub fn merge(self, other: PropertyAccessType) -> PropertyAccessType
         ensures { result ≡ merge_access self other }
     {
-        let dependency = if self.is_dependency() {
-            true
-        } else {
-            other.is_dependency()
-        };
-        let optional = if self.is_optional() {
-            other.is_optional()
-        } else {
-            false
-        };
-        PropertyAccessType::of(optional, dependency)
+        PropertyAccessType::of(
+            self.is_optional() && other.is_optional(),
+            self.is_dependency() || other.is_dependency(),
+        )
     }
 }
 
@@ -188,9 +147,16 @@ pub enum HoistableAccessType {
     NonNull,
 }
 
+// How many rounds a propagation ran, and whether the last one changed nothing.
+#[derive(Clone, Copy)]
+pub struct RoundsRun {
+    pub rounds: u8,
+    pub settled: bool,
+}
+
 // Why a job is turned back, in the order of the numbers: document 01's 1 to 9, and document 02's
 // 10.
-#[derive(Clone, Copy)]
+#[derive(Clone, Copy, PartialEq, Eq)]
 pub enum Refusal {
     ShortBuffer,
     LongJob,
@@ -204,12 +170,12 @@ pub enum Refusal {
     LargestStart,
 }
 
-impl Refusal {
-    // The number of document 01, or of document 02.
-    pub fn number(self) -> u8
-        ensures { result ≡ refusal_number self }
-    {
-        match self {
+// The number of document 01, or of document 02.
+impl From<Refusal> for u8 {
+    ghost from_gives = { λ refusal number. number ≡ refusal_number refusal };
+
+    fn from(refusal: Refusal) -> u8 {
+        match refusal {
             Refusal::ShortBuffer => 1,
             Refusal::LongJob => 2,
             Refusal::MissingByte => 3,

@@ -1,3 +1,2 @@
-pub mod Number
 pub mod Reading
-pub mod Within
+pub mod Steps

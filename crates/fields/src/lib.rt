@@ -2,117 +2,145 @@
 // as a value and the place after it, or a refusal.
 #![tactic(auto)]
 
-ghost use Rattle.std.specs.Prelude.{◌≡◌, ◌+◌, ◌≤◌, leb, length};
-ghost use Rattle.model.specs.ReadingBytes.{read_number, read_mark, read_within, read_flag};
+ghost use Rattle.std.specs.Prelude.{◌≡◌, ◌+◌, ◌≤◌, ℕ, List, leb, length};
+ghost use Rattle.model.specs.ReadingBytes.{ByteReader, read_number, read_mark, read_within, read_flag};
 ghost use Rattle.model.specs.Job.{read_range_start};
-ghost use Rattle.fields.specs.Number.{number_at};
-ghost use Rattle.fields.specs.Answer.{got_u8, got_u16, got_u32, got_u64, got_flag, got_place, refusal_of};
+ghost use Rattle.fields.specs.Number.{number_at, ReadsAll, RefusesShort, ReadsWithin};
+ghost use Rattle.fields.specs.Laws.{number_got, number_missing, number_within};
+ghost use Rattle.fields.specs.Answer.{got_value, got_place};
 
 use entries::Refusal;
 
-// A field's value and the place after it, or the refusal.
-#[derive(Clone, Copy)]
-pub enum ReadU8 {
-    Value(u8, usize),
-    Refused(Refusal),
+// A value and the place after it, or the refusal.
+// Design: bytes and place stay two parameters. The definitions read at both (`ByteReader`), and the
+// later steps read at places that were noted, so a struct of both would be made anew at each call.
+pub type Read<T> = Result<(T, usize), Refusal>;
+
+// The unsigned numbers of a job. Each says how many bytes it has there, and what they make.
+pub trait Number: Copy + PartialOrd {
+    ghost BYTES: { ℕ };
+
+    const BYTES: usize;
+
+    ghost made: { List ℕ → ℕ → Self };
+
+    // The reading of a field, and of one that has to lie within a range.
+    ghost read: { ByteReader Self };
+
+    ghost within: { Self → Self → ByteReader Self };
+
+    fn from_bytes(s: &[u8], at: usize) -> Self
+        requires { at + BYTES ≤ length s.now }
+        ensures { result ≡ made s.now at };
+
+    // A field is what its bytes make, a short one is refused, and a range is tested last.
+    ghost reads_all: { ReadsAll BYTES made read };
+
+    ghost refuses_short: { RefusesShort BYTES read };
+
+    ghost reads_within: { ReadsWithin Self.partial_cmp read within };
 }
 
-#[derive(Clone, Copy)]
-pub enum ReadU16 {
-    Value(u16, usize),
-    Refused(Refusal),
-}
+// Design: four impls that differ in a type and in numbers, since `rt ci` refuses an impl that a
+// macro writes.
+impl Number for u8 {
+    ghost BYTES = { 1 };
 
-#[derive(Clone, Copy)]
-pub enum ReadU32 {
-    Value(u32, usize),
-    Refused(Refusal),
-}
+    const BYTES: usize = 1;
 
-#[derive(Clone, Copy)]
-pub enum ReadU64 {
-    Value(u64, usize),
-    Refused(Refusal),
-}
+    ghost made = { number_at 1 };
 
-#[derive(Clone, Copy)]
-pub enum ReadFlag {
-    Value(bool, usize),
-    Refused(Refusal),
-}
+    ghost read = { read_number 1 };
 
-// The place after a part of the job of which no value is kept, or the refusal.
-#[derive(Clone, Copy)]
-pub enum Passed {
-    To(usize),
-    Refused(Refusal),
-}
+    ghost within = { λ least most. read_within least most (read_number 1) };
 
-// Each answer's `refusal` is asked only where the answer is one. The language has no generics, so
-// each enum has its own.
-impl ReadU8 {
-    pub fn refusal(self) -> Refusal
-        ensures { result ≡ refusal_of (got_u8 self) }
-    {
-        match self {
-            ReadU8::Value(_, _) => Refusal::MissingByte,
-            ReadU8::Refused(refusal) => refusal,
-        }
+    ghost reads_all = { number_got 1 };
+
+    ghost refuses_short = { number_missing 0 };
+
+    ghost reads_within = { number_within (read_number 1) };
+
+    #[tactic(auto, using(crate::specs::Laws::one_byte))]
+    fn from_bytes(s: &[u8], at: usize) -> u8 {
+        s[at]
     }
 }
 
-impl ReadU16 {
-    pub fn refusal(self) -> Refusal
-        ensures { result ≡ refusal_of (got_u16 self) }
-    {
-        match self {
-            ReadU16::Value(_, _) => Refusal::MissingByte,
-            ReadU16::Refused(refusal) => refusal,
-        }
+impl Number for u16 {
+    ghost BYTES = { 2 };
+
+    const BYTES: usize = 2;
+
+    ghost made = { number_at 2 };
+
+    ghost read = { read_number 2 };
+
+    ghost within = { λ least most. read_within least most (read_number 2) };
+
+    ghost reads_all = { number_got 2 };
+
+    ghost refuses_short = { number_missing 1 };
+
+    ghost reads_within = { number_within (read_number 2) };
+
+    #[tactic(auto, using(crate::specs::Laws::two_bytes))]
+    fn from_bytes(s: &[u8], at: usize) -> u16 {
+        u16::from_le_bytes([s[at], s[at + 1]])
     }
 }
 
-impl ReadU32 {
-    pub fn refusal(self) -> Refusal
-        ensures { result ≡ refusal_of (got_u32 self) }
-    {
-        match self {
-            ReadU32::Value(_, _) => Refusal::MissingByte,
-            ReadU32::Refused(refusal) => refusal,
-        }
+impl Number for u32 {
+    ghost BYTES = { 4 };
+
+    const BYTES: usize = 4;
+
+    ghost made = { number_at 4 };
+
+    ghost read = { read_number 4 };
+
+    ghost within = { λ least most. read_within least most (read_number 4) };
+
+    ghost reads_all = { number_got 4 };
+
+    ghost refuses_short = { number_missing 3 };
+
+    ghost reads_within = { number_within (read_number 4) };
+
+    #[tactic(auto, using(crate::specs::Laws::four_bytes))]
+    fn from_bytes(s: &[u8], at: usize) -> u32 {
+        u32::from_le_bytes([s[at], s[at + 1], s[at + 2], s[at + 3]])
     }
 }
 
-impl ReadU64 {
-    pub fn refusal(self) -> Refusal
-        ensures { result ≡ refusal_of (got_u64 self) }
-    {
-        match self {
-            ReadU64::Value(_, _) => Refusal::MissingByte,
-            ReadU64::Refused(refusal) => refusal,
-        }
-    }
-}
+impl Number for u64 {
+    ghost BYTES = { 8 };
 
-impl ReadFlag {
-    pub fn refusal(self) -> Refusal
-        ensures { result ≡ refusal_of (got_flag self) }
-    {
-        match self {
-            ReadFlag::Value(_, _) => Refusal::MissingByte,
-            ReadFlag::Refused(refusal) => refusal,
-        }
-    }
-}
+    const BYTES: usize = 8;
 
-impl Passed {
-    pub fn refusal(self) -> Refusal
-        ensures { result ≡ refusal_of (got_place self) }
-    {
-        match self {
-            Passed::To(_) => Refusal::MissingByte,
-            Passed::Refused(refusal) => refusal,
-        }
+    ghost made = { number_at 8 };
+
+    ghost read = { read_number 8 };
+
+    ghost within = { λ least most. read_within least most (read_number 8) };
+
+    ghost reads_all = { number_got 8 };
+
+    ghost refuses_short = { number_missing 7 };
+
+    ghost reads_within = { number_within (read_number 8) };
+
+    #[tactic(auto, using(crate::specs::Laws::eight_bytes))]
+    fn from_bytes(s: &[u8], at: usize) -> u64 {
+        u64::from_le_bytes([
+            s[at],
+            s[at + 1],
+            s[at + 2],
+            s[at + 3],
+            s[at + 4],
+            s[at + 5],
+            s[at + 6],
+            s[at + 7],
+        ])
     }
 }
 
@@ -121,152 +149,62 @@ impl Passed {
 pub fn reaches(s: &[u8], at: usize, bytes: usize) -> bool
     ensures { result ≡ leb (at + bytes) (length s.now) }
 {
-    if s.len() < bytes {
-        return false;
-    }
-    at <= s.len() - bytes
+    bytes <= s.len() && at <= s.len() - bytes
 }
 
-// The number that two bytes make, lowest first.
-fn two_bytes(s: &[u8], at: usize) -> u16
-    requires { at + 2 ≤ length s.now }
-    ensures { result ≡ number_at 2 s.now at }
+pub fn number_at<T: Number>(s: &[u8], at: usize) -> Read<T>
+    ensures { got_value result ≡ T.read s.now at }
 {
-    let low = s[at];
-    let high = s[at + 1];
-    low as u16 + 256 * (high as u16)
-}
-
-fn four_bytes(s: &[u8], at: usize) -> u32
-    requires { at + 4 ≤ length s.now }
-    ensures { result ≡ number_at 4 s.now at }
-{
-    let low = two_bytes(s, at);
-    let high = two_bytes(s, at + 2);
-    low as u32 + 65536 * (high as u32)
-}
-
-fn eight_bytes(s: &[u8], at: usize) -> u64
-    requires { at + 8 ≤ length s.now }
-    ensures { result ≡ number_at 8 s.now at }
-{
-    let low = four_bytes(s, at);
-    let high = four_bytes(s, at + 4);
-    low as u64 + 4294967296 * (high as u64)
-}
-
-pub fn u8_at(s: &[u8], at: usize) -> ReadU8
-    ensures { got_u8 result ≡ read_number 1 s.now at }
-{
-    if reaches(s, at, 1) {
-        ReadU8::Value(s[at], at + 1)
+    if reaches(s, at, T::BYTES) {
+        Ok((T::from_bytes(s, at), at + T::BYTES))
     } else {
-        ReadU8::Refused(Refusal::MissingByte)
-    }
-}
-
-pub fn u16_at(s: &[u8], at: usize) -> ReadU16
-    ensures { got_u16 result ≡ read_number 2 s.now at }
-{
-    if reaches(s, at, 2) {
-        ReadU16::Value(two_bytes(s, at), at + 2)
-    } else {
-        ReadU16::Refused(Refusal::MissingByte)
-    }
-}
-
-pub fn u32_at(s: &[u8], at: usize) -> ReadU32
-    ensures { got_u32 result ≡ read_number 4 s.now at }
-{
-    if reaches(s, at, 4) {
-        ReadU32::Value(four_bytes(s, at), at + 4)
-    } else {
-        ReadU32::Refused(Refusal::MissingByte)
-    }
-}
-
-pub fn u64_at(s: &[u8], at: usize) -> ReadU64
-    ensures { got_u64 result ≡ read_number 8 s.now at }
-{
-    if reaches(s, at, 8) {
-        ReadU64::Value(eight_bytes(s, at), at + 8)
-    } else {
-        ReadU64::Refused(Refusal::MissingByte)
+        Err(Refusal::MissingByte)
     }
 }
 
 // Length before value: a field that is not there is refused for that.
-pub fn u8_within(s: &[u8], at: usize, least: u8, most: u8) -> ReadU8
-    ensures { got_u8 result ≡ read_within least most (read_number 1) s.now at }
+pub fn within<T: Number>(s: &[u8], at: usize, least: T, most: T) -> Read<T>
+    ensures { got_value result ≡ T.within least most s.now at }
 {
-    let field = u8_at(s, at);
-    let ReadU8::Value(found, next) = field else {
-        return field;
-    };
-    if found < least {
-        return ReadU8::Refused(Refusal::OutOfRange);
-    }
-    if found <= most {
-        ReadU8::Value(found, next)
+    let (found, next) = number_at::<T>(s, at)?;
+    if least <= found && found <= most {
+        Ok((found, next))
     } else {
-        ReadU8::Refused(Refusal::OutOfRange)
-    }
-}
-
-pub fn u16_within(s: &[u8], at: usize, least: u16, most: u16) -> ReadU16
-    ensures { got_u16 result ≡ read_within least most (read_number 2) s.now at }
-{
-    let field = u16_at(s, at);
-    let ReadU16::Value(found, next) = field else {
-        return field;
-    };
-    if found < least {
-        return ReadU16::Refused(Refusal::OutOfRange);
-    }
-    if found <= most {
-        ReadU16::Value(found, next)
-    } else {
-        ReadU16::Refused(Refusal::OutOfRange)
+        Err(Refusal::OutOfRange)
     }
 }
 
 // The start of a mutable range. The largest number is refused, since one more would not fit.
-pub fn range_start_at(s: &[u8], at: usize) -> ReadU32
-    ensures { got_u32 result ≡ read_range_start s.now at }
+#[tactic(auto, unfolding(model::specs::Job::read_range_start))]
+pub fn range_start_at(s: &[u8], at: usize) -> Read<u32>
+    ensures { got_value result ≡ read_range_start s.now at }
 {
-    let field = u32_at(s, at);
-    let ReadU32::Value(found, next) = field else {
-        return field;
-    };
-    if found == 4294967295 {
-        ReadU32::Refused(Refusal::LargestStart)
+    let (found, next) = number_at::<u32>(s, at)?;
+    if found == u32::MAX {
+        Err(Refusal::LargestStart)
     } else {
-        ReadU32::Value(found, next)
+        Ok((found, next))
     }
 }
 
-pub fn flag_at(s: &[u8], at: usize) -> ReadFlag
-    ensures { got_flag result ≡ read_flag s.now at }
+#[tactic(auto, unfolding(model::specs::ReadingBytes::read_flag))]
+pub fn flag_at(s: &[u8], at: usize) -> Read<bool>
+    ensures { got_value result ≡ read_flag s.now at }
 {
-    let field = u8_within(s, at, 0, 1);
-    let ReadU8::Value(found, next) = field else {
-        return ReadFlag::Refused(field.refusal());
-    };
-    ReadFlag::Value(found == 1, next)
+    let (found, next) = within::<u8>(s, at, 0, 1)?;
+    Ok((found == 1, next))
 }
 
 // A mark is compared as the number that its two bytes make: a lone byte, even a wrong one, is a
 // missing byte.
-pub fn mark_at(s: &[u8], at: usize, mark: u16) -> Passed
+#[tactic(auto, unfolding(model::specs::ReadingBytes::read_mark))]
+pub fn mark_at(s: &[u8], at: usize, mark: u16) -> Result<usize, Refusal>
     ensures { got_place result ≡ read_mark mark s.now at }
 {
-    let field = u16_at(s, at);
-    let ReadU16::Value(found, next) = field else {
-        return Passed::Refused(field.refusal());
-    };
+    let (found, next) = number_at::<u16>(s, at)?;
     if found == mark {
-        Passed::To(next)
+        Ok(next)
     } else {
-        Passed::Refused(Refusal::WrongMark)
+        Err(Refusal::WrongMark)
     }
 }

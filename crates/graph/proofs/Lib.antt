@@ -1,3 +1,3 @@
 pub mod WordBytes
 pub mod Lowest
-pub mod Neighbours
+pub mod Coming

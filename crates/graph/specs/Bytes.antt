@@ -1,13 +1,35 @@
 -- The graph that a list of bytes holds: the predecessors of each block by place, the blocks by
 -- ascending id, and the successors of each as bits.
-use Rattle.std.specs.Prelude.{ℕ, ◌+◌, ◌*◌, ◌-◌, ◌/◌, ◌%◌, ◌≤◌, ◌<◌, ◌≡◌, Bool, true, false, not, List, [], ◌∷◌, map, length, get_or, eqb}
+use Rattle.std.specs.Prelude.{
+  ℕ,
+  ◌+◌,
+  ◌*◌,
+  ◌-◌,
+  ◌/◌,
+  ◌%◌,
+  ◌≤◌,
+  ◌<◌,
+  ◌≡◌,
+  Bool,
+  true,
+  false,
+  not,
+  Option,
+  Some,
+  None,
+  List,
+  [],
+  ◌∷◌,
+  map,
+  length,
+  get_or,
+  eqb,
+}
 use Rattle.model.specs.Lists.{select, any_of}
 use Rattle.model.specs.Rounds.{places_from}
 use Rattle.model.specs.Propagation.{Graph}
 use Rattle.model.specs.ListLaws.{NoRepeats}
 use Rattle.rows.specs.Members.{bit}
-use Rattle.graph.specs.declared.Neighbour.{Neighbour}
-use Rattle.graph.specs.declared.Neighbour.TheVariants.{At, Nothing}
 
 -- how many blocks there are
 abbrev pub size_in : List ℕ → ℕ
@@ -87,17 +109,26 @@ pub record Next (g : List ℕ) (backward : Bool) (b from k next : ℕ) : Type 0 
   pub rest : neighbours_from g backward b from ≡ k ∷ neighbours_from g backward b next
 
 -- What is found from a number on: the next neighbour, or that there is none.
-abbrev pub Finds : List ℕ → Bool → ℕ → ℕ → Neighbour → Type 0
-Finds g backward b from (At k next) = Next g backward b from k next
-Finds g backward b from Nothing = neighbours_from g backward b from ≡ []
+abbrev pub Finds : List ℕ → Bool → ℕ → ℕ → Option (ℕ × ℕ) → Type 0
+Finds g backward b from (Some found) = Next g backward b from found.0 found.1
+Finds g backward b from None = neighbours_from g backward b from ≡ []
 
 -- Bit j of the word w says whether the block of rank 64 * half + j is a successor of block b.
 abbrev pub HoldsBits : List ℕ → ℕ → ℕ → ℕ → Type 0
 HoldsBits g b half w = (j : ℕ) → j < 64 → bit w j ≡ is_successor g b (half * 64 + j)
 
--- The lowest set bit of a word w from bit m on is bit k; 64 where there is none.
-pub record Lowest (w m k : ℕ) : Type 0 where
+-- No bit of a word w is set from bit m up to bit k.
+abbrev pub NoneBelow : ℕ → ℕ → ℕ → Type 0
+NoneBelow w m k = (j : ℕ) → m ≤ j → j < k → bit w j ≡ false
+
+-- Bit k is the lowest set bit of a word w from bit m on.
+pub record LowestAt (w m k : ℕ) : Type 0 where
   pub above : m ≤ k
-  pub within : k ≤ 64
-  pub none : (j : ℕ) → m ≤ j → j < k → bit w j ≡ false
-  pub found : k < 64 → bit w k ≡ true
+  pub within : k < 64
+  pub none : NoneBelow w m k
+  pub found : bit w k ≡ true
+
+-- What is found in a word from a bit on: the lowest set bit, or that there is none.
+abbrev pub Lowest : ℕ → ℕ → Option ℕ → Type 0
+Lowest w m (Some k) = LowestAt w m k
+Lowest w m None = NoneBelow w m 64

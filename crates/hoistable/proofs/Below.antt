@@ -2,30 +2,45 @@
 -- entry.
 use Prim.Native.Nat.{ℕ, zero, suc, ◌+◌, ◌*◌, ◌-◌, ◌≤◌, ◌<◌}
 use native.Mathlib.Omega.{arith}
+use Rattle.std.specs.Prelude.{Some, None}
+use Rattle.std.specs.Prelude as std
+use denote.Bor.{Bor}
 use mathlib.Core.Path.{◌≡◌, refl, sym, ap, subst, ◌∙◌}
-use mathlib.Core.List.{List, ◌∷◌, map}
+use mathlib.Core.List.{List, map}
 use mathlib.Core.Option.{Option}
-use lib.ListN.{length, get_or}
+use lib.ListN.{length, get_or, drop}
 use Rattle.entries.specs.declared.IdentifierId.{IdentifierId}
 use Rattle.entries.specs.declared.DependencyPathEntry.{DependencyPathEntry}
-use Rattle.entries.specs.declared.Refusal.{Refusal}
 use Rattle.model.specs.Answer.{flag}
-use Rattle.model.specs.ReadingBytes.{got, refused, read_many}
 use Rattle.model.specs.Job.{read_entry}
 use Rattle.model.specs.Sets.{NodeSet}
 use Rattle.model.specs.Registry.{full_path_of}
 use Rattle.model.specs.Forest.{Key, identifier_key, property_key, Forest, Found, find_key, child_by_key}
 use Rattle.model.specs.Tree.{HoistablePosition, hoistable_key, hoistable_tree, access_is_non_null, at_non_null}
-use Rattle.job.proofs.Many.{many_first, many_length}
+use Rattle.job.proofs.Many.{many_length}
 use Rattle.laws.specs.Flat as Flat
 use Rattle.laws.specs.FlatSteps.{run, seek, grow_find}
 use Rattle.registry.specs.Words.{registry_of}
 use Rattle.hoistable.specs.Levels.{levels_of, non_null_levels, number_of}
-use Rattle.hoistable.specs.Candidate.{entries_at, Candidate}
-use Rattle.hoistable.specs.Positions.{access_of, optional_in, position_at, positions_in, flat_of, number_below, found_in, HoldsTree}
+use Rattle.hoistable.specs.declared.Entries.{Entries}
+use Rattle.hoistable.specs.Candidate.{entries_at, Reads, Candidate}
+use Rattle.hoistable.specs.Agreement.{Follows}
+use Rattle.hoistable.specs.Positions.{
+  access_of,
+  optional_in,
+  position_at,
+  positions_in,
+  flat_of,
+  number_below,
+  number_in,
+  Stands,
+  found_in,
+  HoldsTree,
+  MayHoldTree,
+}
 use Rattle.hoistable.proofs.Walks.{levels_length}
 use Rattle.hoistable.proofs.Numbers.{number_below_lem, weight_most}
-use Rattle.hoistable.proofs.Names.{candidate_read}
+use Rattle.hoistable.proofs.Names.{reads_at}
 use Rattle.hoistable.proofs.Trees.{none_levels}
 
 -- What the tree has at a number and below it.
@@ -69,44 +84,40 @@ module _ {left : ℕ} {s : List ℕ} {at : ℕ} (c : Candidate left s at) where
   pub levels_small : (h : Option (Found HoistablePosition)) {n : ℕ} → n ≡ number_of (levels_of h (entries_at left s at)) → n < 131072
   levels_small h {n} is = let l = levels_low h (entries_at left s at) entries_few in omega arith
 
-  pub levels_last : left ≡ 0 → (h : Option (Found HoistablePosition)) → flag (at_non_null h) ≡ number_of (levels_of h (entries_at left s at))
-  unfolding entries_at levels_of number_of
-  levels_last none h = rw none (omega arith)
+  -- no entry is left
+  pub levels_last : Follows (entries_at left s at) s left None → (h : Option (Found HoistablePosition))
+      → flag (at_non_null h) ≡ number_of (levels_of h (entries_at left s at))
+  unfolding levels_of number_of
+  levels_last none h = rw none.0 (omega arith)
 
-  module _ (some : ¬ (left ≡ 0)) where
-    first : (e : DependencyPathEntry) × (next : ℕ) × (es : List DependencyPathEntry) × (read_entry 4 s at ≡ got e next) ×
-        (read_many (left - 1) (read_entry 4) s next ≡ got es c.reads.next) × (e ∷ es ≡ entries_at left s at)
-    first = many_first (read_entry 4) s left at (omega (arith, some)) c.reads.read
+  -- one is left, and others behind it
+  module _ {e : DependencyPathEntry} {rest : Entries} (next : Follows (entries_at left s at) s left (Some (e, rest))) where
+    same_rest : drop 1 (entries_at left s at) ≡ entries_at rest.left s rest.at
+    same_rest = sym (reads_at next.1)
 
-    pub entry_there : {f : Refusal} → read_entry 4 s at ≡ refused f → ⊥
-    entry_there e = let here = first.3 in let z : ◌≡◌ {A = ℕ} 0 1 = cc in omega arith
+    pub candidate_later : Candidate rest.left s rest.at
+    candidate_later = record { few = let few = c.few in let more = next.2 in omega arith; reads = subst (Reads rest.left s rest.at) same_rest next.1 }
 
-    module _ {e : DependencyPathEntry} {next : ℕ} (read : read_entry 4 s at ≡ got e next) where
-      same_next : first.1 ≡ next
-      same_next = let here = first.3 in cc
+    pub levels_more : (h : Option (Found HoistablePosition)) (here below : ℕ) → here ≡ flag (at_non_null h)
+        → below ≡ number_of (levels_of (child_by_key hoistable_key h (property_key e.property)) (entries_at rest.left s rest.at))
+        → here + below * 2 ≡ number_of (levels_of h (entries_at left s at))
+    unfolding levels_of number_of
+    levels_more h here below is more = rw (next.0, same_rest) (omega arith)
 
-      same_entry : first.0 ≡ e
-      same_entry = let here = first.3 in cc
+-- A position, and no position.
 
-      later : Candidate (left - 1) s next × (entries_at (left - 1) s next ≡ first.2)
-      later = candidate_read (let few = c.few in omega arith)
-          (subst (λ n. read_many (left - 1) (read_entry 4) s n ≡ got first.2 c.reads.next) same_next first.4)
+pub stands_here : (hoist : List ℕ) (position : std.Option ℕ) {number : ℕ} → position ≡ Some number → Stands hoist position
+    → (0 < number) × (number ≤ positions_in hoist)
+stands_here hoist position is = subst (Stands hoist) is
 
-      pub candidate_later : Candidate (left - 1) s next
-      candidate_later = later.0
+pub levels_above : (ws hoist : List ℕ) (position : std.Option ℕ) (es : List DependencyPathEntry) → position ≡ None
+    → 0 ≡ number_of (levels_of (found_in ws hoist (number_in position)) es)
+levels_above ws hoist position es none = sym (ap (λ o. number_of (levels_of (found_in ws hoist (number_in o)) es)) none ∙ none_levels es)
 
-      pub entries_next : entries_at left s at ≡ e ∷ entries_at (left - 1) s next
-      entries_next = sym first.5 ∙ (λ d. same_entry d ∷ sym later.1 d)
-
-      pub levels_more : (h : Option (Found HoistablePosition)) (here below : ℕ) → here ≡ flag (at_non_null h)
-          → below ≡ number_of (levels_of (child_by_key hoistable_key h (property_key e.property)) (entries_at (left - 1) s next))
-          → here + below * 2 ≡ number_of (levels_of h (entries_at left s at))
-      unfolding levels_of number_of
-      levels_more h here below is more = rw entries_next (omega arith)
-
-pub levels_above : (ws hoist : List ℕ) (number : ℕ) (es : List DependencyPathEntry) → number ≡ 0
-    → 0 ≡ number_of (levels_of (found_in ws hoist number) es)
-levels_above ws hoist number es none = sym (ap (λ n. number_of (levels_of (found_in ws hoist n) es)) none ∙ none_levels es)
+-- the tree that is given is that of the set
+pub tree_given : {ws : List ℕ} (tree : std.Option (Bor (List ℕ))) (set : NodeSet) {hoist : Bor (List ℕ)} → tree ≡ Some hoist
+    → MayHoldTree ws (std.option_copied tree) set → HoldsTree ws hoist.now (hoistable_tree (map (full_path_of (registry_of ws)) set))
+tree_given {ws} tree set is = subst (λ t. MayHoldTree ws (std.option_copied t) set) is
 
 -- The levels from the root's number on are the candidate's.
 pub tree_levels : {ws hoist : List ℕ} (set : NodeSet) (i : IdentifierId) {number : ℕ} (es : List DependencyPathEntry)

@@ -1,5 +1,5 @@
 -- The paths that are left of a set: what they decide beside what is known, all of them decide.
-use Prim.Native.Nat.{ℕ, ◌+◌, ◌%◌, ◌≤◌, ◌<◌}
+use Prim.Native.Nat.{ℕ, ◌%◌, ◌<◌}
 use native.Mathlib.Omega.{arith}
 use mathlib.Core.Path.{◌≡◌, refl, sym, ap, subst, ◌∙◌}
 use mathlib.Core.Bool.{Bool, false, cond}
@@ -9,9 +9,8 @@ use Rattle.entries.specs.declared.IdentifierId.{IdentifierId}
 use Rattle.entries.specs.declared.NodeId.{NodeId}
 use Rattle.entries.specs.declared.DependencyPathEntry.{DependencyPathEntry}
 use Rattle.entries.specs.Path.{same_property, ReactiveScopeDependency}
-use Rattle.rows.specs.declared.Next.TheVariants.{At}
-use Rattle.rows.specs.Members.{members_of, members_from, first_of}
-use Rattle.rows.proofs.Ahead.{Ahead, next_at}
+use Rattle.rows.specs.Members.{members_of}
+use Rattle.model.specs.Sets.{NodeSet}
 use Rattle.registry.specs.Words.{count_in, registry_of}
 use Rattle.registry.proofs.View.{registry_length}
 use Rattle.model.specs.ListLaws.{All}
@@ -53,76 +52,71 @@ module _ (i : IdentifierId) (es : List DependencyPathEntry) (xs ys : List Bool) 
 
 -- The paths that are left.
 
-pub record Deciding (i : IdentifierId) (es : List DependencyPathEntry) (ws set : List ℕ) (whole : List Bool) (v w : Levels) (from : ℕ) : Type 0 where
+-- `left` are the members whose paths are left
+pub record Deciding (i : IdentifierId) (es : List DependencyPathEntry) (ws : List ℕ) (whole : List Bool) (v w : Levels) (left : NodeSet) : Type 0 where
   pub xs : List Bool
   pub ys : List Bool
   pub ahead : HoldsLevels xs v
   pub rest : HoldsLevels ys w
-  pub inside : All (λ k. k.0 < count_in ws) (members_from set from)
-  pub left : decided i es xs ys (map (full_path_of (registry_of ws)) (members_from set from)) ≡ whole
+  pub inside : All (λ k. k.0 < count_in ws) left
+  pub on : decided i es xs ys (map (full_path_of (registry_of ws)) left) ≡ whole
 
 -- what `over` ensures of its result
 abbrev Over : Levels → Levels → Levels → Type 0
 Over v w q = (xs ys : List Bool) → HoldsLevels xs v → HoldsLevels ys w → HoldsLevels (over xs ys) q
 
-pub deciding_start : (i : IdentifierId) (es : List DependencyPathEntry) (ws set : List ℕ) {v w : Levels} → Members (registry_of ws) (members_of set)
-    → HoldsLevels [] v → HoldsLevels [] w
-    → Deciding i es ws set (decided i es [] [] (map (full_path_of (registry_of ws)) (members_of set))) v w 0
-deciding_start i es ws set members v w = record {
+pub deciding_start : (i : IdentifierId) (es : List DependencyPathEntry) (ws set : List ℕ) (left : NodeSet) {v w : Levels}
+    → Members (registry_of ws) (members_of set) → left ≡ members_of set → HoldsLevels [] v → HoldsLevels [] w
+    → Deciding i es ws (decided i es [] [] (map (full_path_of (registry_of ws)) (members_of set))) v w left
+deciding_start i es ws set left members all v w = rw all (record {
   xs = [];
   ys = [];
   ahead = v;
   rest = w;
   inside = subst (λ n. All (λ k. k.0 < n) (members_of set)) (registry_length ws) members.inside;
-  left = refl;
-}
+  on = refl;
+})
 
-module _ {i : IdentifierId} {es : List DependencyPathEntry} {ws set : List ℕ} {whole : List Bool} {v w : Levels} {from : ℕ}
-    (a : Deciding i es ws set whole v w from) where
-  pub deciding_end : members_from set from ≡ [] → {q : Levels} → Over v w q → HoldsLevels whole q
+module _ {i : IdentifierId} {es : List DependencyPathEntry} {ws : List ℕ} {whole : List Bool} {v w : Levels} {left : NodeSet}
+    (a : Deciding i es ws whole v w left) where
+  pub deciding_end : left ≡ [] → {q : Levels} → Over v w q → HoldsLevels whole q
   unfolding decided
   deciding_end none {q} o =
-      subst (λ bs. HoldsLevels bs q) (sym (ap (λ ks. decided i es a.xs a.ys (map (full_path_of (registry_of ws)) ks)) none) ∙ a.left)
+      subst (λ bs. HoldsLevels bs q) (sym (ap (λ ks. decided i es a.xs a.ys (map (full_path_of (registry_of ws)) ks)) none) ∙ a.on)
       (o a.xs a.ys a.ahead a.rest)
 
-  module _ (k : NodeId) (next : first_of (members_from set from) ≡ At k) where
-    there : Ahead set from k
-    there = next_at set from k next
-
-    all : (k.0 < count_in ws) × All (λ j. j.0 < count_in ws) (members_from set (k.0 + 1))
-    all = subst (All (λ j. j.0 < count_in ws)) there.rest a.inside
+  module _ {k : NodeId} {ks : NodeSet} (next : left ≡ k ∷ ks) where
+    all : (k.0 < count_in ws) × All (λ j. j.0 < count_in ws) ks
+    all = subst (All (λ j. j.0 < count_in ws)) next a.inside
 
     pub deciding_inside : k.0 < count_in ws
     deciding_inside = all.0
 
-    pub deciding_place : (from ≤ k.0) × (k.0 < 512)
-    deciding_place = (there.from, there.below)
-
     abbrev path : ReactiveScopeDependency
     path = full_path_of (registry_of ws) k
 
-    onward : decided i es a.xs a.ys (path ∷ map (full_path_of (registry_of ws)) (members_from set (k.0 + 1))) ≡ whole
-    onward = sym (ap (λ ks. decided i es a.xs a.ys (map (full_path_of (registry_of ws)) ks)) there.rest) ∙ a.left
+    onward : decided i es a.xs a.ys (path ∷ map (full_path_of (registry_of ws)) ks) ≡ whole
+    onward = sym (ap (λ js. decided i es a.xs a.ys (map (full_path_of (registry_of ws)) js)) next) ∙ a.on
 
     -- the path's levels, as the code has them, go to those ahead or to the others by their lowest
     -- bit
     module _ (levels : Levels) (held : HoldsLevels (levels_along i es path) levels) (q : Levels) where
-      pub deciding_ahead : levels.optional % 2 ≡ 1 → Over v levels q → Deciding i es ws set whole q w (k.0 + 1)
+      pub deciding_ahead : levels.optional % 2 ≡ 1 → Over v levels q → Deciding i es ws whole q w ks
       deciding_ahead bit o = record {
         xs = over a.xs (levels_along i es path);
         ys = a.ys;
         ahead = o a.xs (levels_along i es path) a.ahead held;
         rest = a.rest;
         inside = all.1;
-        left = sym (decides_ahead i es a.xs a.ys path _ (ap (λ n. n % 2) (sym held.optional) ∙ bit)) ∙ onward;
+        on = sym (decides_ahead i es a.xs a.ys path _ (ap (λ n. n % 2) (sym held.optional) ∙ bit)) ∙ onward;
       }
 
-      pub deciding_rest : ¬ (levels.optional % 2 ≡ 1) → Over w levels q → Deciding i es ws set whole v q (k.0 + 1)
+      pub deciding_rest : ¬ (levels.optional % 2 ≡ 1) → Over w levels q → Deciding i es ws whole v q ks
       deciding_rest bit o = record {
         xs = a.xs;
         ys = over a.ys (levels_along i es path);
         ahead = a.ahead;
         rest = o a.ys (levels_along i es path) a.rest held;
         inside = all.1;
-        left = sym (decides_rest i es a.xs a.ys path _ (λ t. bit (ap (λ n. n % 2) held.optional ∙ t))) ∙ onward;
+        on = sym (decides_rest i es a.xs a.ys path _ (λ t. bit (ap (λ n. n % 2) held.optional ∙ t))) ∙ onward;
       }

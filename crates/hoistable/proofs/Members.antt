@@ -1,15 +1,15 @@
 -- The paths of a set's members entered one after the other.
-use Prim.Native.Nat.{ℕ, ◌+◌, ◌≤◌, ◌<◌}
+use Prim.Native.Nat.{ℕ, ◌<◌}
+use Rattle.std.specs.Prelude.{Option, Some, None, OnSome}
 use mathlib.Core.Path.{◌≡◌, refl, sym, ap, subst, ◌∙◌}
-use mathlib.Core.Bool.{Bool, true, false, not}
+use mathlib.Core.Bool.{Bool, true, false, not, beq}
 use mathlib.Core.List.{List, [], ◌∷◌, ◌++◌, map, map-append}
 use lib.ListN.{length}
 use Rattle.entries.specs.declared.NodeId.{NodeId}
 use Rattle.entries.specs.declared.HoistableAccessType.TheVariants.{NonNull}
 use Rattle.entries.specs.Path.{ReactiveScopeDependency}
-use Rattle.rows.specs.declared.Next.TheVariants.{At}
-use Rattle.rows.specs.Members.{members_of, members_from, first_of}
-use Rattle.rows.proofs.Ahead.{Ahead, next_at}
+use Rattle.rows.specs.Members.{members_of}
+use Rattle.model.specs.Sets.{NodeSet}
 use Rattle.registry.specs.Words.{count_in, registry_of}
 use Rattle.registry.proofs.View.{registry_length}
 use Rattle.model.specs.ListLaws.{All}
@@ -33,6 +33,13 @@ module _ {ws before after : List ℕ} {ahead : Bool} {d : ReactiveScopeDependenc
     flat = rw said (e.flat ∙ ap (Flat.enter hoistable_key first_made (flat_of ws before) 0 0) (path_way d));
   }
 
+-- the test of the code
+pub said_by : (said starts : Bool) {want : Bool} → beq starts said ≡ want → as_said said starts ≡ want
+said_by true true e = e
+said_by true false e = e
+said_by false true e = e
+said_by false false e = e
+
 pub path_passed : {ws hoist : List ℕ} {ahead : Bool} {d : ReactiveScopeDependency} → as_said ahead (starts_optional d.path) ≡ false
     → HoldsPositions hoist → EntersPaths ws hoist hoist ahead (d ∷ [])
 path_passed said held = record { held = held; flat = rw said }
@@ -44,52 +51,47 @@ ways_first : (xs : List (Flat.Node HoistablePosition)) (ahead : Bool) (d : React
     ≡ enter_all hoistable_key first_made (enter_all hoistable_key first_made xs (ways_of ahead (d ∷ []))) (ways_of ahead ds)
 ways_first xs ahead d ds = decide (as_said ahead (starts_optional d.path)) (λ e. rw e) (λ e. rw e)
 
-pub record Entering (ws start set : List ℕ) (ahead : Bool) (hoist : List ℕ) (from : ℕ) : Type 0 where
+-- `left` are the members whose paths are left
+pub record Entering (ws start set : List ℕ) (ahead : Bool) (hoist : List ℕ) (left : NodeSet) : Type 0 where
   pub held : HoldsPositions hoist
   pub long : length hoist ≡ length start
-  pub inside : All (λ k. k.0 < count_in ws) (members_from set from)
-  pub left : enter_all hoistable_key first_made (flat_of ws hoist) (ways_of ahead (map (full_path_of (registry_of ws)) (members_from set from)))
+  pub inside : All (λ k. k.0 < count_in ws) left
+  pub on : enter_all hoistable_key first_made (flat_of ws hoist) (ways_of ahead (map (full_path_of (registry_of ws)) left))
       ≡ enter_all hoistable_key first_made (flat_of ws start) (ways_of ahead (map (full_path_of (registry_of ws)) (members_of set)))
 
-pub entering : (ws set : List ℕ) (ahead : Bool) (hoist : List ℕ) → HoldsPositions hoist → Members (registry_of ws) (members_of set)
-    → Entering ws hoist set ahead hoist 0
-entering ws set ahead hoist held members = record {
+pub entering : (ws set : List ℕ) (ahead : Bool) (hoist : List ℕ) (left : NodeSet) → HoldsPositions hoist → Members (registry_of ws) (members_of set)
+    → left ≡ members_of set → Entering ws hoist set ahead hoist left
+entering ws set ahead hoist left held members all = rw all (record {
   held = held;
   long = refl;
   inside = subst (λ n. All (λ k. k.0 < n) (members_of set)) (registry_length ws) members.inside;
-  left = refl;
-}
+  on = refl;
+})
 
-module _ {ws start set : List ℕ} {ahead : Bool} {hoist : List ℕ} {from : ℕ} (x : Entering ws start set ahead hoist from) where
-  pub entering_end : members_from set from ≡ [] → EntersPaths ws start hoist ahead (map (full_path_of (registry_of ws)) (members_of set))
+module _ {ws start set : List ℕ} {ahead : Bool} {hoist : List ℕ} {left : NodeSet} (x : Entering ws start set ahead hoist left) where
+  pub entering_end : left ≡ [] → EntersPaths ws start hoist ahead (map (full_path_of (registry_of ws)) (members_of set))
   entering_end none = record {
     held = x.held;
-    flat = sym (ap (λ ks. enter_all hoistable_key first_made (flat_of ws hoist) (ways_of ahead (map (full_path_of (registry_of ws)) ks))) none) ∙ x.left;
+    flat = sym (ap (λ ks. enter_all hoistable_key first_made (flat_of ws hoist) (ways_of ahead (map (full_path_of (registry_of ws)) ks))) none) ∙ x.on;
   }
 
-  module _ (k : NodeId) (next : first_of (members_from set from) ≡ At k) where
-    there : Ahead set from k
-    there = next_at set from k next
-
-    all : (k.0 < count_in ws) × All (λ j. j.0 < count_in ws) (members_from set (k.0 + 1))
-    all = subst (All (λ j. j.0 < count_in ws)) there.rest x.inside
+  module _ {k : NodeId} {ks : NodeSet} (next : left ≡ k ∷ ks) where
+    all : (k.0 < count_in ws) × All (λ j. j.0 < count_in ws) ks
+    all = subst (All (λ j. j.0 < count_in ws)) next x.inside
 
     pub entering_inside : k.0 < count_in ws
     entering_inside = all.0
 
-    pub entering_place : (from ≤ k.0) × (k.0 < 512)
-    entering_place = (there.from, there.below)
-
     pub entering_more : {after : List ℕ} → length after ≡ length hoist
-        → EntersPaths ws hoist after ahead (full_path_of (registry_of ws) k ∷ []) → Entering ws start set ahead after (k.0 + 1)
+        → EntersPaths ws hoist after ahead (full_path_of (registry_of ws) k ∷ []) → Entering ws start set ahead after ks
     entering_more long e = record {
       held = e.held;
       long = long ∙ x.long;
       inside = all.1;
-      left = ap (λ xs. enter_all hoistable_key first_made xs (ways_of ahead (map (full_path_of (registry_of ws)) (members_from set (k.0 + 1))))) e.flat
-          ∙ sym (ways_first (flat_of ws hoist) ahead (full_path_of (registry_of ws) k) (map (full_path_of (registry_of ws)) (members_from set (k.0 + 1))))
-          ∙ sym (ap (λ ks. enter_all hoistable_key first_made (flat_of ws hoist) (ways_of ahead (map (full_path_of (registry_of ws)) ks))) there.rest)
-          ∙ x.left;
+      on = ap (λ xs. enter_all hoistable_key first_made xs (ways_of ahead (map (full_path_of (registry_of ws)) ks))) e.flat
+          ∙ sym (ways_first (flat_of ws hoist) ahead (full_path_of (registry_of ws) k) (map (full_path_of (registry_of ws)) ks))
+          ∙ sym (ap (λ js. enter_all hoistable_key first_made (flat_of ws hoist) (ways_of ahead (map (full_path_of (registry_of ws)) js))) next)
+          ∙ x.on;
     }
 
 -- "Paths with an optional first entry ahead, order otherwise kept": the tree of all.
@@ -99,10 +101,12 @@ enter_all_append : (xs : List (Flat.Node HoistablePosition)) (us vs : List (List
 enter_all_append xs [] vs = refl
 enter_all_append xs (u ∷ us) vs = enter_all_append (Flat.enter hoistable_key first_made xs 0 0 u) us vs
 
-pub tree_built : {ws none middle after : List ℕ} {ds : List ReactiveScopeDependency} → positions_in none ≡ 0 → EntersPaths ws none middle true ds
-    → EntersPaths ws middle after false ds → HoldsTree ws after (hoistable_tree ds)
+pub tree_built : {ws none middle : List ℕ} (after : List ℕ) {ds : List ReactiveScopeDependency} → positions_in none ≡ 0
+    → EntersPaths ws none middle true ds → (room : Option Unit) → OnSome room (EntersPaths ws middle after false ds)
+    → OnSome room (HoldsTree ws after (hoistable_tree ds))
 unfolding flat_of hoistable_tree ordered
-tree_built {ws} {none} {ds = ds} zero first second = record {
+tree_built after zero first None second = tt
+tree_built {ws} {none} after {ds = ds} zero first (Some u) second = record {
   held = second.held;
   tree = ap (λ xs. Flat.grow xs 0 0)
       (second.flat ∙ ap (λ xs. enter_all hoistable_key first_made xs (ways_of false ds)) first.flat

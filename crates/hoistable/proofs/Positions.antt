@@ -1,18 +1,18 @@
--- The positions in the words: a word's parts, the search below a number, and one position more.
-use Prim.Native.Nat.{ℕ, suc, ◌+◌, ◌*◌, ◌-◌, ◌/◌, ◌≤◌, ◌<◌}
+-- The positions in the words: the search below a number, and one position more.
+use Prim.Native.Nat.{ℕ, suc, ◌+◌, ◌-◌, ◌≤◌, ◌<◌}
 use native.Mathlib.Omega.{arith}
 use native.Mathlib.Numerals.{add-one}
-use mathlib.Core.Path.{◌≡◌, sym, ap, subst, ◌∙◌}
+use Rattle.std.specs.Prelude.{Option, Some, None, is_some}
+use mathlib.Core.Path.{◌≡◌, refl, sym, ap, subst, ◌∙◌}
 use mathlib.Core.Logic.{◌≢◌}
-use mathlib.Core.Bool.{Bool, true, false, ◌&&◌, not, cond}
+use mathlib.Core.Bool.{Bool, true, false, ◌&&◌, cond}
 use mathlib.Core.List.{List, [], ◌∷◌, ◌++◌}
 use lib.ListN.{length, get_or, set, length-set}
 use lib.Seq.{get_or-set_same, get_or-set_other}
 use lib.Dec.{eqb}
-use Rattle.model.specs.Tests.{decide, eqb-true, eqb-false, eqb_equal, eqb_apart}
-use Rattle.model.specs.Answer.{flag}
+use Rattle.model.specs.Tests.{decide, never, eqb-true, eqb-false}
 use Rattle.model.specs.Forest.{Key, same_key}
-use Rattle.model.specs.Tree.{HoistablePosition, hoistable_key, first_made, access_is_non_null}
+use Rattle.model.specs.Tree.{HoistablePosition, hoistable_key, first_made}
 use Rattle.laws.specs.Flat as Flat
 use Rattle.laws.specs.FlatSteps.{run, run_length, run_same, run_snoc, run_before, ParentsBefore, seek, seek_after, reached, one_more, one_new, one_found}
 use Rattle.registry.specs.Words.{stored_node}
@@ -22,31 +22,18 @@ use Rattle.hoistable.specs.Positions.{
   position_of,
   maker_in,
   parent_in,
-  optional_in,
   IsWord,
   node_of,
   position_at,
   positions_in,
   flat_of,
   number_below,
+  number_in,
+  Stands,
   HoldsPositions,
   Entered,
+  Enters,
 }
-
--- A word's parts.
-
-module _ (k parent : ℕ) (small : k < 512) (low : parent ≤ 512) where
-  pub plain_word : (word : ℕ) → word ≡ k + parent * 1024 → IsWord word k parent false
-  plain_word word is = record { maker = omega arith; above = omega arith; mark = eqb_apart (word / 1048576) 1 (λ e. omega arith) }
-
-  pub optional_word : (word : ℕ) → word ≡ k + parent * 1024 + 1048576 → IsWord word k parent true
-  optional_word word is = record { maker = omega arith; above = omega arith; mark = eqb_equal (word / 1048576) 1 (omega arith) }
-
-pub nonnull_optional : (word : ℕ) → word / 1048576 ≡ 1 → 0 ≡ flag (access_is_non_null (access_of (optional_in word)))
-nonnull_optional word is = rw (eqb_equal (word / 1048576) 1 is)
-
-pub nonnull_plain : (word : ℕ) → ¬ (word / 1048576 ≡ 1) → 1 ≡ flag (access_is_non_null (access_of (optional_in word)))
-nonnull_plain word not = rw (eqb_apart (word / 1048576) 1 not)
 
 -- The search below a number: what is left of it finds what the whole finds.
 
@@ -94,6 +81,10 @@ count_stored hoist i v last =
     let place : length (set hoist i v) - 1 ≡ i = omega (arith, length-set hoist i v) in
     ap (λ n. get_or (set hoist i v) n 0) place ∙ get_or-set_same hoist i v 0 (omega arith)
 
+pub none_found : (found : Option ℕ) → is_some found ≡ false → number_in found ≡ 0
+none_found None none = refl
+none_found (Some r) none = never refl none
+
 -- Words that hold no position.
 
 module _ (hoist : List ℕ) (some : 0 < length hoist) (short : length hoist ≤ 513) where
@@ -137,11 +128,16 @@ whole_below ws hoist parent k held low =
     (seek_after hoistable_key v 0 parent (n - parent) k (λ j l. held.parents j (omega arith)))
 
 module _ (ws hoist : List ℕ) (held : HoldsPositions hoist) (parent : ℕ) (low : parent ≤ positions_in hoist) (s : HoistablePosition) where
-  pub entered_found : (r : ℕ) → r ≡ number_below ws hoist parent s.key → r ≤ positions_in hoist → 0 < r → Entered ws hoist hoist parent (s ∷ []) r
+  entered_found : (r : ℕ) → r ≡ number_below ws hoist parent s.key → r ≤ positions_in hoist → 0 < r → Entered ws hoist hoist parent (s ∷ []) r
   entered_found r is within some =
       let same = whole_below ws hoist parent s.key held low in
       let one = one_found hoistable_key (flat_of ws hoist) 0 parent s (λ z. omega arith) in
       record { held = held; flat = sym one.0; number = is ∙ sym same ∙ sym one.1; within = within }
+
+  pub entered_where_found : (found : Option ℕ) → number_in found ≡ number_below ws hoist parent s.key → Stands hoist found
+      → Enters ws hoist hoist parent (s ∷ []) found
+  entered_where_found None is stands = tt
+  entered_where_found (Some r) is stands = entered_found r is stands.1 stands.0
 
   module _ (word k : ℕ) (optional : Bool) (is : IsWord word k parent optional) (small : k < 512)
       (room : positions_in hoist < length hoist - 1) where
@@ -212,17 +208,15 @@ module _ (ws hoist : List ℕ) (held : HoldsPositions hoist) (parent : ℕ) (low
         }
 
 -- a way down and one position more
-pub entered_more : {ws before middle after : List ℕ} {way : List HoistablePosition} {m r : ℕ} {s : HoistablePosition} → HoldsPositions before
-    → Entered ws before middle 0 way m → Entered ws middle after m (s ∷ []) r → Entered ws before after 0 (way ++ (s ∷ [])) r
-entered_more {ws} {before} {way = way} {m = m} {s = s} held first second =
+pub enters_more : {ws before middle : List ℕ} (after : List ℕ) {way : List HoistablePosition} {m : ℕ} (s : HoistablePosition) (number : Option ℕ)
+    → HoldsPositions before → Entered ws before middle 0 way m → Enters ws middle after m (s ∷ []) number
+    → Enters ws before after 0 (way ++ (s ∷ [])) number
+enters_more after s None held start last = tt
+enters_more {ws} {before} after {way} {m} s (Some r) held start last =
     let more = one_more hoistable_key first_made (flat_of ws before) 0 0 way s (omega arith) (flat_before ws before held) in
     record {
-      held = second.held;
-      flat = second.flat ∙ (λ d. Flat.enter hoistable_key first_made (first.flat d) 0 (first.number d) (s ∷ [])) ∙ sym more.0;
-      number = second.number ∙ (λ d. reached hoistable_key first_made (first.flat d) 0 (first.number d) (s ∷ [])) ∙ sym more.1;
-      within = second.within;
+      held = last.held;
+      flat = last.flat ∙ (λ d. Flat.enter hoistable_key first_made (start.flat d) 0 (start.number d) (s ∷ [])) ∙ sym more.0;
+      number = last.number ∙ (λ d. reached hoistable_key first_made (start.flat d) 0 (start.number d) (s ∷ [])) ∙ sym more.1;
+      within = last.within;
     }
-
-pub entered_as : {ws before after : List ℕ} {p r : ℕ} {way other : List HoistablePosition} → way ≡ other → Entered ws before after p way r
-    → Entered ws before after p other r
-entered_as {ws} {before} {after} {p} {r} same e = subst (λ w. Entered ws before after p w r) same e

@@ -1,5 +1,26 @@
 -- The levels of a candidate that one path of the set decides, and those that several decide.
-use Rattle.std.specs.Prelude.{ℕ, ◌≤◌, ◌<◌, ◌≡◌, Bool, true, false, ◌&&◌, cond, List, [], ◌∷◌, length, drop, eqb}
+use Rattle.std.specs.Prelude.{
+  ℕ,
+  ◌+◌,
+  ◌≤◌,
+  ◌<◌,
+  ◌≡◌,
+  Bool,
+  true,
+  false,
+  ◌&&◌,
+  cond,
+  List,
+  [],
+  ◌∷◌,
+  length,
+  drop,
+  eqb,
+  Option,
+  Some,
+  None,
+  IfSome,
+}
 use Rattle.entries.specs.declared.IdentifierId.{IdentifierId}
 use Rattle.entries.specs.declared.PropertyLiteral.{PropertyLiteral}
 use Rattle.entries.specs.declared.DependencyPathEntry.{DependencyPathEntry}
@@ -7,8 +28,7 @@ use Rattle.entries.specs.Path.{same_property, prefix_of_names, ReactiveScopeDepe
 use Rattle.model.specs.Tree.{starts_optional}
 use Rattle.hoistable.specs.declared.Levels.{Levels}
 use Rattle.hoistable.specs.declared.Agreement.{Agreement}
-use Rattle.hoistable.specs.declared.NextName.{NextName}
-use Rattle.hoistable.specs.declared.NextName.TheVariants.{Same, Other}
+use Rattle.hoistable.specs.declared.Entries.{Entries}
 use Rattle.hoistable.specs.Levels.{number_of, weight_of}
 use Rattle.hoistable.specs.Candidate.{Reads, AreRead}
 
@@ -54,20 +74,31 @@ pub record Small (v : Levels) : Type 0 where
   pub most : v.end ≤ 131072
   pub below : v.optional < v.end
 
+-- The next of the candidate's entries `es`, of which `left` are left, and the others are read
+-- behind it; or there is none.
+abbrev pub Follows : List DependencyPathEntry → List ℕ → ℕ → Option (DependencyPathEntry × Entries) → Type 0
+Follows es s left (Some (e, rest)) = (es ≡ e ∷ drop 1 es) × Reads rest.left s rest.at (drop 1 es) × (rest.left + 1 ≡ left)
+Follows es s left None = (es ≡ []) × (left ≡ 0)
+
 -- the candidate's next entry has the property, and the others are read behind it; or it has
 -- another, or there is none
-abbrev pub NextIs : PropertyLiteral → List DependencyPathEntry → List ℕ → NextName → Type 0
-NextIs q es s (Same next left) = (next_same q es ≡ true) × Reads left s next (drop 1 es)
-NextIs q es s Other = next_same q es ≡ false
+abbrev pub NextIs : PropertyLiteral → List DependencyPathEntry → List ℕ → Option Entries → Type 0
+NextIs q es s (Some rest) = (next_same q es ≡ true) × Reads rest.left s rest.at (drop 1 es)
+NextIs q es s None = next_same q es ≡ false
 
 -- where the candidate has all the path's names, its entries after them are read
 abbrev pub RestRead : List ℕ → Agreement → Type 0
-RestRead s r = r.whole ≡ true → AreRead r.left s r.at
+RestRead s r = IfSome r.rest (λ rest. AreRead rest.left s rest.at)
+
+-- whether the candidate has all the path's names, and if so, where its entries go on
+abbrev pub RestAgrees : List ℕ → IdentifierId → List DependencyPathEntry → ReactiveScopeDependency → Option Entries → Type 0
+RestAgrees s i es d (Some rest) =
+    (eqb d.identifier.0 i.0 && prefix_of_names d.path es ≡ true) × Reads rest.left s rest.at (drop (length d.path) es)
+RestAgrees s i es d None = eqb d.identifier.0 i.0 && prefix_of_names d.path es ≡ false
 
 -- How far a path agrees with a candidate: the levels that it decides, whether the candidate has all
 -- its names, and if so, where the candidate's entries go on.
 pub record Agrees (s : List ℕ) (i : IdentifierId) (es : List DependencyPathEntry) (d : ReactiveScopeDependency)
     (r : Agreement) : Type 0 where
   pub levels : HoldsLevels (levels_along i es d) r.levels
-  pub whole : r.whole ≡ eqb d.identifier.0 i.0 && prefix_of_names d.path es
-  pub left : r.whole ≡ true → Reads r.left s r.at (drop (length d.path) es)
+  pub rest : RestAgrees s i es d r.rest

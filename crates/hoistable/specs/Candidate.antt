@@ -5,8 +5,6 @@ use Rattle.entries.specs.declared.DependencyPathEntry.{DependencyPathEntry}
 use Rattle.model.specs.ReadingBytes.{Read, got, refused, read_many}
 use Rattle.model.specs.Answer.{span_width}
 use Rattle.model.specs.Job.{read_entry}
-use Rattle.model.specs.RegistryLaws.{Sound}
-use Rattle.registry.specs.Words.{registry_of, Sized}
 
 -- what was read; none where it was refused
 abbrev pub entries_of : Read (List DependencyPathEntry) → List DependencyPathEntry
@@ -30,10 +28,3 @@ AreRead count s at = Reads count s at (entries_at count s at)
 pub record Candidate (count : ℕ) (s : List ℕ) (at : ℕ) : Type 0 where
   pub few : count ≤ 16
   pub reads : AreRead count s at
-
--- What is asked of the words and the bytes: a registry as its operations make it, and a candidate's
--- entries.
-pub record Ready (ws : List ℕ) (count : ℕ) (s : List ℕ) (at : ℕ) : Type 0 where
-  pub sized : Sized ws
-  pub sound : Sound (registry_of ws)
-  pub candidate : Candidate count s at

@@ -1,6 +1,30 @@
 -- The hoistable tree in words, as a flat forest.
-use Rattle.std.specs.Prelude.{ℕ, ◌-◌, ◌/◌, ◌%◌, ◌≤◌, ◌<◌, ◌≡◌, Bool, true, false, not, cond, List, [], ◌∷◌, map, length, get_or, eqb}
-use Rattle.std.proofs.Math.Option.{Option}
+use Rattle.std.specs.Prelude.{
+  ℕ,
+  ◌-◌,
+  ◌/◌,
+  ◌%◌,
+  ◌≤◌,
+  ◌<◌,
+  ◌≡◌,
+  Bool,
+  true,
+  false,
+  not,
+  cond,
+  List,
+  [],
+  ◌∷◌,
+  map,
+  length,
+  get_or,
+  eqb,
+  Option,
+  Some,
+  None,
+  IfSome,
+}
+use Rattle.std.proofs.Math.Option as Maybe
 use Rattle.entries.specs.declared.DependencyPathEntry.{DependencyPathEntry}
 use Rattle.entries.specs.declared.HoistableAccessType.{HoistableAccessType}
 use Rattle.entries.specs.declared.HoistableAccessType.TheVariants.{Optional, NonNull}
@@ -72,8 +96,17 @@ flat_of ws hoist = run (position_at ws hoist) 0 (positions_in hoist)
 unfoldable pub number_below : List ℕ → List ℕ → ℕ → Key → ℕ
 number_below ws hoist p k = seek hoistable_key (run (position_at ws hoist) p (positions_in hoist - p)) p p k
 
+-- the number of a position, where there is one, and else 0
+abbrev pub number_in : Option ℕ → ℕ
+number_in None = 0
+number_in (Some number) = number
+
+-- it is the number of a position of the words
+abbrev pub Stands : List ℕ → Option ℕ → Type 0
+Stands hoist position = IfSome position (λ number. (0 < number) × (number ≤ positions_in hoist))
+
 -- The position with a number, and the forest below it; none for 0.
-abbrev pub found_in : List ℕ → List ℕ → ℕ → Option (Found HoistablePosition)
+abbrev pub found_in : List ℕ → List ℕ → ℕ → Maybe.Option (Found HoistablePosition)
 found_in ws hoist number = found_at hoistable_key (position_at ws hoist) (positions_in hoist) number
 
 -- No more words than 512 positions and their number need, and no more positions than there are
@@ -92,8 +125,8 @@ pub record Entered (ws before after : List ℕ) (p : ℕ) (way : List HoistableP
   pub within : r ≤ positions_in after
 
 -- The same, where there was room for it.
-abbrev pub Enters : List ℕ → List ℕ → List ℕ → ℕ → List HoistablePosition → ℕ → Type 0
-Enters ws before after p way r = 0 < r → Entered ws before after p way r
+abbrev pub Enters : List ℕ → List ℕ → List ℕ → ℕ → List HoistablePosition → Option ℕ → Type 0
+Enters ws before after p way number = IfSome number (λ r. Entered ws before after p way r)
 
 -- The position with a key and those of the entries after it, with the access of the last.
 abbrev pub positions_from : Key → List DependencyPathEntry → HoistableAccessType → List HoistablePosition
@@ -123,6 +156,6 @@ pub record HoldsTree (ws hoist : List ℕ) (t : Forest HoistablePosition) : Type
   pub held : HoldsPositions hoist
   pub tree : Flat.grow (flat_of ws hoist) 0 0 ≡ t
 
--- Where there are more words than one, they hold the tree of the set; of one alone nothing is said.
-abbrev pub MayHoldTree : List ℕ → List ℕ → NodeSet → Type 0
-MayHoldTree ws hoist set = 1 < length hoist → HoldsTree ws hoist (hoistable_tree (map (full_path_of (registry_of ws)) set))
+-- A tree that is given is that of the set; of none nothing is said.
+abbrev pub MayHoldTree : List ℕ → Option (List ℕ) → NodeSet → Type 0
+MayHoldTree ws tree set = IfSome tree (λ hoist. HoldsTree ws hoist (hoistable_tree (map (full_path_of (registry_of ws)) set)))

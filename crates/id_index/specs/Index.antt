@@ -1,7 +1,7 @@
 -- The block that an index of the ids of n blocks leads to. It is a function of the ids, the index
 -- and the id, whatever the index holds, and the block has the id.
-use Rattle.std.specs.Prelude.{ℕ, zero, suc, ◌+◌, ◌-◌, ◌%◌, ◌≤◌, ◌<◌, ◌≡◌, cond, List, get_or, eqb, ltb}
-use Rattle.std.proofs.Common.{arith, ap, ◌∙◌}
+use Rattle.std.specs.Prelude.{ℕ, zero, suc, ◌+◌, ◌-◌, ◌%◌, ◌≤◌, ◌<◌, ◌≡◌, Option, Some, None, cond, List, length, get_or, eqb, ltb}
+use Rattle.std.proofs.Common.{arith, sym, ap, ◌∙◌}
 use Rattle.model.specs.Tests.{by_cond, eqb-true, eqb_equal, eqb_apart, ltb_true, ltb_less, ltb_not_less}
 
 -- the first block with an id, from place k on along the index over at most so many blocks; behind
@@ -14,6 +14,12 @@ place_from ids n index id (suc left) k =
 -- the same from the bucket of the id on
 unfoldable pub place_by : List ℕ → ℕ → List ℕ → ℕ → ℕ
 place_by ids n index id = place_from ids n index id n (get_or index (id % 128) 0)
+
+-- the same as an answer: none where it is behind the last
+abbrev pub block_by : List ℕ → List ℕ → ℕ → Option ℕ
+block_by ids index id =
+    let k = place_by ids (length ids) index id in
+    cond (ltb k (length ids)) (Some k) None
 
 -- A place is behind the last, or that of a block with the id.
 pub record Leads (ids : List ℕ) (n id k : ℕ) : Type 0 where
@@ -55,3 +61,12 @@ module _ (ids : List ℕ) (n : ℕ) (index : List ℕ) (id : ℕ) where
 
   pub from_end : (left k : ℕ) → left ≤ 0 → place_from ids n index id left k ≡ n
   from_end left k l = let none : left ≡ 0 = omega arith in rw none
+
+-- A block that is answered is the one that the index leads to.
+module _ (ids index : List ℕ) (id : ℕ) where
+  pub block_led : {k : ℕ} → block_by ids index id ≡ Some k → (k ≡ place_by ids (length ids) index id) × (k < length ids)
+  block_led {k} =
+      let place = place_by ids (length ids) index id in
+      by_cond (λ (o : Option ℕ). o ≡ Some k → (k ≡ place) × (k < length ids)) (ltb place (length ids))
+      (λ l e. let same : place ≡ k = cc in (sym same, rw (← same) (ltb_true place (length ids) l)))
+      (λ l e. absurd (cc))

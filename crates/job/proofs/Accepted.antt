@@ -5,6 +5,7 @@ use mathlib.Core.Path.{◌≡◌, refl, sym, ap, ◌∙◌}
 use mathlib.Core.Bool.{Bool, true, false, cond}
 use mathlib.Core.List.{List}
 use native.Mathlib.Omega.{arith}
+use Rattle.std.specs.Prelude.{Ok}
 use lib.ListN.{length, get_or}
 use lib.Seq.{sets, get_or-take}
 use Rattle.entries.specs.declared.Refusal.TheVariants.{RepeatedId, UnknownBlock}
@@ -13,7 +14,6 @@ use Rattle.model.specs.Job.{HD, CA, Header, Job, ids_of, read_path, read_block, 
 use Rattle.laws.specs.Fits.{holds_got}
 use Rattle.job.specs.Kept.{note_place, note_number, block_notes, block_places, block_numbers, block_ids, candidates_at, head_of, kept_of}
 use Rattle.job.specs.declared.JobHead.{JobHead}
-use Rattle.job.specs.declared.ReadJob.TheVariants.{Value}
 use Rattle.job.proofs.Bounds.{blocks_most, candidates_most}
 use Rattle.job.proofs.Many.{many_length, Again, read_again}
 use Rattle.job.proofs.Passing.{not_both, then_got}
@@ -84,7 +84,7 @@ joined s j j' end end' r a e k =
     let p = parts s r in
     rw (k, ← t.2) (is s j p.0 end p.1 (rw (t.2, t.3) e) t.0 t.1)
 
-pub accepted : (s : List ℕ) {h : JobHead} → Value h ≡ kept_of s (read_job HD 4 s) → Accepted s h
+pub accepted : (s : List ℕ) {h : JobHead} → Ok h ≡ kept_of s (read_job HD 4 s) → Accepted s h
 accepted s e =
     let v = answer_value s (read_job HD 4 s) e in
     let t = then_got (read_records HD 4 s) accept_ids (sym (job_fields s) ∙ v.2) in

@@ -11,7 +11,7 @@ use Rattle.model.specs.ReadingBytes.{Read, got, refused, ByteReader, and_then, r
 use Rattle.model.specs.Job.{BL, Header, read_block_id, read_header}
 use Rattle.model.specs.Tests.{and_second}
 use Rattle.laws.specs.Fits.{HoldsIfRead, holds_then}
-use Rattle.fields.proofs.Within.{within_fields}
+use Rattle.fields.proofs.Steps.{within_fields}
 use Rattle.job.specs.Head.{read_path_head, read_block_head}
 use Rattle.job.specs.declared.PathHead.{PathHead}
 use Rattle.job.specs.declared.BlockHead.{BlockHead}

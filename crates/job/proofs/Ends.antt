@@ -13,8 +13,8 @@ use Rattle.entries.specs.declared.Refusal.TheVariants.{WrongMark, OutOfRange, La
 use Rattle.model.specs.ReadingBytes.{Read, got, refused, ByteReader, and_then, mapped, read_many, read_number, read_mark, read_within, read_flag}
 use Rattle.model.specs.Job.{BL, RD, read_block_id, read_entry, largest_start, read_range_start}
 use Rattle.model.specs.Tests.{decide}
-use Rattle.fields.proofs.Number.{number_got, number_missing}
-use Rattle.fields.proofs.Within.{mark_fields, within_fields, flag_fields, start_fields}
+use Rattle.fields.specs.Laws.{number_got, number_missing}
+use Rattle.fields.proofs.Steps.{mark_fields, within_fields, flag_fields, start_fields}
 use Rattle.job.specs.Head.{read_path_head, read_instruction_and_range, read_scope_and_known, read_raw_head, read_block_head}
 use Rattle.job.specs.declared.BlockHead.{BlockHead}
 use Rattle.job.proofs.Fields.{entry_fields}

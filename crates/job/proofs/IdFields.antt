@@ -11,7 +11,7 @@ use Rattle.entries.specs.declared.Refusal.TheVariants.{MissingByte}
 use Rattle.model.specs.ReadingBytes.{got, refused, read_many}
 use Rattle.model.specs.Job.{read_block_id}
 use Rattle.model.specs.Tests.{decide}
-use Rattle.fields.proofs.Number.{number_got, number_missing}
+use Rattle.fields.specs.Laws.{number_got, number_missing}
 use Rattle.job.specs.Passing.{passed}
 use Rattle.job.proofs.Passing.{passed_both, passed_mapped}
 

@@ -1,5 +1,6 @@
 -- laws of readings
 pub mod Passing
+pub mod PassingMany
 pub mod Bounds
 pub mod Many
 pub mod Noting

@@ -5,6 +5,7 @@ use mathlib.Core.Bool.{Bool, true, false, cond}
 use mathlib.Core.List.{List}
 use native.Mathlib.Omega.{arith}
 use borrow.Author.Tests.{eqb-true, eq-eqb, ne_eqb}
+use Rattle.std.specs.Prelude.{Result, Ok, Err}
 use lib.Dec.{eqb}
 use lib.ListN.{length}
 use Rattle.entries.specs.declared.Refusal.{Refusal}
@@ -16,10 +17,7 @@ use Rattle.fields.proofs.Reading.{seen}
 use Rattle.job.specs.Answer.{header_of, got_header}
 use Rattle.job.specs.Kept.{candidates_at, head_of, kept_of, after_header, BehindHeader}
 use Rattle.job.specs.declared.Header as head
-use Rattle.job.specs.declared.ReadHeader.{ReadHeader}
-use Rattle.job.specs.declared.ReadHeader.TheVariants as header
 use Rattle.job.specs.declared.JobHead.{JobHead}
-use Rattle.job.specs.declared.ReadJob.TheVariants.{Value, Refused}
 use Rattle.job.specs.Passing.{passed}
 use Rattle.job.proofs.Passing.{not_both, then_got, passed_got, passed_refused}
 use Rattle.job.proofs.Many.{many_length}
@@ -42,9 +40,10 @@ unfolding candidates_at
 candidates_place s head past = rw (head, past)
 
 -- the header that was read, and the place after it
-pub behind : (s : List ℕ) (at : ℕ) {r : ReadHeader} {h : head.Header} {next : ℕ} → BehindHeader s at r → r ≡ header.Value h next
+pub behind : (s : List ℕ) (at : ℕ) {r : Result (head.Header × ℕ) Refusal} {h : head.Header} {next : ℕ} → BehindHeader s at r → r ≡ Ok (h, next)
     → read_header HD s 0 ≡ got (header_of h) at
-behind s at {h = h} p e = seen got_header p.0 e ∙ ap (got (header_of h)) (sym (p.1 ∙ ap (λ (r : ReadHeader). after_header r 0) e))
+behind s at {h = h} p e =
+    seen got_header p.0 e ∙ ap (got (header_of h)) (sym (p.1 ∙ ap (λ (r : Result (head.Header × ℕ) Refusal). after_header r 0) e))
 
 -- how far the reading goes, by the places that were reached
 module _ (s : List ℕ) {h : Header} {b : ℕ} (head : read_header HD s 0 ≡ got h b) where
@@ -66,7 +65,7 @@ module _ (s : List ℕ) {h : Header} {b : ℕ} (head : read_header HD s 0 ≡ go
       byte_extra more = rw (records_fields, head, (passed_got blocks past).1, (passed_got candidates last).1, ne_eqb next (length s) more)
 
       pub all_read : next ≡ length s
-          → kept_of s (read_records HD 4 s) ≡ Value (record { blocks = h.blocks; candidates = h.candidates; scope = h.scope; candidates_at = c })
+          → kept_of s (read_records HD 4 s) ≡ Ok (record { blocks = h.blocks; candidates = h.candidates; scope = h.scope; candidates_at = c })
       all_read end =
           let bs = passed_got blocks past in
           let cs = passed_got candidates last in
@@ -82,11 +81,11 @@ module _ (s : List ℕ) {h : Header} {b : ℕ} (head : read_header HD s 0 ≡ go
           )
 
 -- what an answer says of the reading that it stands for
-pub answer_value : (s : List ℕ) (x : Read Job) {h : JobHead} → Value h ≡ kept_of s x → (j : Job) × (end : ℕ) × (x ≡ got j end) × (h ≡ head_of s j)
+pub answer_value : (s : List ℕ) (x : Read Job) {h : JobHead} → Ok h ≡ kept_of s x → (j : Job) × (end : ℕ) × (x ≡ got j end) × (h ≡ head_of s j)
 answer_value s (got j end) e = (j, end, refl, cc)
 answer_value s (refused r) e = absurd (let z : ◌≡◌ {A = ℕ} 0 1 = cc in omega arith)
 
-pub answer_refused : (s : List ℕ) (x : Read Job) {r : Refusal} → Refused r ≡ kept_of s x → x ≡ refused r
+pub answer_refused : (s : List ℕ) (x : Read Job) {r : Refusal} → Err r ≡ kept_of s x → x ≡ refused r
 answer_refused s (got j end) e = absurd (let z : ◌≡◌ {A = ℕ} 0 1 = cc in omega arith)
 answer_refused s (refused r) e = cc
 

@@ -1,17 +1,15 @@
 -- What the reader keeps of a job: the header, the place of the candidates, and a note of each
 -- block.
-use Rattle.std.specs.Prelude.{ℕ, ◌<◌, ◌≡◌, List, map, length, get_or}
+use Rattle.std.specs.Prelude.{ℕ, ◌<◌, ◌≡◌, List, Result, Ok, Err, map, length, get_or}
 use Rattle.entries.specs.declared.BlockId.{BlockId}
+use Rattle.entries.specs.declared.Refusal.{Refusal}
 use Rattle.model.specs.ReadingBytes.{Read, got, refused, and_then, read_many}
 use Rattle.model.specs.Answer.{span_width}
 use Rattle.model.specs.Job.{HD, Header, Block, Job, block_id, read_header, read_block, read_job}
 use Rattle.job.specs.Passing.{or_none, notes}
 use Rattle.job.specs.Answer.{got_header}
-use Rattle.job.specs.declared.ReadHeader.{ReadHeader}
-use Rattle.job.specs.declared.ReadHeader.TheVariants as header
+use Rattle.job.specs.declared.Header as head
 use Rattle.job.specs.declared.JobHead.{JobHead}
-use Rattle.job.specs.declared.ReadJob.{ReadJob}
-use Rattle.job.specs.declared.ReadJob.TheVariants.{Value, Refused}
 
 -- Of a block, the place of its record is noted.
 abbrev pub note_place : ℕ → Block → ℕ
@@ -49,12 +47,12 @@ candidates_at s =
     (and_then (read_header HD s 0) (λ (header : Header) blocks_at. read_many header.blocks (read_block span_width) s blocks_at))
 
 -- the place after a header that was looked for at a place; a refusal leaves it where it was
-abbrev pub after_header : ReadHeader → ℕ → ℕ
-after_header (header.Value h next) at = next
-after_header (header.Refused r) at = at
+abbrev pub after_header : Result (head.Header × ℕ) Refusal → ℕ → ℕ
+after_header (Ok (h, next)) at = next
+after_header (Err r) at = at
 
 -- A header is what stands at the front of the bytes, and a place is the one after it.
-abbrev pub BehindHeader : List ℕ → ℕ → ReadHeader → Type 0
+abbrev pub BehindHeader : List ℕ → ℕ → Result (head.Header × ℕ) Refusal → Type 0
 BehindHeader s at h = (got_header h ≡ read_header HD s 0) × (at ≡ after_header h 0)
 
 -- What is kept of a job beside the notes of its blocks.
@@ -67,9 +65,9 @@ head_of s job = record {
 }
 
 -- the answer that stands for a reading of the whole job
-abbrev pub kept_of : List ℕ → Read Job → ReadJob
-kept_of s (got job end) = Value (head_of s job)
-kept_of s (refused r) = Refused r
+abbrev pub kept_of : List ℕ → Read Job → Result JobHead Refusal
+kept_of s (got job end) = Ok (head_of s job)
+kept_of s (refused r) = Err r
 
 -- the blocks of the job that the bytes read to; none where they read to no job
 unfoldable pub blocks_of : List ℕ → List Block

@@ -1,5 +1,6 @@
 -- What a pass over records finds out: the place after them, and a note of each that was read.
-use Rattle.std.specs.Prelude.{ℕ, zero, suc, ◌≡◌, List, [], ◌∷◌}
+use Rattle.std.specs.Prelude.{ℕ, zero, suc, ◌≡◌, List, [], ◌∷◌, Result, Ok, Err}
+use Rattle.entries.specs.declared.Refusal.{Refusal}
 use Rattle.model.specs.ReadingBytes.{Read, got, refused, ByteReader}
 
 -- the place alone
@@ -26,3 +27,14 @@ notes f (suc n) read s at = or_none (read s at) (λ a next. f at a ∷ notes f n
 -- a value that is its own note
 abbrev pub note_value : ℕ → ℕ → ℕ
 note_value at x = x
+
+-- What holds of the place that was reached, or of a refusal.
+abbrev pub GoesOn : Result ℕ Refusal → (ℕ → Type 0) → Type 0 → Type 0
+GoesOn (Ok next) reached stopped = reached next
+GoesOn (Err r) reached stopped = stopped
+
+-- A relation between a place and what passing one record from there answers: what passing so many
+-- records, one after the other, answers.
+abbrev pub PassesMany : (ℕ → Result ℕ Refusal → Type 0) → ℕ → ℕ → Result ℕ Refusal → Type 0
+PassesMany past zero at r = r ≡ Ok at
+PassesMany past (suc n) at r = (first : Result ℕ Refusal) × past at first × GoesOn first (λ next. PassesMany past n next r) (r ≡ first)

@@ -6,6 +6,8 @@ use mathlib.Core.Path.{◌≡◌, refl, sym, ap, subst, ◌∙◌}
 use mathlib.Core.Bool.{Bool}
 use mathlib.Core.List.{List, ◌∷◌}
 use lib.ListN.{length}
+use Rattle.std.specs.Prelude.{Result, Ok, Err}
+use Rattle.entries.specs.declared.Refusal.TheVariants.{ManyNodes}
 use Rattle.entries.specs.declared.IdentifierId.{IdentifierId}
 use Rattle.entries.specs.declared.NodeId.{NodeId}
 use Rattle.entries.specs.declared.Refusal.{Refusal}
@@ -21,12 +23,9 @@ use Rattle.model.specs.Registry.{node_limit, PropertyPathRegistry, Reached, full
 use Rattle.model.specs.Registry.{get_or_create_identifier, get_or_create_property_entry, after_making, get_or_create_property}
 use Rattle.model.proofs.RegistryLaws.{entry_same, extends_length, makes_longer, reached_inside, walk_extends}
 use Rattle.model.specs.Tests.{eqb_same}
-use Rattle.registry.specs.declared.NodeEntered.{NodeEntered}
-use Rattle.registry.specs.declared.NodeEntered.TheVariants as entered
-use Rattle.registry.specs.Words.{count_in, registry_of, Held, Arrives}
+use Rattle.registry.specs.Words.{count_in, registry_of, Held}
 use Rattle.registry.proofs.View.{registry_length}
 use Rattle.paths.specs.declared.EnteredPath.{EnteredPath}
-use Rattle.paths.specs.declared.EnteredPath.TheVariants.{At, Full}
 use Rattle.job.specs.Passing.{IsRead}
 use Rattle.paths.specs.Enters.{walk_own, Enters}
 
@@ -35,50 +34,42 @@ pub not_refused : {A B : Type 0} {x : Read A} {r : Refusal} → IsRead x → x �
 not_refused i e = not_both i.read e
 
 -- a record that is made of another
-pub enters_mapped : {A B : Type 0} (f : A → B) (x : Read A) (reach : B → Reached) (r : EnteredPath) (ws os : List ℕ)
+pub enters_mapped : {A B : Type 0} (f : A → B) (x : Read A) (reach : B → Reached) (r : Result EnteredPath Refusal) (ws os : List ℕ)
     → Enters x (λ a. reach (f a)) r ws os → Enters (mapped f x) reach r ws os
-enters_mapped f (got a n) reach (At k made m) ws os h = h
-enters_mapped f (got a n) reach Full ws os h = h
+enters_mapped f (got a n) reach (Ok p) ws os h = h
+enters_mapped f (got a n) reach (Err e) ws os h = h
 enters_mapped f (refused q) reach r ws os h = absurd h
 
 -- wherever it would lead, there is no room
 pub enters_full : {A : Type 0} (x : Read A) (reach : A → Reached) (ws os : List ℕ) → IsRead x
-    → ((a : A) → node_limit < length (reach a).registry) → Enters x reach Full ws os
-enters_full (got a n) reach ws os i h = h a
+    → ((a : A) → node_limit < length (reach a).registry) → Enters x reach (Err ManyNodes) ws os
+enters_full (got a n) reach ws os i h = (refl, h a)
 enters_full (refused q) reach ws os i h = not_refused i refl
 
--- The registry's answers by their case, with what the next call asks.
-
--- node k of the words was reached from a registry, and it was found or made
-pub record Made (reg : PropertyPathRegistry) (want : Reached) (ws os : List ℕ) (k : NodeId) (made : ℕ) : Type 0 where
-  pub held : Held ws os
+-- Node k of the words was reached from a registry, and it was found or made.
+pub record Made (reg : PropertyPathRegistry) (want : Reached) (ws : List ℕ) (k : NodeId) (made : ℕ) : Type 0 where
   pub inside : k.0 < count_in ws
   pub is : want ≡ record { registry = registry_of ws; node = k; made = made }
   pub longer : count_in ws ≡ length reg + made
 
 made_at : (reg : PropertyPathRegistry) (want : Reached) → want.node.0 < length want.registry → length want.registry ≡ length reg + want.made
-    → (r : NodeEntered) (ws os : List ℕ) → Arrives want r ws os → (k : NodeId) (made : ℕ) → r ≡ entered.At k made
-    → Made reg want ws os k made
-made_at reg want within longer r ws os a k made e =
-    let there = subst (λ x. Arrives want x ws os) e a in
+    → (ws : List ℕ) (k : NodeId) (made : ℕ) → want ≡ record { registry = registry_of ws; node = k; made = made } → Made reg want ws k made
+made_at reg want within longer ws k made is =
     let size = registry_length ws in
-    let l = subst (λ (x : Reached). x.node.0 < length x.registry) there.1 within in
-    let m = subst (λ (x : Reached). length x.registry ≡ length reg + x.made) there.1 longer in
-    record { held = there.0; inside = omega arith; is = there.1; longer = omega arith }
+    let l = subst (λ (x : Reached). x.node.0 < length x.registry) is within in
+    let m = subst (λ (x : Reached). length x.registry ≡ length reg + x.made) is longer in
+    record { inside = omega arith; is = is; longer = omega arith }
 
-pub made_full : (want : Reached) (r : NodeEntered) (ws os : List ℕ) → Arrives want r ws os → r ≡ entered.Full → node_limit < length want.registry
-made_full want r ws os a e = subst (λ x. Arrives want x ws os) e a
-
-pub root_made_at : (reg : PropertyPathRegistry) (i : IdentifierId) (reactive : Bool) (span : ℕ) (r : NodeEntered) (ws os : List ℕ)
-    → Arrives (get_or_create_identifier reg i reactive span) r ws os
-    → (k : NodeId) (made : ℕ) → r ≡ entered.At k made → Made reg (get_or_create_identifier reg i reactive span) ws os k made
+pub root_made_at : (reg : PropertyPathRegistry) (i : IdentifierId) (reactive : Bool) (span : ℕ) (ws : List ℕ) (k : NodeId) (made : ℕ)
+    → get_or_create_identifier reg i reactive span ≡ record { registry = registry_of ws; node = k; made = made }
+    → Made reg (get_or_create_identifier reg i reactive span) ws k made
 root_made_at reg i reactive span =
     made_at reg (get_or_create_identifier reg i reactive span) (reached_inside (is_root_for i) (root_node i reactive span) (eqb_same i.0) reg)
     (makes_longer (is_root_for i) (root_node i reactive span) reg).0
 
-pub child_made_at : (reg : PropertyPathRegistry) (p : NodeId) (e : DependencyPathEntry) (r : NodeEntered) (ws os : List ℕ)
-    → Arrives (get_or_create_property_entry reg p e) r ws os
-    → (k : NodeId) (made : ℕ) → r ≡ entered.At k made → Made reg (get_or_create_property_entry reg p e) ws os k made
+pub child_made_at : (reg : PropertyPathRegistry) (p : NodeId) (e : DependencyPathEntry) (ws : List ℕ) (k : NodeId) (made : ℕ)
+    → get_or_create_property_entry reg p e ≡ record { registry = registry_of ws; node = k; made = made }
+    → Made reg (get_or_create_property_entry reg p e) ws k made
 child_made_at reg p e =
     made_at reg (get_or_create_property_entry reg p e)
     (reached_inside (is_child_by p e) (child_node p (full_path_of reg p) e) (rw (eqb_same p.0) (entry_same e)) reg)
@@ -86,21 +77,24 @@ child_made_at reg p e =
 
 -- The entries that are left.
 
-pub record Entering {A : Type 0} (whole : Read A) (reach : A → Reached) (s ws os : List ℕ) (node : NodeId) (made at left : ℕ) : Type 0 where
-  pub held : Held ws os
+pub record Entering {A : Type 0} (whole : Read A) (reach : A → Reached) (s ws : List ℕ) (node : NodeId) (made at left : ℕ) : Type 0 where
   pub inside : node.0 < count_in ws
   pub among : made ≤ count_in ws
   pub there : IsRead (read_many left (read_entry 4) s at)
-  pub on : (r : EnteredPath) (us ps : List ℕ) → Enters (read_many left (read_entry 4) s at) (walk_own (registry_of ws) node made) r us ps
+  pub on : (r : Result EnteredPath Refusal) (us ps : List ℕ) → Enters (read_many left (read_entry 4) s at) (walk_own (registry_of ws) node made) r us ps
       → Enters whole reach r us ps
 
-module _ {A : Type 0} {whole : Read A} {reach : A → Reached} {s ws os : List ℕ} {node : NodeId} {made at left : ℕ}
-    (x : Entering whole reach s ws os node made at left) where
-  pub entering_end : left ≤ 0 → Enters whole reach (At node made at) ws os
+pub entering_start : (s ws : List ℕ) (node : NodeId) (made at count left : ℕ) → left ≡ count → node.0 < count_in ws → made ≤ count_in ws
+    → IsRead (read_many count (read_entry 4) s at)
+    → Entering (read_many count (read_entry 4) s at) (walk_own (registry_of ws) node made) s ws node made at left
+entering_start s ws node made at count left all inside among there =
+    rw all (record { inside = inside; among = among; there = there; on = λ r us ps h. h })
+
+module _ {A : Type 0} {whole : Read A} {reach : A → Reached} {s ws : List ℕ} {node : NodeId} {made at left : ℕ}
+    (x : Entering whole reach s ws node made at left) where
+  pub entering_end : left ≡ 0 → (os : List ℕ) → Held ws os → Enters whole reach (Ok (record { node = node; made = made; next = at })) ws os
   unfolding walk_from
-  entering_end none =
-      let zero_left : left ≡ 0 = omega arith in
-      x.on (At node made at) ws os (rw zero_left ((x.held, refl), refl))
+  entering_end none os held = x.on (Ok (record { node = node; made = made; next = at })) ws os (rw none ((held, refl), refl))
 
   module _ (some : 0 < left) where
     more : left ≡ suc (left - 1)
@@ -129,23 +123,22 @@ module _ {A : Type 0} {whole : Read A} {reach : A → Reached} {s ws os : List �
       child = get_or_create_property_entry (registry_of ws) node e
 
       -- what enters the entries after this one enters those from it on
-      step : (r : EnteredPath) (us ps : List ℕ)
+      step : (r : Result EnteredPath Refusal) (us ps : List ℕ)
           → Enters (read_many (left - 1) (read_entry 4) s next) (λ es. walk_from own_mark (after_making made child) es) r us ps
           → Enters whole reach r us ps
       unfolding walk_from
       step r us ps h =
           x.on r us ps (rw rest (enters_mapped (λ es. e ∷ es) (read_many (left - 1) (read_entry 4) s next) (walk_own (registry_of ws) node made) r us ps h))
 
-      pub entering_full : (us ps : List ℕ) → node_limit < length child.registry → Enters whole reach Full us ps
+      pub entering_full : (us ps : List ℕ) → node_limit < length child.registry → Enters whole reach (Err ManyNodes) us ps
       entering_full us ps full =
-          step Full us ps
+          step (Err ManyNodes) us ps
           (enters_full (read_many (left - 1) (read_entry 4) s next) (λ es. walk_from own_mark (after_making made child) es) us ps rest_there
           (λ es. let longer = extends_length (walk_extends own_mark (after_making made child) es) in omega arith))
 
-      pub entering_more : (vs qs : List ℕ) (k : NodeId) (made_here : ℕ) → Made (registry_of ws) child vs qs k made_here
-          → Entering whole reach s vs qs k (made + made_here) next (left - 1)
-      entering_more vs qs k made_here m = record {
-        held = m.held;
+      pub entering_more : (vs : List ℕ) (k : NodeId) (made_here n : ℕ) → Made (registry_of ws) child vs k made_here → n + 1 ≡ left
+          → Entering whole reach s vs k (made + made_here) next n
+      entering_more vs k made_here n m fewer = let rest : n ≡ left - 1 = omega arith in rw rest (record {
         inside = m.inside;
         among = let few = x.among in let size = registry_length ws in let longer = m.longer in omega arith;
         there = rest_there;
@@ -154,7 +147,7 @@ module _ {A : Type 0} {whole : Read A} {reach : A → Reached} {s ws os : List �
             step r us ps
             (subst (λ (y : Reached). Enters (read_many (left - 1) (read_entry 4) s next) (λ es. walk_from own_mark (after_making made y) es) r us ps)
             (sym m.is) h);
-      }
+      })
 
 -- The whole path: its head, and its entries from its root.
 
@@ -177,20 +170,21 @@ module _ (s : List ℕ) (at : ℕ) (there : IsRead (read_path_fields 4 s at)) wh
       abbrev root : Reached
       root = get_or_create_identifier reg head.identifier head.reactive head.span
 
-      path_entered : (r : EnteredPath) (us ps : List ℕ) → Enters (read_many head.entries (read_entry 4) s entries_at) (λ es. walk_from own_mark root es) r us ps
+      path_entered : (r : Result EnteredPath Refusal) (us ps : List ℕ)
+          → Enters (read_many head.entries (read_entry 4) s entries_at) (λ es. walk_from own_mark root es) r us ps
           → Enters (read_path_fields 4 s at) (get_or_create_property reg) r us ps
       unfolding get_or_create_property
       path_entered r us ps h =
           rw parts (enters_mapped (path_of head) (read_many head.entries (read_entry 4) s entries_at) (get_or_create_property reg) r us ps h)
 
-      pub path_full : (us ps : List ℕ) → node_limit < length root.registry → Enters (read_path_fields 4 s at) (get_or_create_property reg) Full us ps
+      pub path_full : (us ps : List ℕ) → node_limit < length root.registry → Enters (read_path_fields 4 s at) (get_or_create_property reg) (Err ManyNodes) us ps
       path_full us ps full =
-          path_entered Full us ps
+          path_entered (Err ManyNodes) us ps
           (enters_full (read_many head.entries (read_entry 4) s entries_at) (λ es. walk_from own_mark root es) us ps entries_there
           (λ es. let longer = extends_length (walk_extends own_mark root es) in omega arith))
 
       pub path_rooted : (vs : List ℕ) (k : NodeId) (made : ℕ) → root ≡ record { registry = registry_of vs; node = k; made = made }
-          → (r : EnteredPath) (us ps : List ℕ)
+          → (r : Result EnteredPath Refusal) (us ps : List ℕ)
           → Enters (read_many head.entries (read_entry 4) s entries_at) (walk_own (registry_of vs) k made) r us ps
           → Enters (read_path_fields 4 s at) (get_or_create_property reg) r us ps
       path_rooted vs k made is r us ps h =

@@ -1,6 +1,6 @@
 // Enters a path of a job into the registry, straight from its bytes: the fields that a ready path
 // and a raw read have in common. The path was read before, with the whole job, so that no field is
-// refused here.
+// refused here: a refusal says that the registry has no room.
 #![tactic(auto)]
 
 ghost use Rattle.std.specs.Prelude.{◌≤◌, ◌<◌};
@@ -8,79 +8,62 @@ ghost use Rattle.model.specs.ReadingBytes.{read_many};
 ghost use Rattle.model.specs.Job.{read_entry, read_path_fields};
 ghost use Rattle.model.specs.Registry.{get_or_create_property};
 ghost use Rattle.model.specs.Answer.{span_width};
-ghost use Rattle.registry.specs.Words.{count_in, registry_of, Held};
+ghost use Rattle.registry.specs.Words.{count_in, registry_of};
 ghost use Rattle.job.specs.Passing.{IsRead};
 ghost use Rattle.paths.specs.Enters.{walk_own, Enters};
 
-use entries::NodeId;
-use job::{ReadEntry, ReadPathHead};
-use registry::NodeEntered;
+use entries::{NodeId, Refusal};
+use registry::Registry;
 
-// The path's node, how many nodes were made on the way to it, and the place after the record; or
-// that the registry has no room. The code has to answer for a field that is refused, too; that
-// never happens, and it says `Full`.
+// How far a path is entered: the node reached, how many nodes were made on the way to it, and the
+// place after what was read.
 #[derive(Clone, Copy)]
-pub enum EnteredPath {
-    At(NodeId, usize, usize),
-    Full,
+pub struct EnteredPath {
+    pub node: NodeId,
+    pub made: usize,
+    pub next: usize,
 }
 
-// From a node on by `count` entries, with `made_before` nodes made before them.
+// `count` entries more of a path.
+// Design: `made ≤ count_in ..` is a clause and not of the type, since it is of a path and of a
+// registry that changes at each step; and so is `IsRead`, since each function has another reader.
 fn enter_entries(
     s: &[u8],
-    start: usize,
     count: u8,
-    ws: &mut [u64; 1665],
-    optional: &mut [u64; 8],
-    from: NodeId,
-    made_before: usize,
-) -> EnteredPath
-    requires { Held ws.old optional.old × (from.0 < count_in ws.old) × (made_before ≤ count_in ws.old)
-        × IsRead (read_many count (read_entry span_width) s.now start) }
-    ensures { Enters (read_many count (read_entry span_width) s.now start)
-        (walk_own (registry_of ws.old) from made_before) result ws.new optional.new }
+    registry: &mut Registry,
+    from: EnteredPath,
+) -> Result<EnteredPath, Refusal>
+    requires { (from.node.0 < count_in registry.old.words) × (from.made ≤ count_in registry.old.words)
+        × IsRead (read_many count (read_entry span_width) s.now from.next) }
+    ensures { Enters (read_many count (read_entry span_width) s.now from.next)
+        (walk_own (registry_of registry.old.words) from.node from.made) result
+        registry.new.words registry.new.optional.words }
 {
-    let mut at = start;
-    let mut left = count;
-    let mut node = from;
-    let mut made = made_before;
-    while 0 < left {
-        let field = job::entry_at(s, at);
-        let ReadEntry::Value(entry, next) = field else {
-            return EnteredPath::Full;
+    let mut path = from;
+    for _ in 0..count {
+        let (entry, next) = job::entry_at(s, path.next)?;
+        let (node, made) = registry.get_or_create_property_entry(path.node, entry)?;
+        path = EnteredPath {
+            node,
+            made: path.made + made,
+            next,
         };
-        let child = registry::get_or_create_property_entry(ws, optional, node, entry);
-        let NodeEntered::At(reached, made_here) = child else {
-            return EnteredPath::Full;
-        };
-        node = reached;
-        made = made + made_here;
-        at = next;
-        left = left - 1;
     }
-    EnteredPath::At(node, made, at)
+    Ok(path)
 }
 
 // The path whose fields, from the identifier on, stand at a place.
-pub fn enter_path(s: &[u8], at: usize, ws: &mut [u64; 1665], optional: &mut [u64; 8]) -> EnteredPath
-    requires { Held ws.old optional.old × IsRead (read_path_fields span_width s.now at) }
-    ensures { Enters (read_path_fields span_width s.now at) (get_or_create_property (registry_of ws.old)) result
-        ws.new optional.new }
+pub fn enter_path(s: &[u8], at: usize, registry: &mut Registry) -> Result<EnteredPath, Refusal>
+    requires { IsRead (read_path_fields span_width s.now at) }
+    ensures { Enters (read_path_fields span_width s.now at) (get_or_create_property (registry_of registry.old.words)) result
+        registry.new.words registry.new.optional.words }
 {
-    let field = job::path_head_at(s, at);
-    let ReadPathHead::Value(head, entries_at) = field else {
-        return EnteredPath::Full;
-    };
-    let identifier = head.identifier;
-    let root = registry::get_or_create_identifier(
-        ws,
-        optional,
-        identifier,
+    let (head, next) = job::path_head_at(s, at)?;
+    let (node, made) = registry.get_or_create_identifier(
+        head.identifier,
         head.reactive,
         head.span,
-    );
-    let NodeEntered::At(reached, made) = root else {
-        return EnteredPath::Full;
-    };
-    enter_entries(s, entries_at, head.entries, ws, optional, reached, made)
+    )?;
+    let root = EnteredPath { node, made, next };
+    enter_entries(s, head.entries, registry, root)
 }

@@ -1,25 +1,14 @@
--- What a caller learns from the answer of `propagate_non_null`, by its case.
-use Prim.Native.Nat.{ℕ, ◌<◌}
-use mathlib.Core.Path.{◌≡◌, ap, subst}
+-- What a caller learns from the rounds that `propagate_non_null` ran.
+use Prim.Native.Nat.{ℕ}
+use mathlib.Core.Path.{◌≡◌, ap}
 use mathlib.Core.List.{List}
-use lib.ListN.{length}
-use Rattle.model.specs.Registry.{node_limit}
 use Rattle.model.specs.Rounds.{Rounds}
 use Rattle.model.specs.Propagation.{Work}
 use Rattle.rows.specs.Rows.{rows_of}
 use Rattle.registry.specs.Words.{registry_of}
-use Rattle.propagation.specs.declared.RoundsRun.{RoundsRun}
-use Rattle.propagation.specs.declared.Propagated.{Propagated}
-use Rattle.propagation.specs.declared.Propagated.TheVariants.{Ran, Full}
+use Rattle.entries.specs.declared.RoundsRun.{RoundsRun}
 use Rattle.propagation.specs.Joins.{work_of}
-use Rattle.propagation.specs.Propagates.{HoldsRounds, Propagates}
-
-module _ (want : Rounds Work) (n : ℕ) (r : Propagated) (sets ws os : List ℕ) (h : Propagates want n r sets ws os) where
-  pub propagated_ran : (run : RoundsRun) → r ≡ Ran run → HoldsRounds want n run sets ws os
-  propagated_ran run e = subst (λ a. Propagates want n a sets ws os) e h
-
-  pub propagated_full : r ≡ Full → node_limit < length want.work.registry
-  propagated_full e = subst (λ a. Propagates want n a sets ws os) e h
+use Rattle.propagation.specs.Propagates.{HoldsRounds}
 
 module _ {want : Rounds Work} {n : ℕ} {run : RoundsRun} {sets ws os : List ℕ} (h : HoldsRounds want n run sets ws os) where
   pub propagated_registry : want.work.registry ≡ registry_of ws

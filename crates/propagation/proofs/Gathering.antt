@@ -18,7 +18,8 @@ use Rattle.model.specs.Strict.{all_done, strict_neighbours}
 use Rattle.model.proofs.StrictLaws.{strict_joins, strict_none}
 use Rattle.rows.specs.Rows.{Lent, row_of, rows_of}
 use Rattle.rows.proofs.Rows.{row_at}
-use Rattle.graph.specs.Bytes.{size_in, neighbours_from, neighbours, NeighboursOnce, Next}
+use Rattle.graph.specs.Bytes.{size_in, neighbours, GraphFits, NeighboursOnce}
+use Rattle.graph.proofs.Coming.{neighbours_inside, neighbours_few}
 use Rattle.propagation.specs.declared.Joining.{Joining}
 use Rattle.propagation.specs.declared.Joining.TheVariants.{DoneNeighbours, StrictNeighbours}
 use Rattle.propagation.specs.Rules.{rule_of, asks_all}
@@ -52,53 +53,52 @@ not_kept : (joining : Joining) (ms : List TraversalState) (k : ℕ) (bs : List �
 not_kept joining ms k bs (inl e) = rw e
 not_kept joining ms k bs (inr done) = rw done
 
--- The loop over a block's neighbours: those from `from` on are still to come.
-pub record Gathering (joining : Joining) (g : List ℕ) (backward : Bool) (b : ℕ) (o places : List ℕ) (count from : ℕ) : Type 0 where
-  pub within : from ≤ 128
-  pub behind : count ≤ from
+-- The loop over a block's neighbours: those left are still to come. There is room for all of them.
+pub record Gathering (joining : Joining) (g : List ℕ) (backward : Bool) (b : ℕ) (o places : List ℕ) (count : ℕ) (left : List ℕ) : Type 0 where
+  pub room : count + length left ≤ 128
   pub long : length places ≡ 128
   pub inside : All (λ k. k < size_in g) (take count places)
-  pub rest : cond (kept_back joining (done_before (size_in g) o b) (neighbours_from g backward b from)) []
-      (take count places ++ done_neighbours (done_before (size_in g) o b) (neighbours_from g backward b from))
+  pub coming : All (λ k. k < size_in g) left
+  pub rest : cond (kept_back joining (done_before (size_in g) o b) left) [] (take count places ++ done_neighbours (done_before (size_in g) o b) left)
       ≡ neighbours_to_join (rule_of joining) g backward b o
 
-pub gathering_start : (joining : Joining) (g : List ℕ) (backward : Bool) (b : ℕ) (o places : List ℕ) → length places ≡ 128 → Gathering
-    joining g backward b o places 0 0
-gathering_start joining g backward b o places long = record {
-  within = omega arith;
-  behind = omega arith;
-  long = long;
-  inside = tt;
-  rest = sym (rule_is joining (done_before (size_in g) o b) (neighbours g backward b));
-}
+module _ (joining : Joining) {g : List ℕ} (fits : GraphFits g) (backward : Bool) {b : ℕ} (here : b < size_in g) (o places : List ℕ) where
+  pub gathering_start : length places ≡ 128 → Gathering joining g backward b o places 0 (neighbours g backward b)
+  gathering_start long =
+      let few = neighbours_few fits here backward in
+      record {
+        room = omega arith;
+        long = long;
+        inside = tt;
+        coming = neighbours_inside fits here backward;
+        rest = sym (rule_is joining (done_before (size_in g) o b) (neighbours g backward b));
+      }
 
-module _ {joining : Joining} {g : List ℕ} {backward : Bool} {b : ℕ} {o places : List ℕ} {count from : ℕ}
-    (a : Gathering joining g backward b o places count from) where
-  -- what is to be gathered, by the neighbours that are to come
-  to_come : (bs : List ℕ) → neighbours_from g backward b from ≡ bs → cond (kept_back joining (done_before (size_in g) o b) bs) []
-      (take count places ++ done_neighbours (done_before (size_in g) o b) bs) ≡ neighbours_to_join (rule_of joining) g backward b o
-  to_come bs e = subst (λ (ks : List ℕ). cond (kept_back joining (done_before (size_in g) o b) ks) []
-      (take count places ++ done_neighbours (done_before (size_in g) o b) ks) ≡ neighbours_to_join (rule_of joining) g backward b o) e a.rest
+-- the same with the neighbours to come in another form
+pub gathering_by : {joining : Joining} {g : List ℕ} {backward : Bool} {b : ℕ} {o places : List ℕ} {count : ℕ} {ks js : List ℕ} → ks ≡ js
+    → Gathering joining g backward b o places count ks → Gathering joining g backward b o places count js
+gathering_by {joining} {g} {backward} {b} {o} {places} {count} e a = subst (Gathering joining g backward b o places count) e a
 
+module _ (joining : Joining) (g : List ℕ) (backward : Bool) (b : ℕ) (o : List ℕ) (distinct : NeighboursOnce g) (here : b < size_in g) where
+  gathers : (m : ℕ) (ps : List ℕ) → length ps ≡ 128 → take m ps ≡ neighbours_to_join (rule_of joining) g backward b o → m ≤ 128
+      → All (λ k. k < size_in g) (take m ps) → Gathers (neighbours_to_join (rule_of joining) g backward b o) (size_in g) m ps
+  gathers m ps long same few inside = record {
+    few = few;
+    long = long;
+    same = same;
+    inside = inside;
+    once = subst NoRepeats (sym same) (rule_once joining (done_before (size_in g) o b) (neighbours g backward b) (distinct backward b here));
+  }
+
+module _ {joining : Joining} {g : List ℕ} {backward : Bool} {b : ℕ} {o places : List ℕ} {count : ℕ} where
   module _ (distinct : NeighboursOnce g) (here : b < size_in g) where
-    gathers : (m : ℕ) (ps : List ℕ) → length ps ≡ 128 → take m ps ≡ neighbours_to_join (rule_of joining) g backward b o → m ≤ 128
-        → All (λ k. k < size_in g) (take m ps) → Gathers (neighbours_to_join (rule_of joining) g backward b o) (size_in g) m ps
-    gathers m ps long same few inside = record {
-      few = few;
-      long = long;
-      same = same;
-      inside = inside;
-      once = subst NoRepeats (sym same) (rule_once joining (done_before (size_in g) o b) (neighbours g backward b) (distinct backward b here));
-    }
-
     -- none is to come
-    pub gathered_all : neighbours_from g backward b from ≡ [] → Gathers (neighbours_to_join (rule_of joining) g backward b o) (size_in g) count places
+    pub gathered_all : Gathering joining g backward b o places count [] → Gathers (neighbours_to_join (rule_of joining) g backward b o) (size_in g) count places
     unfolding done_neighbours
-    gathered_all none =
-        let within = a.within in
-        let behind = a.behind in
-        gathers count places a.long
-        (sym (append_none (take count places)) ∙ ap (λ (t : Bool). cond t [] (take count places ++ [])) (sym (none_kept joining)) ∙ to_come [] none)
+    gathered_all a =
+        let room = a.room in
+        gathers joining g backward b o distinct here count places a.long
+        (sym (append_none (take count places)) ∙ ap (λ (t : Bool). cond t [] (take count places ++ [])) (sym (none_kept joining)) ∙ a.rest)
         (omega arith) a.inside
       where
         none_kept : (j : Joining) → kept_back j (done_before (size_in g) o b) [] ≡ false
@@ -106,65 +106,58 @@ module _ {joining : Joining} {g : List ℕ} {backward : Bool} {b : ℕ} {o place
         none_kept StrictNeighbours = refl
 
     -- one is not Done, where all are asked for: whatever was stored, none is gathered
-    pub gathered_none : {k next : ℕ} → Next g backward b from k next → asks_all joining ≡ true → ltb (get_or o b 0) (get_or o k 0) ≡ false → (ps : List ℕ)
+    pub gathered_none : {k : ℕ} {ks : List ℕ} → Gathering joining g backward b o places count (k ∷ ks) → asks_all joining ≡ true
+        → ltb (get_or o b 0) (get_or o k 0) ≡ false → (ps : List ℕ)
         → length ps ≡ 128 → Gathers (neighbours_to_join (rule_of joining) g backward b o) (size_in g) 0 ps
-    gathered_none {k} {next} to all low ps long =
-        let bs = k ∷ neighbours_from g backward b next in
-        let kept : kept_back joining (done_before (size_in g) o b) bs ≡ true = rw (all, below_done (size_in g) o k to.inside (get_or o b 0) low) in
-        gathers 0 ps long
-        (ap (λ (t : Bool). cond t [] (take count places ++ done_neighbours (done_before (size_in g) o b) bs)) (sym kept) ∙ to_come bs to.rest)
+    gathered_none {k} {ks} a all low ps long =
+        let bs = k ∷ ks in
+        let kept : kept_back joining (done_before (size_in g) o b) bs ≡ true = rw (all, below_done (size_in g) o k a.coming.0 (get_or o b 0) low) in
+        gathers joining g backward b o distinct here 0 ps long
+        (ap (λ (t : Bool). cond t [] (take count places ++ done_neighbours (done_before (size_in g) o b) bs)) (sym kept) ∙ a.rest)
         (omega arith) tt
 
-  module _ {k next : ℕ} (to : Next g backward b from k next) where
-    -- there is room for one more
-    pub gathering_room : count < 128
-    gathering_room = let behind = a.behind in let onward = to.onward in let within = to.within in omega arith
-
+  module _ {k : ℕ} {ks : List ℕ} (a : Gathering joining g backward b o places count (k ∷ ks)) where
     -- what the bytes hold once a neighbour stands behind those gathered
     abbrev stored : List ℕ
     stored = set places count k
 
     -- a Done one is gathered
-    pub gathering_more : ltb (get_or o b 0) (get_or o k 0) ≡ true → Gathering joining g backward b o stored (count + 1) next
+    pub gathering_more : ltb (get_or o b 0) (get_or o k 0) ≡ true → Gathering joining g backward b o stored (count + 1) ks
     unfolding done_neighbours
     gathering_more done =
-        let room = gathering_room in
+        let room = a.room in
         let long = a.long in
-        let behind = a.behind in
-        let onward = to.onward in
-        let bs = neighbours_from g backward b next in
-        let chosen = done_neighbours (done_before (size_in g) o b) bs in
+        let inside = a.coming.0 in
+        let chosen = done_neighbours (done_before (size_in g) o b) ks in
         let one : take (count + 1) stored ≡ take count places ++ k ∷ [] =
         ap (λ (m : ℕ). take m stored) (add-one count) ∙ take-suc-set places count k (omega arith) in
         record {
-          within = to.within;
-          behind = omega arith;
+          room = omega arith;
           long = length-set places count k ∙ long;
-          inside = subst (All (λ k. k < size_in g)) (sym one) (all_append (λ k. k < size_in g) (take count places) (k ∷ []) a.inside (to.inside, tt));
+          inside = subst (All (λ k. k < size_in g)) (sym one) (all_append (λ k. k < size_in g) (take count places) (k ∷ []) a.inside (inside, tt));
+          coming = a.coming.1;
           rest = ap₂ (λ (t : Bool) (l : List ℕ). cond t [] l)
-              (sym (not_kept joining (done_before (size_in g) o b) k bs (inr (is_done_lem (size_in g) o k to.inside (get_or o b 0) done))))
+              (sym (not_kept joining (done_before (size_in g) o b) k ks (inr (is_done_lem (size_in g) o k inside (get_or o b 0) done))))
               (ap (λ (l : List ℕ). l ++ chosen) one
               ∙ append_snoc (take count places) k chosen
-              ∙ rw (is_done_lem (size_in g) o k to.inside (get_or o b 0) done))
-              ∙ to_come (k ∷ bs) to.rest;
+              ∙ rw (is_done_lem (size_in g) o k inside (get_or o b 0) done))
+              ∙ a.rest;
         }
 
     -- another is passed, where not all are asked for
-    pub gathering_passed : ltb (get_or o b 0) (get_or o k 0) ≡ false → asks_all joining ≡ false → Gathering joining g backward b o stored count next
+    pub gathering_passed : ltb (get_or o b 0) (get_or o k 0) ≡ false → asks_all joining ≡ false → Gathering joining g backward b o stored count ks
     unfolding done_neighbours
     gathering_passed low some =
-        let behind = a.behind in
-        let onward = to.onward in
-        let bs = neighbours_from g backward b next in
+        let room = a.room in
         let same : take count stored ≡ take count places = take-set-le count places count k (omega arith) in
         record {
-          within = to.within;
-          behind = omega arith;
+          room = omega arith;
           long = length-set places count k ∙ a.long;
           inside = subst (All (λ k. k < size_in g)) (sym same) a.inside;
-          rest = ap₂ (λ (t : Bool) (l : List ℕ). cond t [] l) (sym (not_kept joining (done_before (size_in g) o b) k bs (inl some)))
-              (ap (λ (l : List ℕ). l ++ done_neighbours (done_before (size_in g) o b) bs) same
-              ∙ rw (below_done (size_in g) o k to.inside (get_or o b 0) low)) ∙ to_come (k ∷ bs) to.rest;
+          coming = a.coming.1;
+          rest = ap₂ (λ (t : Bool) (l : List ℕ). cond t [] l) (sym (not_kept joining (done_before (size_in g) o b) k ks (inl some)))
+              (ap (λ (l : List ℕ). l ++ done_neighbours (done_before (size_in g) o b) ks) same
+              ∙ rw (below_done (size_in g) o k a.coming.0 (get_or o b 0) low)) ∙ a.rest;
         }
 
 -- Their sets are the rows at their places.

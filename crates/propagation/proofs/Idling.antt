@@ -99,9 +99,9 @@ module _ (joining : Joining) (g : List ℕ) (both_ways : NeighboursMutual g) (b 
       (subst (λ (ss : List NodeSet). Has (set_of old c) (intersection_of ss)) (sym (sets_elsewhere old b own js none)) idle))
 
   -- so the blocks that are not marked dirty then are clean, but for block b
-  pub clean_elsewhere : (backward : Bool) (q : List ℕ) {bs dirty dirty' : List ℕ} → MarksDirty bs dirty dirty'
+  pub clean_elsewhere : (backward : Bool) (q : List ℕ) {bs : List ℕ} {dirty dirty' : List Bool} → MarksDirty bs dirty dirty'
       → ((c : ℕ) → any_of (eqb c) bs ≡ false → any_of (eqb c) (neighbours g (not backward) b) ≡ false)
-      → Clean (rule_of joining) g backward q dirty sets → (c : ℕ) → c < size_in g → c ≢ b → get_or dirty' c 0 ≡ 0
+      → Clean (rule_of joining) g backward q dirty sets → (c : ℕ) → c < size_in g → c ≢ b → get_or dirty' c false ≡ false
       → Idle (rule_of joining) g backward q sets' c
   clean_elsewhere backward q m covers clean c l other e =
       idle_elsewhere backward q c l other (covers c (m.these c e)) (clean c l (m.others c e))

@@ -1,7 +1,9 @@
 -- A block's join, from what its calls leave or from nothing's joining a reduced set.
 use Prim.Native.Nat.{ℕ, ◌<◌}
 use mathlib.Core.Path.{◌≡◌, refl, sym, ap, ap₂, subst, ◌∙◌}
-use Rattle.model.specs.Tests.{never}
+use Rattle.std.specs.Prelude.{Ok, Err}
+use Rattle.entries.specs.declared.Refusal.{Refusal}
+use Rattle.entries.specs.declared.Refusal.TheVariants.{ManyNodes}
 use mathlib.Core.Bool.{Bool, true, false, ◌||◌, not, or-false}
 use mathlib.Core.List.{List, [], map}
 use lib.ListN.{length, set}
@@ -20,14 +22,27 @@ use Rattle.rows.specs.Rows.{row_of, rows_of, RowSet}
 use Rattle.rows.proofs.Rows.{row_at, rows_count}
 use Rattle.rows.proofs.Members.{same_self, same_lists}
 use Rattle.registry.specs.Words.{registry_of, Held}
-use Rattle.reduction.specs.declared.ReducedSet.{ReducedSet}
-use Rattle.reduction.specs.Reduces.{KnownReduced, reduced_of, Reduces}
-use Rattle.reduction.proofs.Repeats.{reduces_to, reduces_full}
+use Rattle.reduction.specs.Reduces.{KnownReduced}
 use Rattle.graph.specs.Bytes.{size_in}
+use Rattle.propagation.specs.declared.Walk.{Walk}
+use Rattle.propagation.specs.Rules.{rule_of}
 use Rattle.propagation.specs.Order.{done_before}
-use Rattle.propagation.specs.Joins.{work_of, join_in, neighbours_to_join, sets_to_join, Ready, ReducedBefore, AllReduced, HoldsWork, Has, Idle, Joins}
+use Rattle.propagation.specs.Joins.{
+  work_of,
+  join_in,
+  neighbours_to_join,
+  sets_to_join,
+  RowsStand,
+  Ready,
+  ReducedBefore,
+  AllReduced,
+  HoldsWork,
+  Has,
+  Idle,
+  Joins,
+}
 use Rattle.propagation.proofs.Idling.{union_has, has_union, idle_union}
-use Rattle.propagation.proofs.Reductions.{stands_proper}
+use Rattle.propagation.proofs.Reductions.{walk_ready, stands_proper}
 
 -- Where nothing new joins a set that is reduced already, the work stays.
 pub idle_still : (rule : JoiningRule) {g : List ℕ} (backward : Bool) {b : ℕ} (o : List ℕ) {sets ws os : List ℕ} → Ready g sets ws os
@@ -52,6 +67,14 @@ pub record Made (rule : JoiningRule) (g : List ℕ) (backward : Bool) (b : ℕ) 
   pub own_is : members_of own ≡ row_of sets b
   pub found_is : members_of found ≡ intersection_of (sets_to_join rule g backward b o sets)
   pub all_is : members_of all ≡ union (members_of own) (members_of found)
+
+pub walk_made : (w : Walk) {b : ℕ} {sets ws os own found all : List ℕ} → RowsStand (size_in w.graph.bytes.now) sets ws os
+    → b < size_in w.graph.bytes.now → members_of own ≡ row_of sets b
+    → members_of found ≡ intersection_of (sets_to_join (rule_of w.joining) w.graph.bytes.now w.backward b w.order.now sets)
+    → members_of all ≡ union (members_of own) (members_of found)
+    → Made (rule_of w.joining) w.graph.bytes.now w.backward b w.order.now sets ws os own found all
+walk_made w stands inside own-is found-is all-is =
+    record { ready = walk_ready w stands; inside = inside; own_is = own-is; found_is = found-is; all_is = all-is }
 
 abbrev want : JoiningRule → List ℕ → Bool → ℕ → List ℕ → List ℕ → List ℕ → Bool → Work
 want rule g backward b o sets ws changed = join_in rule g backward b (done_before (size_in g) o b) (work_of (size_in g) sets ws changed)
@@ -99,17 +122,14 @@ module _ {rule : JoiningRule} {g : List ℕ} {backward : Bool} {b : ℕ} {o sets
     unfolding join_in join join_with work_of
     want_is = ap (λ (s : NodeSet). joined_by (reduce_maybe_optional_chains (registry_of ws) s)) (sym joined_is)
 
-    module _ (r : ReducedSet) (vs ps : List ℕ) (to : Reduces reduced r vs ps) where
-      pub join_full : r.full ≡ true → node_limit < length (want rule g backward b o sets ws changed).registry
-      join_full e = subst (λ (w : Work). node_limit < length w.registry) (sym want_is) (reduces_full reduced r vs ps e to)
+    pub join_full : node_limit < length reduced.registry → node_limit < length (want rule g backward b o sets ws changed).registry
+    join_full full = subst (λ (w : Work). node_limit < length w.registry) (sym want_is) full
 
-      module _ (room : r.full ≡ false) {ts : List ℕ} (stored : RowSet sets ts b (members_of r.set.words))
-          (same : Bool) (same-is : same ≡ same_set (members_of own) (members_of r.set.words)) {c : Bool} (now : changed || not same ≡ c) where
-        held : Held vs ps × (reduced ≡ reduced_of (registry_of vs) r)
-        held = reduces_to reduced r vs ps room to
-
-        flag : changed || not (same_set (set_of (rows_of sets (size_in g)) b) (members_of r.set.words)) ≡ c
-        flag = ap (λ (t : Bool). changed || not t) (sym (same-is ∙ ap (λ (s : NodeSet). same_set s (members_of r.set.words)) own_row)) ∙ now
+    module _ (r vs ps : List ℕ) (held : Held vs ps × (reduced ≡ record { registry = registry_of vs; set = members_of r })) where
+      module _ {ts : List ℕ} (stored : RowSet sets ts b (members_of r))
+          (same : Bool) (same-is : same ≡ same_set (members_of own) (members_of r)) {c : Bool} (now : changed || not same ≡ c) where
+        flag : changed || not (same_set (set_of (rows_of sets (size_in g)) b) (members_of r)) ≡ c
+        flag = ap (λ (t : Bool). changed || not t) (sym (same-is ∙ ap (λ (s : NodeSet). same_set s (members_of r)) own_row)) ∙ now
 
         became : want rule g backward b o sets ws changed ≡ work_of (size_in g) ts vs c
         unfolding work_of
@@ -136,62 +156,56 @@ module _ {rule : JoiningRule} {g : List ℕ} {backward : Bool} {b : ℕ} {o sets
     (made : Made rule g backward b o sets ws os own found all) where
   -- nothing new joins
   pub joined_nothing : AllReduced (size_in g) sets ws → same_set (members_of own) (members_of all) ≡ true
-      → Joins rule g backward b o sets ws (record { changed = false; idle = true; full = false }) sets ws os
+      → Joins rule g backward b o sets ws (Ok (record { changed = false; idle = true })) sets ws os
   joined_nothing before none =
       let idle : Idle rule g backward o sets b =
       subst (λ (s : NodeSet). Has s (intersection_of (sets_to_join rule g backward b o sets)))
       (sym (made.all_is ∙ ap (union (members_of own)) made.found_is) ∙ sym (same_lists (members_of own) (members_of all) none) ∙ own_row made)
       (union_has (members_of own) (intersection_of (sets_to_join rule g backward b o sets))) in
       record {
-        full = λ e. never e refl;
-        to = λ e. record {
-          stands = made.ready.stands;
-          same = λ changed.
-              idle_still rule backward o made.ready before made.inside idle changed ∙ ap (work_of (size_in g) sets ws) (sym (or-false changed));
-          own = set_of (rows_of sets (size_in g)) b;
-          rows = sym (set-get_or (rows_of sets (size_in g)) b []);
-          still = λ t. refl;
-          idle = λ t. idle;
-        };
+        stands = made.ready.stands;
+        same = λ changed.
+            idle_still rule backward o made.ready before made.inside idle changed ∙ ap (work_of (size_in g) sets ws) (sym (or-false changed));
+        own = set_of (rows_of sets (size_in g)) b;
+        rows = sym (set-get_or (rows_of sets (size_in g)) b []);
+        still = λ t. refl;
+        idle = λ t. idle;
       }
 
-  module _ (r : ReducedSet) (vs ps : List ℕ) (to : Reduces (reduced made) r vs ps) where
-    -- the registry has no room
-    pub joined_full : r.full ≡ true → (ts : List ℕ)
-        → Joins rule g backward b o sets ws (record { changed = false; idle = false; full = true }) ts vs ps
-    joined_full e ts = record { full = λ t changed. join_full made changed r vs ps to e; to = λ t. never refl t }
+  -- the registry has no room
+  pub joined_full : node_limit < length (reduced made).registry → {e : Refusal} → e ≡ ManyNodes → (ts vs ps : List ℕ)
+      → Joins rule g backward b o sets ws (Err e) ts vs ps
+  joined_full full is ts vs ps = (is, λ changed. join_full made changed full)
 
+  module _ (r vs ps : List ℕ) (to : Held vs ps × (reduced made ≡ record { registry = registry_of vs; set = members_of r })) where
     -- the reduced set is stored
-    pub joined_set_lem : r.full ≡ false → {ts : List ℕ} → RowSet sets ts b (members_of r.set.words) → (same whole : Bool)
-        → same ≡ same_set (members_of own) (members_of r.set.words) → whole ≡ same_set (members_of all) (members_of r.set.words)
-        → Joins rule g backward b o sets ws (record { changed = not same; idle = whole; full = false }) ts vs ps
+    pub joined_set_lem : {ts : List ℕ} → RowSet sets ts b (members_of r) → (same whole : Bool)
+        → same ≡ same_set (members_of own) (members_of r) → whole ≡ same_set (members_of all) (members_of r)
+        → Joins rule g backward b o sets ws (Ok (record { changed = not same; idle = whole })) ts vs ps
     unfolding sets_to_join
-    joined_set_lem room {ts} stored same whole same-is whole_is =
+    joined_set_lem {ts} stored same whole same-is whole_is =
         let rows = rows_of sets (size_in g) in
-        let set_is = members_of r.set.words in
+        let set_is = members_of r in
         record {
-          full = λ e. never e refl;
-          to = λ e. record {
-            stands = (join_holds made false r vs ps to room stored same same-is refl).stands;
-            same = λ changed. (join_holds made changed r vs ps to room stored same same-is refl).same;
-            own = set_is;
-            rows = stored.rows (size_in g);
-            still = λ t.
-                stored.rows (size_in g) ∙ ap (set rows b)
-                (sym (same_lists (members_of own) set_is (sym same-is ∙ not_false_true same t)) ∙ own_row made) ∙ set-get_or rows b [];
-            idle = λ t. idle_stored (same_lists (members_of all) set_is (sym whole_is ∙ t));
-          };
+          stands = (join_holds made false r vs ps to stored same same-is refl).stands;
+          same = λ changed. (join_holds made changed r vs ps to stored same same-is refl).same;
+          own = set_is;
+          rows = stored.rows (size_in g);
+          still = λ t.
+              stored.rows (size_in g) ∙ ap (set rows b)
+              (sym (same_lists (members_of own) set_is (sym same-is ∙ not_false_true same t)) ∙ own_row made) ∙ set-get_or rows b [];
+          idle = λ t. idle_stored (same_lists (members_of all) set_is (sym whole_is ∙ t));
         }
       where
         not_false_true : (t : Bool) → not t ≡ false → t ≡ true
         not_false_true true e = refl
         not_false_true false e = sym e
 
-        idle_stored : members_of all ≡ members_of r.set.words → Idle rule g backward o ts b
+        idle_stored : members_of all ≡ members_of r → Idle rule g backward o ts b
         idle_stored is =
             let rows = rows_of sets (size_in g) in
             let js = neighbours_to_join rule g backward b o in
-            let s = members_of r.set.words in
+            let s = members_of r in
             let has : Has s (intersection_of (map (set_of rows) js)) =
             subst (λ (x : NodeSet). Has x (intersection_of (map (set_of rows) js))) (sym (made.all_is ∙ ap (union (members_of own)) made.found_is) ∙ is)
             (union_has (members_of own) (intersection_of (map (set_of rows) js))) in

@@ -1,3 +1,4 @@
+pub mod ToCome
 pub mod Marks
 pub mod Gathering
 pub mod Leaving

@@ -10,7 +10,7 @@ use Rattle.model.specs.Visit.{Unmarked, Visited, each}
 use Rattle.model.specs.Rounds.{places_from, job_order, reverse_job_order, walk}
 use Rattle.laws.specs.WalkSteps.{Step, steps_of}
 use Rattle.graph.specs.Bytes.{size_in, GraphFits}
-use Rattle.graph.proofs.Neighbours.{places_more, places_end}
+use Rattle.graph.proofs.Coming.{places_more, places_end}
 use Rattle.propagation.specs.Order.{order_of, in_order, steps_from, noted_of, OrderNoted}
 use Rattle.propagation.proofs.Marks.{marks_cleared}
 use Rattle.propagation.proofs.Leaving.{none_noted}

@@ -10,13 +10,14 @@ use Rattle.model.specs.Propagation.{Work, JoiningRule, join}
 use Rattle.model.specs.PropagationLaws.{ProperWork, ReducedAt}
 use Rattle.model.proofs.PropagationLaws.{join_proper, join_reduces, join_keeps_reduced}
 use Rattle.graph.specs.Bytes.{size_in, neighbours}
+use Rattle.propagation.specs.declared.Walk.{Walk}
 use Rattle.propagation.specs.Joins.{work_of, join_in, RowsStand, Ready, AllReduced}
 use Rattle.propagation.specs.Order.{order_of}
 use Rattle.propagation.specs.Propagates.{walk_in}
 
--- Rows that stand again leave all ready: the graph is as it was.
-pub ready_again : {g sets ws os sets' ws' os' : List ℕ} → Ready g sets ws os → RowsStand (size_in g) sets' ws' os' → Ready g sets' ws' os'
-ready_again r s = record { fits = r.fits; once = r.once; both_ways = r.both_ways; stands = s }
+-- In a graph that can be walked, rows that stand are ready.
+pub walk_ready : (w : Walk) {sets ws os : List ℕ} → RowsStand (size_in w.graph.bytes.now) sets ws os → Ready w.graph.bytes.now sets ws os
+walk_ready w s = record { fits = w.graph.fits; once = w.once; both_ways = w.both_ways; stands = s }
 
 pub stands_proper : {n : ℕ} {sets ws os : List ℕ} → RowsStand n sets ws os → (c : Bool) → ProperWork (work_of n sets ws c)
 unfolding work_of

@@ -8,6 +8,8 @@ use mathlib.Core.Bool.{Bool, true, false}
 use mathlib.Core.List.{List}
 use lib.ListN.{length, get_or, replicate, length-replicate, get_or-replicate}
 use lib.Dec.{ltb}
+use Rattle.std.specs.Prelude.{Result, Ok, Err}
+use Rattle.entries.specs.declared.Refusal.{Refusal}
 use Rattle.model.specs.Tests.{decide, never}
 use Rattle.model.specs.Registry.{node_limit}
 use Rattle.model.specs.Rounds.{Rounds, rounds_from}
@@ -18,13 +20,11 @@ use Rattle.model.specs.PropagationLaws.{ProperWork, ReducedAt}
 use Rattle.rows.specs.Rows.{rows_of}
 use Rattle.registry.specs.Words.{registry_of}
 use Rattle.graph.specs.Bytes.{size_in, graph_in}
-use Rattle.propagation.specs.declared.Progress.{Progress}
-use Rattle.propagation.specs.declared.Progress.TheVariants.{Changed, Full}
 use Rattle.propagation.specs.Order.{OrderNoted}
 use Rattle.propagation.specs.Joins.{work_of, join_in, RowsStand, AllReduced, ReducedBefore, HoldsWork, StepsTo, Steps}
 use Rattle.propagation.specs.Propagates.{walk_in, Orders, TurnsTo, Turns, HoldsRounds}
 use Rattle.propagation.proofs.Reductions.{stands_proper, reduced_rows, walk_keeps_reduced, walk_stays_proper, walk_reduces}
-use Rattle.propagation.proofs.Walking.{Adds, adds_order, walk_adds, steps_full}
+use Rattle.propagation.proofs.Walking.{Adds, adds_order, walk_adds}
 
 -- One round.
 
@@ -57,30 +57,28 @@ module _ (rule : JoiningRule) (g : List ℕ) where
     unfolding work_of
     from_unchanged c = two_walks (work_of (size_in g) sets ws c)
 
-    module _ (f bk dirty other : List ℕ) where
-      pub round_full : (r : Progress) (d' o' ts vs ps : List ℕ)
-          → Steps rule g false f other sets (walk_in rule g false (work_of (size_in g) sets ws false)) r d' o' ts vs ps → r ≡ Full
-          → node_limit < length (round_in rule g (work_of (size_in g) sets ws true)).registry
-      round_full r d' o' ts vs ps h e =
-          subst (λ (w : Work). node_limit < length w.registry) (sym (from_unchanged true))
-          (lt_of_lt_of_le (steps_full rule g false f other sets (walk_in rule g false (work_of (size_in g) sets ws false)) r d' o' ts vs ps h e)
-          (walk_adds rule g true (walk_in rule g false (work_of (size_in g) sets ws false))))
+    pub round_full : node_limit < length (walk_in rule g false (work_of (size_in g) sets ws false)).registry
+        → node_limit < length (round_in rule g (work_of (size_in g) sets ws true)).registry
+    round_full full =
+        subst (λ (w : Work). node_limit < length w.registry) (sym (from_unchanged true))
+        (lt_of_lt_of_le full (walk_adds rule g true (walk_in rule g false (work_of (size_in g) sets ws false))))
 
+    module _ (f bk : List ℕ) (dirty other : List Bool) where
       -- after its forward walk each set is reduced
       pub round_halfway : {os : List ℕ} → RowsStand (size_in g) sets ws os → {c : Bool} {ts vs ps : List ℕ} → HoldsWork
           (walk_in rule g false (work_of (size_in g) sets ws false)) (size_in g) c ts vs ps → AllReduced (size_in g) ts vs
       round_halfway s {c} {ts} {vs} h = reduced_rows (size_in g) ts vs c (walk_in rule g false (work_of (size_in g) sets ws false)) h.same
           (walk_reduces rule g (work_of (size_in g) sets ws false) (stands_proper s false))
 
-      module _ (orders : Orders rule g f bk dirty other sets) {c : Bool} {d' o' ts vs ps : List ℕ}
+      module _ (orders : Orders rule g f bk dirty other sets) {c : Bool} {d' o' : List Bool} {ts vs ps : List ℕ}
           (h : StepsTo rule g false f other sets (walk_in rule g false (work_of (size_in g) sets ws false)) c d' o' ts vs ps) where
         leads : walk_in rule g true (work_of (size_in g) ts vs c) ≡ round_in rule g (work_of (size_in g) sets ws true)
         leads = ap (walk_in rule g true) (sym h.holds.same) ∙ sym (from_unchanged true)
 
-        pub round_done : (r : Progress) (o'' d'' us xs os : List ℕ)
+        pub round_done : (r : Result Bool Refusal) (o'' d'' : List Bool) (us xs os : List ℕ)
             → Steps rule g true bk d' ts (walk_in rule g true (work_of (size_in g) ts vs c)) r o'' d'' us xs os
             → Turns rule g f bk (round_in rule g (work_of (size_in g) sets ws true)) r d'' o'' us xs os
-        round_done (Changed c'') o'' d'' us xs os k = record {
+        round_done (Ok c'') o'' d'' us xs os k = record {
           holds = subst (λ (w : Work). HoldsWork w (size_in g) c'' us xs os) leads k.holds;
           orders = record {
             forth = orders.forth;
@@ -91,10 +89,10 @@ module _ (rule : JoiningRule) (g : List ℕ) where
             clean_back = k.flags.clean;
           };
         }
-        round_done Full o'' d'' us xs os k = subst (λ (w : Work). node_limit < length w.registry) leads k
+        round_done (Err e) o'' d'' us xs os k = (k.0, subst (λ (w : Work). node_limit < length w.registry) leads k.1)
 
 -- The loop over rounds: `ran` of them are run, and those still allowed lead to `end`.
-pub record Rounding (rule : JoiningRule) (g f bk : List ℕ) (end : Rounds Work) (dirty other sets ws os : List ℕ) (ran : ℕ) : Type 0 where
+pub record Rounding (rule : JoiningRule) (g f bk : List ℕ) (end : Rounds Work) (dirty other : List Bool) (sets ws os : List ℕ) (ran : ℕ) : Type 0 where
   pub orders : Orders rule g f bk dirty other sets
   pub stands : RowsStand (size_in g) sets ws os
   pub before : ReducedBefore (ltb 0 ran) (size_in g) sets ws
@@ -102,14 +100,15 @@ pub record Rounding (rule : JoiningRule) (g f bk : List ℕ) (end : Rounds Work)
 
 pub rounds_start : (rule : JoiningRule) (g f bk sets ws os : List ℕ) → RowsStand (size_in g) sets ws os → size_in g ≤ 128 → OrderNoted g false f
     → OrderNoted g true bk
-    → Rounding rule g f bk (propagate_non_null rule (graph_in g) (registry_of ws) (rows_of sets (size_in g))) (replicate 128 1) (replicate 128 1) sets ws os 0
+    → Rounding rule g f bk (propagate_non_null rule (graph_in g) (registry_of ws) (rows_of sets (size_in g))) (replicate 128 true) (replicate 128 true)
+    sets ws os 0
 unfolding propagate_non_null propagate_with rounds_from round work_of
 rounds_start rule g f bk sets ws os s few forth back = record {
   orders = record {
     forth = forth;
     back = back;
-    long_forth = length-replicate {A = ℕ} 128 1;
-    long_back = length-replicate {A = ℕ} 128 1;
+    long_forth = length-replicate {A = Bool} 128 true;
+    long_back = length-replicate {A = Bool} 128 true;
     clean_forth = λ b l e. absurd (all_dirty b l e);
     clean_back = λ b l e. absurd (all_dirty b l e);
   };
@@ -118,19 +117,17 @@ rounds_start rule g f bk sets ws os s few forth back = record {
   rest = refl;
 }
   where
-    all_dirty : (b : ℕ) → b < size_in g → get_or (replicate {A = ℕ} 128 1) b 0 ≡ 0 → ⊥
-    all_dirty b l e = let one = get_or-replicate {A = ℕ} 128 b 1 0 (omega arith) in omega arith
+    all_dirty : (b : ℕ) → b < size_in g → get_or (replicate {A = Bool} 128 true) b false ≡ false → ⊥
+    all_dirty b l e = never (get_or-replicate {A = Bool} 128 b true false (omega arith)) e
 
-module _ {rule : JoiningRule} {g f bk : List ℕ} {end : Rounds Work} {dirty other sets ws os : List ℕ} {ran : ℕ}
+module _ {rule : JoiningRule} {g f bk : List ℕ} {end : Rounds Work} {dirty other : List Bool} {sets ws os : List ℕ} {ran : ℕ}
     (r : Rounding rule g f bk end dirty other sets ws os ran) where
   abbrev now : Work
   now = work_of (size_in g) sets ws true
 
-  pub rounds_over : 100 ≤ ran → HoldsRounds end (size_in g) (record { rounds = ran; settled = false }) sets ws os
+  pub rounds_over : ran ≡ 100 → HoldsRounds end (size_in g) (record { rounds = 100; settled = false }) sets ws os
   unfolding rounds_from
-  rounds_over l =
-      let none : 100 - ran ≡ 0 = omega arith in
-      record { stands = r.stands; same = sym r.rest ∙ ap (λ (k : ℕ). rounds_from has_changed (round_in rule g) k ran now) none }
+  rounds_over l = record { stands = r.stands; same = sym r.rest ∙ ap (λ (k : ℕ). rounds_from has_changed (round_in rule g) (100 - k) k now) l }
 
   module _ (more : ran < 100) where
     next_round : rounds_from has_changed (round_in rule g) (suc (100 - (ran + 1))) ran now ≡ end
@@ -146,40 +143,36 @@ module _ {rule : JoiningRule} {g f bk : List ℕ} {end : Rounds Work} {dirty oth
         (λ e. subst (λ (x : Rounds Work). Adds (round_in rule g now) x.work)
         (sym (laws.rounds_stop has_changed (round_in rule g) (100 - (ran + 1)) ran now e)) (le_refl _)))
 
-    module _ (a : Progress) (d' o' ts vs ps : List ℕ) (j : Turns rule g f bk (round_in rule g now) a d' o' ts vs ps) where
-      pub rounds_full : a ≡ Full → node_limit < length end.work.registry
-      rounds_full e = lt_of_lt_of_le (subst (λ (x : Progress). Turns rule g f bk (round_in rule g now) x d' o' ts vs ps) e j) after_round
+    pub rounds_full : node_limit < length (round_in rule g now).registry → node_limit < length end.work.registry
+    rounds_full full = lt_of_lt_of_le full after_round
 
-      module _ (c : Bool) (went : a ≡ Changed c) where
-        turned : TurnsTo rule g f bk (round_in rule g now) c d' o' ts vs ps
-        turned = subst (λ (x : Progress). Turns rule g f bk (round_in rule g now) x d' o' ts vs ps) went j
+    module _ {c : Bool} {d' o' : List Bool} {ts vs ps : List ℕ} (turned : TurnsTo rule g f bk (round_in rule g now) c d' o' ts vs ps) where
+      held : HoldsWork (round_in rule g now) (size_in g) c ts vs ps
+      held = turned.holds
 
-        held : HoldsWork (round_in rule g now) (size_in g) c ts vs ps
-        held = turned.holds
+      module _ (t : Bool) (is : c ≡ t) where
+        left : round_in rule g now ≡ work_of (size_in g) ts vs t
+        left = held.same ∙ ap (work_of (size_in g) ts vs) is
 
-        module _ (t : Bool) (is : c ≡ t) where
-          left : round_in rule g now ≡ work_of (size_in g) ts vs t
-          left = held.same ∙ ap (work_of (size_in g) ts vs) is
+        flag : has_changed (round_in rule g now) ≡ t
+        unfolding work_of
+        flag = ap has_changed left
 
-          flag : has_changed (round_in rule g now) ≡ t
-          unfolding work_of
-          flag = ap has_changed left
+      pub rounds_more : c ≡ true → Rounding rule g f bk end d' o' ts vs ps (ran + 1)
+      rounds_more e = record {
+        orders = turned.orders;
+        stands = held.stands;
+        before = λ t. reduced_rows (size_in g) ts vs c (round_in rule g now) held.same (round_reduces rule g now (stands_proper r.stands true));
+        rest =
+            ap (λ (k : ℕ). rounds_from has_changed (round_in rule g) (100 - (ran + 1)) k (work_of (size_in g) ts vs true)) (add-one ran)
+            ∙ ap (rounds_from has_changed (round_in rule g) (100 - (ran + 1)) (suc ran)) (sym (left true e))
+            ∙ sym (laws.rounds_on has_changed (round_in rule g) (100 - (ran + 1)) ran now (flag true e)) ∙ next_round;
+      }
 
-        pub rounds_more : c ≡ true → Rounding rule g f bk end d' o' ts vs ps (ran + 1)
-        rounds_more e = record {
-          orders = turned.orders;
-          stands = held.stands;
-          before = λ t. reduced_rows (size_in g) ts vs c (round_in rule g now) held.same (round_reduces rule g now (stands_proper r.stands true));
-          rest =
-              ap (λ (k : ℕ). rounds_from has_changed (round_in rule g) (100 - (ran + 1)) k (work_of (size_in g) ts vs true)) (add-one ran)
-              ∙ ap (rounds_from has_changed (round_in rule g) (100 - (ran + 1)) (suc ran)) (sym (left true e))
-              ∙ sym (laws.rounds_on has_changed (round_in rule g) (100 - (ran + 1)) ran now (flag true e)) ∙ next_round;
-        }
-
-        pub rounds_settled : c ≡ false → HoldsRounds end (size_in g) (record { rounds = ran + 1; settled = true }) ts vs ps
-        rounds_settled e = record {
-          stands = held.stands;
-          same =
-              sym next_round ∙ laws.rounds_stop has_changed (round_in rule g) (100 - (ran + 1)) ran now (flag false e)
-              ∙ (λ i. record { work = left false e i; rounds = sym (add-one ran) i; settled = true });
-        }
+      pub rounds_settled : c ≡ false → HoldsRounds end (size_in g) (record { rounds = ran + 1; settled = true }) ts vs ps
+      rounds_settled e = record {
+        stands = held.stands;
+        same =
+            sym next_round ∙ laws.rounds_stop has_changed (round_in rule g) (100 - (ran + 1)) ran now (flag false e)
+            ∙ (λ i. record { work = left false e i; rounds = sym (add-one ran) i; settled = true });
+      }

@@ -42,8 +42,8 @@ abbrev pub step_end : JoiningRule → List ℕ → Bool → ℕ → List ℕ →
 step_end rule g backward b o sets ws changed = join_in rule g backward b (done_before (size_in g) o b) (work_of (size_in g) sets ws changed)
 
 -- a block that is not dirty is passed over
-pub step_passed : (joining : Joining) {g : List ℕ} (backward : Bool) (b : ℕ) (o : List ℕ) {dirty other sets ws os : List ℕ} (changed : Bool)
-    → Ready g sets ws os → AllReduced (size_in g) sets ws → b < size_in g → Flags (rule_of joining) g backward o dirty other sets → get_or dirty b 0 ≡ 0
+pub step_passed : (joining : Joining) {g : List ℕ} (backward : Bool) (b : ℕ) (o : List ℕ) {dirty other : List Bool} {sets ws os : List ℕ} (changed : Bool)
+    → Ready g sets ws os → AllReduced (size_in g) sets ws → b < size_in g → Flags (rule_of joining) g backward o dirty other sets → get_or dirty b false ≡ false
     → StepsTo (rule_of joining) g backward o other sets (step_end (rule_of joining) g backward b o sets ws changed) changed dirty other sets ws os
 step_passed joining backward b o changed ready before inside flags clean = record {
   holds = record {
@@ -61,17 +61,17 @@ unfolding sets_to_join
 same_idle rule g backward q sets sets' c e idle =
     subst (λ (rs : List NodeSet). Has (set_of rs c) (intersection_of (map (set_of rs) (neighbours_to_join rule g backward c q)))) (sym e) idle
 
-module _ (joining : Joining) {g : List ℕ} (backward : Bool) (b : ℕ) (o : List ℕ) {dirty other sets ws os : List ℕ} (ready : Ready g sets ws os)
+module _ (joining : Joining) {g : List ℕ} (backward : Bool) (b : ℕ) (o : List ℕ) {dirty other : List Bool} {sets ws os : List ℕ} (ready : Ready g sets ws os)
     (inside : b < size_in g) (flags : Flags (rule_of joining) g backward o dirty other sets) {r : Joined} {sets' ws' os' : List ℕ}
     (to : JoinedTo (rule_of joining) g backward b o sets ws r sets' ws' os')
-    {dirty' other' : List ℕ} (touched : Touched g backward b r.changed dirty other dirty' other') where
-  own_clean : (c : ℕ) → c < size_in g → c ≢ b → get_or dirty' c 0 ≡ 0 → Idle (rule_of joining) g backward o sets' c
+    {dirty' other' : List Bool} (touched : Touched g backward b r.changed dirty other dirty' other') where
+  own_clean : (c : ℕ) → c < size_in g → c ≢ b → get_or dirty' c false ≡ false → Idle (rule_of joining) g backward o sets' c
   own_clean c l apart e =
       decide r.changed
       (λ t. clean_elsewhere joining g ready.both_ways b inside sets sets' to.own to.rows backward o (touched.new t).0 (λ k h. h)
       flags.clean c l apart e)
       (λ t. same_idle (rule_of joining) g backward o sets sets' c (to.still t)
-      (flags.clean c l (ap (λ (d : List ℕ). get_or d c 0) (sym (touched.old t).0) ∙ e)))
+      (flags.clean c l (ap (λ (d : List Bool). get_or d c false) (sym (touched.old t).0) ∙ e)))
 
   other_clean : (q : List ℕ) → Clean (rule_of joining) g (not backward) q other sets → Clean (rule_of joining) g (not backward) q other' sets'
   other_clean q clean c l e =
@@ -83,7 +83,7 @@ module _ (joining : Joining) {g : List ℕ} (backward : Bool) (b : ℕ) (o : Lis
       (λ k h. subst (λ (d : Bool). any_of (eqb k) (neighbours g d b) ≡ false) (sym (twice backward))
       (neither (eqb k b) (any_of (eqb k) (neighbours g backward b)) h).1) clean c l (eqb-false c b apart.0) e)
       (λ t. same_idle (rule_of joining) g (not backward) q sets sets' c (to.still t)
-      (clean c l (ap (λ (d : List ℕ). get_or d c 0) (sym (touched.old t).1) ∙ e)))
+      (clean c l (ap (λ (d : List Bool). get_or d c false) (sym (touched.old t).1) ∙ e)))
     where
       twice : (d : Bool) → not (not d) ≡ d
       twice true = refl
@@ -94,8 +94,8 @@ module _ (joining : Joining) {g : List ℕ} (backward : Bool) (b : ℕ) (o : Lis
       decide r.changed (λ t. ((touched.new t).0.long, (touched.new t).1.long))
       (λ t. (ap length (touched.old t).0 ∙ flags.long, ap length (touched.old t).1 ∙ flags.other_long))
 
-  -- the block's own mark is stored last: 0 only where nothing new would join it
-  pub step_joined : (changed : Bool) (v : ℕ) → (v ≡ 0 → r.idle ≡ true)
+  -- the block's own mark is stored last: false only where nothing new would join it
+  pub step_joined : (changed v : Bool) → (v ≡ false → r.idle ≡ true)
       → StepsTo (rule_of joining) g backward o other sets (step_end (rule_of joining) g backward b o sets ws changed) (changed || r.changed)
       (set dirty' b v) other' sets' ws' os'
   step_joined changed v idle =
@@ -109,8 +109,8 @@ module _ (joining : Joining) {g : List ℕ} (backward : Bool) (b : ℕ) (o : Lis
           clean = λ c l e. decide (eqb c b)
               (λ t. let same = eqb-true c b t in
               subst (Idle (rule_of joining) g backward o sets') (sym same)
-              (to.idle (idle (sym (get_or-set_same dirty' b v 0 (omega arith)) ∙ ap (λ (k : ℕ). get_or (set dirty' b v) k 0) (sym same) ∙ e))))
-              (λ t. let apart = eqb-false c b t in own_clean c l apart (sym (get_or-set_other dirty' b c v 0 apart) ∙ e));
+              (to.idle (idle (sym (get_or-set_same dirty' b v false (omega arith)) ∙ ap (λ (k : ℕ). get_or (set dirty' b v) k false) (sym same) ∙ e))))
+              (λ t. let apart = eqb-false c b t in own_clean c l apart (sym (get_or-set_other dirty' b c v false apart) ∙ e));
         };
         others = other_clean;
       }

@@ -17,14 +17,12 @@ use Rattle.model.specs.Reduction.{reduce_maybe_optional_chains}
 use Rattle.model.specs.Strict.{all_done, strict_neighbours}
 use Rattle.laws.specs.WalkSteps.{only_done, Step, take_steps, walk_steps}
 use Rattle.graph.specs.Bytes.{size_in, neighbours}
-use Rattle.graph.proofs.Neighbours.{places_more, places_end}
+use Rattle.graph.proofs.Coming.{places_more, places_end}
 use Rattle.propagation.specs.declared.Joining.{Joining}
 use Rattle.propagation.specs.declared.Joining.TheVariants.{DoneNeighbours, StrictNeighbours}
-use Rattle.propagation.specs.declared.Progress.{Progress}
-use Rattle.propagation.specs.declared.Progress.TheVariants.{Changed, Full}
 use Rattle.propagation.specs.Rules.{rule_of}
 use Rattle.propagation.specs.Order.{order_of, left_in, block_left, done_above, step_left, steps_from, OrderNoted}
-use Rattle.propagation.specs.Joins.{work_of, join_in, RowsStand, Ready, ReducedBefore, Clean, Flags, StepsTo, Steps}
+use Rattle.propagation.specs.Joins.{work_of, join_in, RowsStand, Ready, ReducedBefore, Clean, Flags, StepsTo}
 use Rattle.propagation.specs.Propagates.{walk_in}
 use Rattle.propagation.proofs.Reductions.{stands_proper, reduced_work, reduced_rows, stays_reduced}
 use Rattle.propagation.proofs.Stepping.{step_end}
@@ -49,16 +47,6 @@ module _ (rule : JoiningRule) (g : List ℕ) (backward : Bool) where
   pub walk_adds : (w : Work) → Adds w (walk_in rule g backward w)
   unfolding walk_in
   walk_adds w = walk_does Adds adds_order (neighbours g backward) (join_in rule g backward) join_adds (size_in g) (order_of backward (size_in g)) w
-
--- An answer by its case.
-
-module _ (rule : JoiningRule) (g : List ℕ) (backward : Bool) (o other sets : List ℕ) (want : Work) (r : Progress) (dirty' other' sets' ws' os' : List ℕ)
-    (h : Steps rule g backward o other sets want r dirty' other' sets' ws' os') where
-  pub steps_to : (c : Bool) → r ≡ Changed c → StepsTo rule g backward o other sets want c dirty' other' sets' ws' os'
-  steps_to c e = subst (λ (x : Progress). Steps rule g backward o other sets want x dirty' other' sets' ws' os') e h
-
-  pub steps_full : r ≡ Full → node_limit < length want.registry
-  steps_full e = subst (λ (x : Progress). Steps rule g backward o other sets want x dirty' other' sets' ws' os') e h
 
 -- A rule asks of a mark only whether it is Done.
 
@@ -90,16 +78,17 @@ join_asks joining g backward b ms w =
     ap (λ (ns : List ℕ). join_with reduce_maybe_optional_chains ns b w) (rule_asks joining ms (neighbours g backward b))
 
 -- The loop over the steps: those from number i on lead from what the arrays hold to `end`.
-pub record Along (joining : Joining) (g : List ℕ) (backward later : Bool) (o other₀ sets₀ : List ℕ) (i : ℕ) (end : Work)
-    (dirty other sets ws os : List ℕ) (c : Bool) : Type 0 where
+pub record Along (joining : Joining) (g : List ℕ) (backward later : Bool) (o : List ℕ) (other₀ : List Bool) (sets₀ : List ℕ) (i : ℕ)
+    (end : Work) (dirty other : List Bool) (sets ws os : List ℕ) (c : Bool) : Type 0 where
   pub stands : RowsStand (size_in g) sets ws os
   pub before : ReducedBefore later (size_in g) sets ws
   pub flags : Flags (rule_of joining) g backward o dirty other sets
   pub others : (q : List ℕ) → Clean (rule_of joining) g (not backward) q other₀ sets₀ → Clean (rule_of joining) g (not backward) q other sets
   pub rest : take_steps (join_in (rule_of joining) g backward) (steps_from (size_in g) o i) (work_of (size_in g) sets ws c) ≡ end
 
-pub walk_begun : (joining : Joining) {g : List ℕ} (backward : Bool) {o dirty other sets ws os : List ℕ} {later : Bool} → Ready g sets ws os
-    → ReducedBefore later (size_in g) sets ws → OrderNoted g backward o → Flags (rule_of joining) g backward o dirty other sets → (c : Bool)
+pub walk_begun : (joining : Joining) {g : List ℕ} (backward : Bool) {o : List ℕ} {dirty other : List Bool} {sets ws os : List ℕ} {later : Bool}
+    → Ready g sets ws os → ReducedBefore later (size_in g) sets ws → OrderNoted g backward o
+    → Flags (rule_of joining) g backward o dirty other sets → (c : Bool)
     → Along joining g backward later o other sets 0 (walk_in (rule_of joining) g backward (work_of (size_in g) sets ws c)) dirty other sets ws os c
 unfolding walk_in
 walk_begun joining {g} backward {o} {dirty} {other} {sets} {ws} ready before order flags c = record {
@@ -120,8 +109,8 @@ steps_end : (n : ℕ) (o : List ℕ) (i : ℕ) → left_in o ≤ i → steps_fro
 unfolding steps_from
 steps_end n o i l = ap (map (step_left n o)) (places_end i (left_in o) l)
 
-module _ {joining : Joining} {g : List ℕ} {backward later : Bool} {o other₀ sets₀ : List ℕ} {i : ℕ} {end : Work}
-    {dirty other sets ws os : List ℕ} {c : Bool} (a : Along joining g backward later o other₀ sets₀ i end dirty other sets ws os c) where
+module _ {joining : Joining} {g : List ℕ} {backward later : Bool} {o : List ℕ} {other₀ : List Bool} {sets₀ : List ℕ} {i : ℕ} {end : Work}
+    {dirty other : List Bool} {sets ws os : List ℕ} {c : Bool} (a : Along joining g backward later o other₀ sets₀ i end dirty other sets ws os c) where
   pub walk_over : left_in o ≤ i → StepsTo (rule_of joining) g backward o other₀ sets₀ end c dirty other sets ws os
   walk_over l = record {
     holds = record {
@@ -144,26 +133,21 @@ module _ {joining : Joining} {g : List ℕ} {backward later : Bool} {o other₀ 
         (ap₂ (λ (k m : ℕ). join_in (rule_of joining) g backward k (done_above (size_in g) m o) w) is mark)
         ∙ ap (λ (steps : List Step). take_steps (join_in (rule_of joining) g backward) steps w) (sym (steps_more (size_in g) o i more)) ∙ a.rest
 
-    module _ (r : Progress) (dirty' other' sets' ws' os' : List ℕ)
-        (h : Steps (rule_of joining) g backward o other sets (step_end (rule_of joining) g backward b o sets ws c) r dirty' other' sets' ws' os') where
-      pub walk_full : r ≡ Full → node_limit < length end.registry
-      walk_full e =
-          let full =
-          steps_full (rule_of joining) g backward o other sets (step_end (rule_of joining) g backward b o sets ws c) r dirty' other' sets' ws' os' h e in
-          subst (λ (w : Work). node_limit < length w.registry) comes
-          (lt_of_lt_of_le full
-          (steps_add (rule_of joining) g backward (steps_from (size_in g) o (i + 1)) (step_end (rule_of joining) g backward b o sets ws c)))
+    pub walk_full : node_limit < length (step_end (rule_of joining) g backward b o sets ws c).registry → node_limit < length end.registry
+    walk_full full =
+        subst (λ (w : Work). node_limit < length w.registry) comes
+        (lt_of_lt_of_le full
+        (steps_add (rule_of joining) g backward (steps_from (size_in g) o (i + 1)) (step_end (rule_of joining) g backward b o sets ws c)))
 
-      pub walk_more : (c' : Bool) → r ≡ Changed c' → Along joining g backward later o other₀ sets₀ (i + 1) end dirty' other' sets' ws' os' c'
-      walk_more c' e =
-          let to =
-          steps_to (rule_of joining) g backward o other sets (step_end (rule_of joining) g backward b o sets ws c) r dirty' other' sets' ws' os' h c' e in
-          record {
-            stands = to.holds.stands;
-            before = λ t. reduced_rows (size_in g) sets' ws' c' (step_end (rule_of joining) g backward b o sets ws c) to.holds.same
-                (λ k l. stays_reduced (rule_of joining) g backward b (done_above (size_in g) (get_or o b 0) o) (work_of (size_in g) sets ws c)
-                (stands_proper a.stands c) k (reduced_work (size_in g) sets ws c (a.before t) k l));
-            flags = to.flags;
-            others = λ q clean. to.others q (a.others q clean);
-            rest = ap (take_steps (join_in (rule_of joining) g backward) (steps_from (size_in g) o (i + 1))) (sym to.holds.same) ∙ comes;
-          }
+    pub walk_more : {c' : Bool} {dirty' other' : List Bool} {sets' ws' os' : List ℕ}
+        → StepsTo (rule_of joining) g backward o other sets (step_end (rule_of joining) g backward b o sets ws c) c' dirty' other' sets' ws' os'
+        → Along joining g backward later o other₀ sets₀ (i + 1) end dirty' other' sets' ws' os' c'
+    walk_more {c'} {dirty'} {other'} {sets'} {ws'} to = record {
+      stands = to.holds.stands;
+      before = λ t. reduced_rows (size_in g) sets' ws' c' (step_end (rule_of joining) g backward b o sets ws c) to.holds.same
+          (λ k l. stays_reduced (rule_of joining) g backward b (done_above (size_in g) (get_or o b 0) o) (work_of (size_in g) sets ws c)
+          (stands_proper a.stands c) k (reduced_work (size_in g) sets ws c (a.before t) k l));
+      flags = to.flags;
+      others = λ q clean. to.others q (a.others q clean);
+      rest = ap (take_steps (join_in (rule_of joining) g backward) (steps_from (size_in g) o (i + 1))) (sym to.holds.same) ∙ comes;
+    }

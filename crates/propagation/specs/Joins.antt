@@ -1,6 +1,27 @@
 -- The work that the lent arrays hold, which neighbours are to be joined, what a join leaves, and
 -- which joins would have no effect.
-use Rattle.std.specs.Prelude.{ℕ, ◌≤◌, ◌<◌, ◌≡◌, Bool, true, false, ◌||◌, not, List, ◌∷◌, map, length, get_or, set, take, eqb}
+use Rattle.std.specs.Prelude.{
+  ℕ,
+  ◌≤◌,
+  ◌<◌,
+  ◌≡◌,
+  Bool,
+  true,
+  false,
+  ◌||◌,
+  not,
+  Result,
+  Ok,
+  Err,
+  List,
+  ◌∷◌,
+  map,
+  length,
+  get_or,
+  set,
+  take,
+  eqb,
+}
 use Rattle.model.specs.Lists.{any_of}
 use Rattle.model.specs.ListLaws.{All, NoRepeats}
 use Rattle.model.specs.Sets.{NodeSet, contains}
@@ -12,8 +33,8 @@ use Rattle.model.specs.Propagation.{Work, set_of, JoiningRule, intersection_of, 
 use Rattle.rows.specs.Rows.{Lent, rows_of}
 use Rattle.registry.specs.Words.{registry_of, Held}
 use Rattle.graph.specs.Bytes.{size_in, neighbours, GraphFits, NeighboursOnce, NeighboursMutual}
-use Rattle.propagation.specs.declared.Progress.{Progress}
-use Rattle.propagation.specs.declared.Progress.TheVariants.{Changed, Full}
+use Rattle.entries.specs.declared.Refusal.{Refusal}
+use Rattle.entries.specs.declared.Refusal.TheVariants.{ManyNodes}
 use Rattle.propagation.specs.declared.Joined.{Joined}
 use Rattle.propagation.specs.Order.{done_before}
 
@@ -78,18 +99,18 @@ abbrev pub Idle : JoiningRule → List ℕ → Bool → List ℕ → List ℕ �
 Idle rule g backward o sets b = Has (set_of (rows_of sets (size_in g)) b) (intersection_of (sets_to_join rule g backward b o sets))
 
 -- Nothing new joins a block that is not dirty.
-abbrev pub Clean : JoiningRule → List ℕ → Bool → List ℕ → List ℕ → List ℕ → Type 0
-Clean rule g backward o dirty sets = (b : ℕ) → b < size_in g → get_or dirty b 0 ≡ 0 → Idle rule g backward o sets b
+abbrev pub Clean : JoiningRule → List ℕ → Bool → List ℕ → List Bool → List ℕ → Type 0
+Clean rule g backward o dirty sets = (b : ℕ) → b < size_in g → get_or dirty b false ≡ false → Idle rule g backward o sets b
 
 -- These blocks are dirty, and those that were.
-pub record MarksDirty (bs before after : List ℕ) : Type 0 where
+pub record MarksDirty (bs : List ℕ) (before after : List Bool) : Type 0 where
   pub long : length after ≡ 128
-  pub others : (b : ℕ) → get_or after b 0 ≡ 0 → get_or before b 0 ≡ 0
-  pub these : (b : ℕ) → get_or after b 0 ≡ 0 → any_of (eqb b) bs ≡ false
+  pub others : (b : ℕ) → get_or after b false ≡ false → get_or before b false ≡ false
+  pub these : (b : ℕ) → get_or after b false ≡ false → any_of (eqb b) bs ≡ false
 
 -- The dirty marks after a join of block b, in its walk's direction and in the other: where its set
 -- has changed, those blocks are marked that it joins, and the block itself in the other direction.
-pub record Touched (g : List ℕ) (backward : Bool) (b : ℕ) (changed : Bool) (dirty other dirty' other' : List ℕ) : Type 0 where
+pub record Touched (g : List ℕ) (backward : Bool) (b : ℕ) (changed : Bool) (dirty other dirty' other' : List Bool) : Type 0 where
   pub new : changed ≡ true → MarksDirty (neighbours g (not backward) b) dirty dirty' × MarksDirty (b ∷ neighbours g backward b) other other'
   pub old : changed ≡ false → (dirty' ≡ dirty) × (other' ≡ other)
 
@@ -105,30 +126,30 @@ pub record JoinedTo (rule : JoiningRule) (g : List ℕ) (backward : Bool) (b : �
   pub idle : r.idle ≡ true → Idle rule g backward o sets' b
 
 -- What a join leaves; or the definition's registry, which has no limit, is beyond the limit.
-pub record Joins (rule : JoiningRule) (g : List ℕ) (backward : Bool) (b : ℕ) (o sets ws : List ℕ) (r : Joined) (sets' ws' os' : List ℕ)
-    : Type 0 where
-  pub full : r.full ≡ true → (changed : Bool)
-      → node_limit < length (join_in rule g backward b (done_before (size_in g) o b) (work_of (size_in g) sets ws changed)).registry
-  pub to : r.full ≡ false → JoinedTo rule g backward b o sets ws r sets' ws' os'
+abbrev pub Joins : JoiningRule → List ℕ → Bool → ℕ → List ℕ → List ℕ → List ℕ → Result Joined Refusal → List ℕ → List ℕ → List ℕ → Type 0
+Joins rule g backward b o sets ws (Ok r) sets' ws' os' = JoinedTo rule g backward b o sets ws r sets' ws' os'
+Joins rule g backward b o sets ws (Err e) sets' ws' os' = (e ≡ ManyNodes) × ((changed : Bool)
+    → node_limit < length (join_in rule g backward b (done_before (size_in g) o b) (work_of (size_in g) sets ws changed)).registry)
 
 -- The dirty marks of a walk's direction and of the other one.
-pub record Flags (rule : JoiningRule) (g : List ℕ) (backward : Bool) (o dirty other sets : List ℕ) : Type 0 where
+pub record Flags (rule : JoiningRule) (g : List ℕ) (backward : Bool) (o : List ℕ) (dirty other : List Bool) (sets : List ℕ)
+    : Type 0 where
   pub long : length dirty ≡ 128
   pub other_long : length other ≡ 128
   pub clean : Clean rule g backward o dirty sets
 
 -- A step or a walk that found room: the work that was to be reached, with dirty marks that are
 -- right in both directions, whatever order the other one has.
-pub record StepsTo (rule : JoiningRule) (g : List ℕ) (backward : Bool) (o other sets : List ℕ) (want : Work) (changed : Bool)
-    (dirty' other' sets' ws' os' : List ℕ) : Type 0 where
+pub record StepsTo (rule : JoiningRule) (g : List ℕ) (backward : Bool) (o : List ℕ) (other : List Bool) (sets : List ℕ) (want : Work)
+    (changed : Bool) (dirty' other' : List Bool) (sets' ws' os' : List ℕ) : Type 0 where
   pub holds : HoldsWork want (size_in g) changed sets' ws' os'
   pub flags : Flags rule g backward o dirty' other' sets'
   pub others : (q : List ℕ) → Clean rule g (not backward) q other sets → Clean rule g (not backward) q other' sets'
 
 -- What a step or a walk leaves; or its work has no room. The definition has no limit and goes on to
 -- its end.
-abbrev pub Steps : JoiningRule → List ℕ → Bool → List ℕ → List ℕ → List ℕ → Work → Progress → List ℕ → List ℕ → List ℕ → List ℕ → List ℕ
-    → Type 0
-Steps rule g backward o other sets want (Changed c) dirty' other' sets' ws' os' =
+abbrev pub Steps : JoiningRule → List ℕ → Bool → List ℕ → List Bool → List ℕ → Work → Result Bool Refusal → List Bool → List Bool → List ℕ
+    → List ℕ → List ℕ → Type 0
+Steps rule g backward o other sets want (Ok c) dirty' other' sets' ws' os' =
     StepsTo rule g backward o other sets want c dirty' other' sets' ws' os'
-Steps rule g backward o other sets want Full dirty' other' sets' ws' os' = node_limit < length want.registry
+Steps rule g backward o other sets want (Err e) dirty' other' sets' ws' os' = (e ≡ ManyNodes) × (node_limit < length want.registry)

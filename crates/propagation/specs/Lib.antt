@@ -1,3 +1,4 @@
+pub mod Once
 pub mod Rules
 pub mod Order
 pub mod Joins

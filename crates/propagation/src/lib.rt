@@ -3,11 +3,17 @@
 // graph alone, so both are noted once, in 257 bytes for each direction: byte b is the mark of block
 // b, byte 128 + i the block that is left after i others, byte 256 how many are left. Mark 0 is an
 // unmarked block, 1 an Active one, and 255 - i a Done one that was left after i others, so that of
-// two blocks the one with the greater mark was left first. A block is dirty, with 1 for its byte,
-// where its join in a walk of that direction may have an effect.
+// two blocks the one with the greater mark was left first. A block is dirty where its join in a
+// walk of that direction may have an effect.
+// Design: the marks of an order stay numbers, since they also say which of two blocks was left
+// first, and marks, blocks and count stay in the same bytes: `OrderNoted`, which docs/PROOFS.md
+// names, and the edits `order_by_the_last` and `order_not_zeroed` are of these bytes.
+// Design: a direction is a bool, as it is in the definitions (`neighbours`, `in_order`, `walk_in`).
+// Design: that a number is a block (`b < size_in ..`) is a clause. Blocks come out of loops and of
+// bytes, so that a value of a type of blocks would be made at each call, which is no plainer.
 #![tactic(auto)]
 
-ghost use Rattle.std.specs.Prelude.{◌≡◌, true, false, not, ◌∷◌, ◌<◌, length, get_or, replicate};
+ghost use Rattle.std.specs.Prelude.{◌≡◌, true, false, ◌<◌, get_or, replicate};
 ghost use Rattle.model.specs.Reduction.{reduce_maybe_optional_chains};
 ghost use Rattle.model.specs.Visit.{visit};
 ghost use Rattle.model.specs.Propagation.{intersection_of, round, propagate_non_null};
@@ -15,7 +21,8 @@ ghost use Rattle.laws.specs.WalkSteps.{noted};
 ghost use Rattle.rows.specs.Members.{members_of};
 ghost use Rattle.rows.specs.Rows.{Lent, rows_of};
 ghost use Rattle.registry.specs.Words.{registry_of};
-ghost use Rattle.graph.specs.Bytes.{size_in, neighbours, GraphFits, NeighboursOnce, graph_in};
+ghost use Rattle.graph.specs.Bytes.{size_in, neighbours, NeighboursOnce, NeighboursMutual, graph_in};
+ghost use Rattle.propagation.specs.Once.{once_prop};
 ghost use Rattle.propagation.specs.Rules.{rule_of, asks_all};
 ghost use Rattle.propagation.specs.Order.{in_order, left_in, done_before, leaving, noted_of, Noting, Notes, OrderNoted};
 ghost use Rattle.propagation.specs.Joins.{
@@ -24,6 +31,7 @@ ghost use Rattle.propagation.specs.Joins.{
   neighbours_to_join,
   sets_to_join,
   Gathers,
+  RowsStand,
   Ready,
   ReducedBefore,
   MarksDirty,
@@ -34,270 +42,65 @@ ghost use Rattle.propagation.specs.Joins.{
 };
 ghost use Rattle.propagation.specs.Propagates.{walk_in, Orders, Turns, Propagates};
 
-use graph::{Neighbour, as_number};
+use entries::{Refusal, RoundsRun};
+use graph::Graph;
+use registry::Registry;
 use rows::NodeBits;
 
 // Which neighbours of a block join: those that are Done; or all, where every one is Done, and else
 // none.
+// Design: an enum and no closure, since the contracts of `propagate_non_null` and of
+// `stage::perform`, which are public, say by it which rule it is (`rule_of`).
 #[derive(Clone, Copy)]
 pub enum Joining {
     DoneNeighbours,
     StrictNeighbours,
 }
 
-// Whether a join of this round changed its set; or the registry has no room.
-#[derive(Clone, Copy)]
-enum Progress {
-    Changed(bool),
-    Full,
+impl Joining {
+    // Whether a neighbour that is not Done keeps the others from joining.
+    fn asks_all(self) -> bool
+        ensures { result ≡ asks_all self }
+    {
+        matches!(self, Joining::StrictNeighbours)
+    }
 }
 
 // What a join made of a block's set: whether that is another one, and whether the same join would
-// leave it; or the registry has no room.
+// leave it.
 #[derive(Clone, Copy)]
 struct Joined {
     changed: bool,
     idle: bool,
-    full: bool,
-}
-
-// How many rounds were run, and whether the last one changed nothing.
-#[derive(Clone, Copy)]
-pub struct RoundsRun {
-    pub rounds: usize,
-    pub settled: bool,
-}
-
-// The rounds that were run; or the registry has no room.
-#[derive(Clone, Copy)]
-pub enum Propagated {
-    Ran(RoundsRun),
-    Full,
-}
-
-// Whether a neighbour that is not Done keeps the others from joining.
-fn asks_all(joining: Joining) -> bool
-    ensures { result ≡ asks_all joining }
-{
-    match joining {
-        Joining::DoneNeighbours => false,
-        Joining::StrictNeighbours => true,
-    }
-}
-
-// The neighbours of a block that are to be joined, each once: their places stand at the front of
-// `places`, and the result is how many there are. They are those that were left before it. Marks
-// are looked up for a join here and nowhere else, that of a neighbour once. Where every neighbour
-// has to be Done, the first that is not ends the search. Each place is stored behind those gathered
-// so far, and the count goes up only if that neighbour is Done, so that under the existing rule the
-// compiled loop has no branch on the mark.
-fn neighbours_to_join(
-    joining: Joining,
-    graph: &[u8],
-    backward: bool,
-    b: usize,
-    order: &[u8; 257],
-    places: &mut [u8; 128],
-) -> usize
-    requires { GraphFits graph.now × NeighboursOnce graph.now × (b < size_in graph.now) × (length places.old ≡ 128) }
-    ensures { Gathers (neighbours_to_join (rule_of joining) graph.now backward b order.now)
-        (size_in graph.now) result places.new }
-{
-    let mark = order[b];
-    let mut count = 0;
-    let mut start = 0;
-    loop {
-        let Neighbour::At(k, next) = graph::next_neighbour(graph, backward, b, start) else {
-            return count;
-        };
-        places[count] = k as u8;
-        if mark < order[k] {
-            count += 1;
-        } else if asks_all(joining) {
-            return 0;
-        }
-        start = next;
-    }
-}
-
-// The intersection of the sets of those neighbours of a block that join.
-fn intersection_of_joining(
-    joining: Joining,
-    graph: &[u8],
-    backward: bool,
-    b: usize,
-    order: &[u8; 257],
-    sets: &[u64],
-) -> NodeBits
-    requires { GraphFits graph.now × NeighboursOnce graph.now × (b < size_in graph.now) × Lent (size_in graph.now) sets.now }
-    ensures { members_of result.words ≡ intersection_of
-        (sets_to_join (rule_of joining) graph.now backward b order.now sets.now) }
-{
-    let mut places = [0u8; 128];
-    let count = neighbours_to_join(joining, graph, backward, b, order, &mut places);
-    rows::intersection_of_rows(sets, &places[..count])
-}
-
-// The block's set is joined with that intersection and reduced. In a walk later than the first it
-// was reduced before, so where nothing new joins, it stays.
-fn join(
-    joining: Joining,
-    graph: &[u8],
-    backward: bool,
-    b: usize,
-    order: &[u8; 257],
-    sets: &mut [u64],
-    ws: &mut [u64; 1665],
-    optional: &mut [u64; 8],
-    later: bool,
-) -> Joined
-    requires { Ready graph.now sets.old ws.old optional.old × ReducedBefore later (size_in graph.now) sets.old ws.old
-        × (b < size_in graph.now) }
-    ensures { Joins (rule_of joining) graph.now backward b order.now sets.old ws.old result
-        sets.new ws.new optional.new }
-{
-    let found = intersection_of_joining(joining, graph, backward, b, order, sets);
-    let own = rows::row(sets, b);
-    let all = own.union(found);
-    if later && own.same_set(all) {
-        return Joined {
-            changed: false,
-            idle: true,
-            full: false,
-        };
-    }
-    let r = reduction::reduce_maybe_optional_chains(ws, optional, all, own, later);
-    if r.full {
-        return Joined {
-            changed: false,
-            idle: false,
-            full: true,
-        };
-    }
-    let set = r.set;
-    rows::set_row(sets, b, set);
-    Joined {
-        changed: !own.same_set(set),
-        idle: all.same_set(set),
-        full: false,
-    }
-}
-
-// These neighbours of a block are dirty.
-fn mark_neighbours(graph: &[u8], backward: bool, b: usize, dirty: &mut [u8; 128])
-    requires { GraphFits graph.now × (b < size_in graph.now) × (length dirty.old ≡ 128) }
-    ensures { MarksDirty (neighbours graph.now backward b) dirty.old dirty.new }
-{
-    let mut from = 0;
-    while from < 128 {
-        let Neighbour::At(k, next) = graph::next_neighbour(graph, backward, b, from) else {
-            return;
-        };
-        dirty[k] = 1;
-        from = next;
-    }
-}
-
-// Where the set of block b has changed, dirty are the blocks that it joins, in a walk of this
-// direction those on the other side, and in one of the other direction those on this side and the
-// block itself.
-fn mark_changed(
-    graph: &[u8],
-    backward: bool,
-    b: usize,
-    changed: bool,
-    dirty: &mut [u8; 128],
-    other: &mut [u8; 128],
-)
-    requires { GraphFits graph.now × (b < size_in graph.now) × (length dirty.old ≡ 128) × (length other.old ≡ 128) }
-    ensures { Touched graph.now backward b changed dirty.old other.old
-        dirty.new other.new }
-{
-    if !changed {
-        return;
-    }
-    mark_neighbours(graph, !backward, b, dirty);
-    mark_neighbours(graph, backward, b, other);
-    other[b] = 1;
-}
-
-// The byte of a block that has joined: it is not dirty where the same join would leave its set.
-fn dirty_byte(idle: bool) -> u8
-    ensures { (result ≡ 0) → idle ≡ true }
-{
-    if idle { 0 } else { 1 }
-}
-
-// A block's join in a walk. In a walk later than the first, a block that is not dirty would keep
-// its set, and is passed over.
-fn step(
-    joining: Joining,
-    graph: &[u8],
-    backward: bool,
-    b: usize,
-    order: &[u8; 257],
-    dirty: &mut [u8; 128],
-    other: &mut [u8; 128],
-    sets: &mut [u64],
-    ws: &mut [u64; 1665],
-    optional: &mut [u64; 8],
-    later: bool,
-    changed: bool,
-) -> Progress
-    requires { Ready graph.now sets.old ws.old optional.old × ReducedBefore later (size_in graph.now) sets.old ws.old
-        × (b < size_in graph.now) × Flags (rule_of joining) graph.now backward order.now dirty.old other.old sets.old }
-    ensures { let n = size_in graph.now in
-        Steps (rule_of joining) graph.now backward order.now other.old sets.old
-        (join_in (rule_of joining) graph.now backward b (done_before n order.now b)
-        (work_of n sets.old ws.old changed))
-        result dirty.new other.new sets.new ws.new optional.new }
-{
-    if later && dirty[b] == 0 {
-        return Progress::Changed(changed);
-    }
-    let joined = join(
-        joining, graph, backward, b, order, sets, ws, optional, later,
-    );
-    if joined.full {
-        return Progress::Full;
-    }
-    mark_changed(graph, backward, b, joined.changed, dirty, other);
-    dirty[b] = dirty_byte(joined.idle);
-    Progress::Changed(changed | joined.changed)
 }
 
 // The order of a walk.
 
 // A block is left: it is Done, and the next of the order.
 fn leave(b: usize, order: &mut [u8; 257])
-    requires { (b < 128) × (length order.old ≡ 257) × (left_in order.old < 128) }
+    requires { (b < 128) × (left_in order.old < 128) }
     ensures { order.new ≡ leaving order.old b }
 {
     let left = order[256];
-    order[128 + as_number(left)] = b as u8;
+    order[128 + usize::from(left)] = b as u8;
     order[256] = left + 1;
     order[b] = 255 - left;
 }
 
 // `recursively_propagate_non_null` of an unmarked block, as far as it marks blocks: it is Active
 // while its unmarked neighbours are visited, and then left.
-fn visit(graph: &[u8], backward: bool, b: usize, order: &mut [u8; 257])
-    requires { GraphFits graph.now × (b < size_in graph.now) × Noting (size_in graph.now) order.old × (get_or order.old b 0 ≡ 0) }
-    ensures { let n = size_in graph.now in
-        Notes (visit (neighbours graph.now backward) noted b (noted_of n order.old)) n
+fn visit(graph: Graph, backward: bool, b: usize, order: &mut [u8; 257])
+    requires { let n = size_in graph.bytes.now in
+        (b < n) × Noting n order.old × (get_or order.old b 0 ≡ 0) }
+    ensures { let n = size_in graph.entry.bytes.now in
+        Notes (visit (neighbours graph.entry.bytes.now backward) noted b (noted_of n order.old)) n
         order.old order.new }
 {
     order[b] = 1;
-    let mut from = 0;
-    while from < 128 {
-        let Neighbour::At(k, next) = graph::next_neighbour(graph, backward, b, from) else {
-            leave(b, order);
-            return;
-        };
+    for k in graph.neighbours(backward, b) {
         if order[k] == 0 {
             visit(graph, backward, k, order);
         }
-        from = next;
     }
     leave(b, order);
 }
@@ -312,139 +115,299 @@ fn in_order(backward: bool, n: usize, i: usize) -> usize
 
 // The order in which a walk leaves the blocks, noted in zeroed bytes: it visits each unmarked block
 // in turn.
-fn note_order(graph: &[u8], backward: bool, order: &mut [u8; 257])
-    requires { GraphFits graph.now × (order.old ≡ replicate 257 0) }
-    ensures { OrderNoted graph.now backward order.new }
+fn note_order(graph: Graph, backward: bool, order: &mut [u8; 257])
+    requires { order.old ≡ replicate 257 0 }
+    ensures { OrderNoted graph.entry.bytes.now backward order.new }
 {
-    let n = graph::size(graph);
-    let mut i = 0;
-    while i < n {
+    let n = graph::size(graph.bytes);
+    for i in 0..n {
         let b = in_order(backward, n, i);
-        i += 1;
         if order[b] == 0 {
             visit(graph, backward, b, order);
         }
     }
 }
 
-// The blocks in the order in which they are left, each joined with those that were left before it.
-fn walk(
-    joining: Joining,
-    graph: &[u8],
-    backward: bool,
-    order: &[u8; 257],
-    dirty: &mut [u8; 128],
-    other: &mut [u8; 128],
-    sets: &mut [u64],
-    ws: &mut [u64; 1665],
-    optional: &mut [u64; 8],
-    later: bool,
-    changed: bool,
-) -> Progress
-    requires { Ready graph.now sets.old ws.old optional.old × ReducedBefore later (size_in graph.now) sets.old ws.old
-        × OrderNoted graph.now backward order.now
-        × Flags (rule_of joining) graph.now backward order.now dirty.old other.old sets.old }
-    ensures { let n = size_in graph.now in
-        Steps (rule_of joining) graph.now backward order.now other.old sets.old
-        (walk_in (rule_of joining) graph.now backward (work_of n sets.old ws.old changed))
-        result dirty.new other.new sets.new ws.new optional.new }
+// The blocks that are to join again, by a mark for each.
+
+// These neighbours of a block are dirty.
+fn mark_neighbours(graph: Graph, backward: bool, b: usize, dirty: &mut [bool; 128])
+    requires { b < size_in graph.bytes.now }
+    ensures { MarksDirty (neighbours graph.entry.bytes.now backward b) dirty.old dirty.new }
 {
-    let left = as_number(order[256]);
-    let mut so_far = changed;
-    let mut i = 0;
-    while i < left {
-        let b = as_number(order[128 + i]);
-        let Progress::Changed(c) = step(
-            joining, graph, backward, b, order, dirty, other, sets, ws, optional, later, so_far,
-        ) else {
-            return Progress::Full;
-        };
-        so_far = c;
-        i += 1;
+    for k in graph.neighbours(backward, b) {
+        dirty[k] = true;
     }
-    Progress::Changed(so_far)
 }
 
-// A forward and a backward walk, of which the backward one is never the first. They start from no
-// set changed; whether one had changed before the round is not read, so the contract may say
-// `true`.
-fn round(
+// The walks in one direction: by which rule blocks join, and in which order they are left; and
+// whether the walk is later than the first.
+#[derive(Clone, Copy)]
+struct Walk<'a> {
     joining: Joining,
-    graph: &[u8],
-    forward: &[u8; 257],
-    backward: &[u8; 257],
-    dirty: &mut [u8; 128],
-    other: &mut [u8; 128],
-    sets: &mut [u64],
-    ws: &mut [u64; 1665],
-    optional: &mut [u64; 8],
+    graph: Graph<'a>,
+    backward: bool,
+    order: &'a [u8; 257],
     later: bool,
-) -> Progress
-    requires { Ready graph.now sets.old ws.old optional.old × ReducedBefore later (size_in graph.now) sets.old ws.old
-        × Orders (rule_of joining) graph.now forward.now backward.now dirty.old other.old sets.old }
-    ensures { let n = size_in graph.now in
-        Turns (rule_of joining) graph.now forward.now backward.now
-        (round reduce_maybe_optional_chains (rule_of joining) (graph_in graph.now)
-        (work_of n sets.old ws.old true))
-        result dirty.new other.new sets.new ws.new optional.new }
-{
-    let Progress::Changed(c) = walk(
-        joining, graph, false, forward, dirty, other, sets, ws, optional, later, false,
-    ) else {
-        return Progress::Full;
-    };
-    let returning = true;
-    walk(
-        joining, graph, returning, backward, other, dirty, sets, ws, optional, true, c,
-    )
+    ghost once: { NeighboursOnce graph.bytes.now } by { once_prop graph.bytes.now },
+    ghost both_ways: { NeighboursMutual graph.bytes.now },
 }
 
-// At most 100 rounds; the one that changes nothing is the last. All blocks are dirty at first.
+impl Walk<'_> {
+    // The neighbours of a block that are to be joined, each once: their places stand at the front
+    // of `places`, and the result is how many there are. They are those that were left before it.
+    // Marks are looked up for a join here and nowhere else, that of a neighbour once. Where every
+    // neighbour has to be Done, the first that is not ends the search. Each place is stored behind
+    // those gathered so far, and the count goes up only if that neighbour is Done, so that under
+    // the existing rule the compiled loop has no branch on the mark.
+    // Design: lent bytes and a count, and no list that grows: fixed memory.
+    fn neighbours_to_join(self, b: usize, places: &mut [u8; 128]) -> usize
+        requires { b < size_in self.graph.bytes.now }
+        ensures { let g = self.entry.graph.bytes.now in
+            Gathers (neighbours_to_join (rule_of self.entry.joining) g self.entry.backward b self.entry.order.now)
+            (size_in g) result places.new }
+    {
+        let mark = self.order[b];
+        let mut count = 0;
+        for k in self.graph.neighbours(self.backward, b) {
+            places[count] = k as u8;
+            if mark < self.order[k] {
+                count += 1;
+            } else if self.joining.asks_all() {
+                return 0;
+            }
+        }
+        count
+    }
+
+    // The intersection of the sets of those neighbours of a block that join.
+    fn intersection_of_joining(self, b: usize, sets: &[u64]) -> NodeBits
+        requires { let n = size_in self.graph.bytes.now in (b < n) × Lent n sets.now }
+        ensures { members_of result.words ≡ intersection_of
+            (sets_to_join (rule_of self.entry.joining) self.entry.graph.bytes.now self.entry.backward b self.entry.order.now sets.now) }
+    {
+        let mut places = [0u8; 128];
+        let count = self.neighbours_to_join(b, &mut places);
+        rows::intersection_of_rows(sets, &places[..count])
+    }
+
+    // The block's set is joined with that intersection and reduced. In a walk later than the first
+    // it was reduced before, so where nothing new joins, it stays.
+    // Design: the sets and the registry stay two arguments with clauses of their own, here and in
+    // the functions below. Where there is no room, reduction promises nothing of the registry's
+    // nodes (`Reduces`), so no type of the two could hold that the sets are of these.
+    fn join(self, b: usize, sets: &mut [u64], registry: &mut Registry) -> Result<Joined, Refusal>
+        requires { let n = size_in self.graph.bytes.now in
+            let r = registry.old in
+            (b < n) × RowsStand n sets.old r.words r.optional.words × ReducedBefore self.later n sets.old r.words }
+        ensures { Joins (rule_of self.entry.joining) self.entry.graph.bytes.now self.entry.backward b self.entry.order.now
+            sets.old registry.old.words result sets.new registry.new.words registry.new.optional.words }
+    {
+        let found = self.intersection_of_joining(b, sets);
+        let own = rows::row(sets, b);
+        let all = own.union(found);
+        if self.later && own.same_set(all) {
+            return Ok(Joined {
+                changed: false,
+                idle: true,
+            });
+        }
+        let set = reduction::reduce_maybe_optional_chains(registry, all, own, self.later)?;
+        rows::set_row(sets, b, set);
+        Ok(Joined {
+            changed: !own.same_set(set),
+            idle: all.same_set(set),
+        })
+    }
+
+    // Where the set of block b has changed, dirty are the blocks that it joins, in a walk of this
+    // direction those on the other side, and in one of the other direction those on this side and
+    // the block itself.
+    // Design: `dirty` and `other` stay two parameters, here and below. The two walks of a round
+    // take them the other way round, so that a struct of both would be made again for each walk.
+    fn mark_changed(self, b: usize, changed: bool, dirty: &mut [bool; 128], other: &mut [bool; 128])
+        requires { b < size_in self.graph.bytes.now }
+        ensures { Touched self.entry.graph.bytes.now self.entry.backward b changed dirty.old other.old dirty.new other.new }
+    {
+        if !changed {
+            return;
+        }
+        mark_neighbours(self.graph, !self.backward, b, dirty);
+        mark_neighbours(self.graph, self.backward, b, other);
+        other[b] = true;
+    }
+
+    // A block's join in a walk. In a walk later than the first, a block that is not dirty would
+    // keep its set, and is passed over. Whether a join of this round changed its set.
+    fn step(
+        self,
+        b: usize,
+        dirty: &mut [bool; 128],
+        other: &mut [bool; 128],
+        sets: &mut [u64],
+        registry: &mut Registry,
+        changed: bool,
+    ) -> Result<bool, Refusal>
+        requires { let g = self.graph.bytes.now in
+            let r = registry.old in
+            (b < size_in g) × RowsStand (size_in g) sets.old r.words r.optional.words
+            × ReducedBefore self.later (size_in g) sets.old r.words
+            × Flags (rule_of self.joining) g self.backward self.order.now dirty.old other.old sets.old }
+        ensures { let g = self.entry.graph.bytes.now in
+            Steps (rule_of self.entry.joining) g self.entry.backward self.entry.order.now other.old sets.old
+            (join_in (rule_of self.entry.joining) g self.entry.backward b (done_before (size_in g) self.entry.order.now b)
+            (work_of (size_in g) sets.old registry.old.words changed))
+            result dirty.new other.new sets.new registry.new.words registry.new.optional.words }
+    {
+        if self.later && !dirty[b] {
+            return Ok(changed);
+        }
+        let joined = self.join(b, sets, registry)?;
+        self.mark_changed(b, joined.changed, dirty, other);
+        // It is not dirty where the same join would leave its set.
+        dirty[b] = !joined.idle;
+        Ok(changed | joined.changed)
+    }
+
+    // The blocks in the order in which they are left, each joined with those that were left before
+    // it.
+    // Design: by number and not over a slice of the order, since a step of a walk is defined by its
+    // number (`step_left`): the block that it leaves, and which blocks were Done before.
+    fn run(
+        self,
+        dirty: &mut [bool; 128],
+        other: &mut [bool; 128],
+        sets: &mut [u64],
+        registry: &mut Registry,
+        changed: bool,
+    ) -> Result<bool, Refusal>
+        requires { let g = self.graph.bytes.now in
+            let r = registry.old in
+            RowsStand (size_in g) sets.old r.words r.optional.words × ReducedBefore self.later (size_in g) sets.old r.words
+            × OrderNoted g self.backward self.order.now
+            × Flags (rule_of self.joining) g self.backward self.order.now dirty.old other.old sets.old }
+        ensures { let g = self.entry.graph.bytes.now in
+            Steps (rule_of self.entry.joining) g self.entry.backward self.entry.order.now other.old sets.old
+            (walk_in (rule_of self.entry.joining) g self.entry.backward (work_of (size_in g) sets.old registry.old.words changed))
+            result dirty.new other.new sets.new registry.new.words registry.new.optional.words }
+    {
+        let mut so_far = changed;
+        for i in 0..usize::from(self.order[256]) {
+            let b = usize::from(self.order[128 + i]);
+            so_far = self.step(b, dirty, other, sets, registry, so_far)?;
+        }
+        Ok(so_far)
+    }
+}
+
+// The walks of all rounds: by which rule blocks join, and in which orders they are left.
+#[derive(Clone, Copy)]
+struct Walks<'a> {
+    joining: Joining,
+    graph: Graph<'a>,
+    forward: &'a [u8; 257],
+    backward: &'a [u8; 257],
+    ghost once: { NeighboursOnce graph.bytes.now } by { once_prop graph.bytes.now },
+    ghost both_ways: { NeighboursMutual graph.bytes.now },
+}
+
+impl Walks<'_> {
+    // A forward and a backward walk, of which the backward one is never the first. They start from
+    // no set changed; whether one had changed before the round is not read, so the contract may say
+    // `true`.
+    fn round(
+        self,
+        dirty: &mut [bool; 128],
+        other: &mut [bool; 128],
+        sets: &mut [u64],
+        registry: &mut Registry,
+        later: bool,
+    ) -> Result<bool, Refusal>
+        requires { let g = self.graph.bytes.now in
+            let r = registry.old in
+            RowsStand (size_in g) sets.old r.words r.optional.words × ReducedBefore later (size_in g) sets.old r.words
+            × Orders (rule_of self.joining) g self.forward.now self.backward.now dirty.old other.old sets.old }
+        ensures { let g = self.entry.graph.bytes.now in
+            Turns (rule_of self.entry.joining) g self.entry.forward.now self.entry.backward.now
+            (round reduce_maybe_optional_chains (rule_of self.entry.joining) (graph_in g)
+            (work_of (size_in g) sets.old registry.old.words true))
+            result dirty.new other.new sets.new registry.new.words registry.new.optional.words }
+    {
+        let forward = Walk {
+            joining: self.joining,
+            graph: self.graph,
+            backward: false,
+            order: self.forward,
+            later,
+        };
+        let changed = forward.run(dirty, other, sets, registry, false)?;
+        let returning = true;
+        let backward = Walk {
+            joining: self.joining,
+            graph: self.graph,
+            backward: returning,
+            order: self.backward,
+            later: true,
+        };
+        backward.run(other, dirty, sets, registry, changed)
+    }
+
+    // At most 100 rounds; the one that changes nothing is the last. All blocks are dirty at first.
+    fn rounds(self, sets: &mut [u64], registry: &mut Registry) -> Result<RoundsRun, Refusal>
+        requires { let g = self.graph.bytes.now in
+            RowsStand (size_in g) sets.old registry.old.words registry.old.optional.words
+            × OrderNoted g false self.forward.now × OrderNoted g true self.backward.now }
+        ensures { let g = self.entry.graph.bytes.now in
+            Propagates (propagate_non_null (rule_of self.entry.joining) (graph_in g) (registry_of registry.old.words)
+            (rows_of sets.old (size_in g)))
+            (size_in g) result sets.new registry.new.words registry.new.optional.words }
+    {
+        let mut dirty_forward = [true; 128];
+        let mut dirty_backward = [true; 128];
+        for before in 0..100 {
+            let changed = self.round(
+                &mut dirty_forward,
+                &mut dirty_backward,
+                sets,
+                registry,
+                0 < before,
+            )?;
+            if !changed {
+                return Ok(RoundsRun {
+                    rounds: before + 1,
+                    settled: true,
+                });
+            }
+        }
+        Ok(RoundsRun {
+            rounds: 100,
+            settled: false,
+        })
+    }
+}
+
+// The orders of both walks are noted, and the rounds are run.
 pub fn propagate_non_null(
     joining: Joining,
-    graph: &[u8],
+    graph: Graph,
     sets: &mut [u64],
-    ws: &mut [u64; 1665],
-    optional: &mut [u64; 8],
-) -> Propagated
-    requires { Ready graph.now sets.old ws.old optional.old }
-    ensures { let n = size_in graph.now in
-        Propagates (propagate_non_null (rule_of joining) (graph_in graph.now) (registry_of ws.old)
-        (rows_of sets.old n))
-        n result sets.new ws.new optional.new }
+    registry: &mut Registry,
+) -> Result<RoundsRun, Refusal>
+    requires { Ready graph.bytes.now sets.old registry.old.words registry.old.optional.words }
+    ensures { let g = graph.entry.bytes.now in
+        Propagates (propagate_non_null (rule_of joining) (graph_in g) (registry_of registry.old.words)
+        (rows_of sets.old (size_in g)))
+        (size_in g) result sets.new registry.new.words registry.new.optional.words }
 {
     let mut forward = [0u8; 257];
     let mut backward = [0u8; 257];
     note_order(graph, false, &mut forward);
     note_order(graph, true, &mut backward);
-    let mut dirty_forward = [1u8; 128];
-    let mut dirty_backward = [1u8; 128];
-    let mut rounds = 0;
-    while rounds < 100 {
-        let Progress::Changed(changed) = round(
-            joining,
-            graph,
-            &forward,
-            &backward,
-            &mut dirty_forward,
-            &mut dirty_backward,
-            sets,
-            ws,
-            optional,
-            0 < rounds,
-        ) else {
-            return Propagated::Full;
-        };
-        rounds += 1;
-        if !changed {
-            return Propagated::Ran(RoundsRun {
-                rounds,
-                settled: true,
-            });
-        }
-    }
-    Propagated::Ran(RoundsRun {
-        rounds,
-        settled: false,
-    })
+    let walks = Walks {
+        joining,
+        graph,
+        forward: &forward,
+        backward: &backward,
+    };
+    walks.rounds(sets, registry)
 }

@@ -8,15 +8,15 @@ use mathlib.Core.List.{List, [], ◌∷◌}
 use mathlib.Core.Logic.{◌⊎◌, inl, inr}
 use lib.ListN.{length, length-append}
 use lib.Dec.{eqb}
+use Rattle.std.proofs.Common.{Result}
 use Rattle.entries.specs.declared.IdentifierId.{IdentifierId}
+use Rattle.entries.specs.declared.Refusal.{Refusal}
 use Rattle.entries.specs.declared.NodeId.{NodeId}
 use Rattle.entries.specs.declared.DependencyPathEntry.{DependencyPathEntry}
 use Rattle.registry.specs.declared.Node.{Node}
 use Rattle.registry.specs.declared.Node.TheVariants.{Root, Child}
-use Rattle.registry.specs.declared.NodeEntered.{NodeEntered}
-use Rattle.registry.specs.declared.NodeEntered.TheVariants.{At, Full}
 use Rattle.registry.specs.Nodes.{origin_of}
-use Rattle.registry.specs.Words.{stored_node, count_in, registry_of, Held, Arrives}
+use Rattle.registry.specs.Words.{stored_node, count_in, registry_of, Arrives}
 use Rattle.registry.proofs.View.{registry_length, origin_at}
 use Rattle.model.specs.Registry.{
   node_limit,
@@ -50,7 +50,6 @@ use Rattle.model.proofs.RegistryLaws.{
   path_extends,
   path_proper,
   found,
-  makes_longer,
   path_longer,
   again_root,
   again_child,
@@ -63,15 +62,6 @@ use Rattle.model.specs.ReductionLaws.{LeadsBack}
 use Rattle.model.proofs.ReductionLaws.{node_back}
 use Rattle.model.specs.Tests.{decide, never, beq_same, eqb_same, eqb-true, and_first, and_second}
 use Rattle.reduction.specs.Reduces.{ChildAt, leads_back}
-
--- An answer by its case.
-
-pub arrived_at : (want : Reached) (r : NodeEntered) (k : NodeId) (made : ℕ) (ws os : List ℕ) → r ≡ At k made → Arrives want r ws os → Held ws os ×
-    (want ≡ record { registry = registry_of ws; node = k; made = made })
-arrived_at want r k made ws os e a = subst (λ x. Arrives want x ws os) e a
-
-pub arrived_full : (want : Reached) (r : NodeEntered) (ws os : List ℕ) → r ≡ Full → Arrives want r ws os → node_limit < length want.registry
-arrived_full want r ws os e a = subst (λ x. Arrives want x ws os) e a
 
 -- One entry.
 
@@ -94,22 +84,6 @@ module _ (mark : NodeId → DependencyPathEntry → Bool) (reg : PropertyPathReg
       ∙ ap (λ (i : ℕ). get_or_create_property_entry reg (record { 0 = i }) e) here ∙ found (is_child_by p e) (child_node p (full_path_of reg p) e) reg k
       c.inside c.first in
       stepped_is before ∙ ap (after_making before) there ∙ (λ i. record { registry = reg; node = k; made = add-zero before i })
-
-  -- there is no room for the child
-  pub step_full : (before : ℕ) → node_limit < length child_of_reached.registry → node_limit < length (stepped before).registry
-  step_full before full = subst (λ (y : Reached). node_limit < length y.registry) (sym (stepped_is before)) full
-
-  -- the child is found or made
-  module _ (ws : List ℕ) (r : NodeId) (made_here : ℕ) (is : child_of_reached ≡ record { registry = registry_of ws; node = r; made = made_here }) where
-    pub step_made : (before : ℕ) → stepped before ≡ record { registry = registry_of ws; node = r; made = before + made_here }
-    step_made before = stepped_is before ∙ ap (after_making before) is
-
-    pub step_fits : (before : ℕ) → before ≤ length reg → before + made_here ≤ count_in ws
-    step_fits before few =
-        let longer = subst (λ (y : Reached). length y.registry ≡ length reg + y.made) is
-        (makes_longer (is_child_by q (with_optional e o)) (child_node q (full_path_of reg q) (with_optional e o)) reg).0 in
-        let size = registry_length ws in
-        omega arith
 
 -- One node more.
 
@@ -172,7 +146,7 @@ module _ (mark : NodeId → DependencyPathEntry → Bool) {ws : List ℕ} {k : N
           let longer = extends_length extends in
           record { inside = omega arith; first = find_extends (is_child_by p e) extends (omega arith) ∙ f }
 
-      pub walk_child : (r : NodeEntered) (us os : List ℕ)
+      pub walk_child : (r : Result (NodeId × ℕ) Refusal) (us os : List ℕ)
           → Arrives (step_from mark (record { registry = registry_of vs; node = q; made = made }) e) r us os → Arrives (again k) r us os
       walk_child r us os a = subst (λ (y : Reached). Arrives y r us os) (ap (λ (y : Reached). step_from mark y e) (sym walked) ∙ sym on) a
 

@@ -4,12 +4,11 @@ use Prim.Native.Nat.{ℕ, ◌+◌, ◌*◌, ◌-◌, ◌/◌, ◌%◌, ◌^◌, 
 use native.Mathlib.Omega.{arith}
 use mathlib.Core.Path.{◌≡◌, refl, sym, ap, ◌∙◌, subst}
 use mathlib.Core.Logic.{◌≢◌}
-use mathlib.Core.Bool.{true, false, ◌&&◌}
 use mathlib.Core.List.{List, [], ◌∷◌, ◌++◌}
 use lib.ListN.{length, get_or}
-use lib.Dec.{eqb, ltb}
+use lib.Dec.{eqb}
 use Rattle.model.specs.RegistryLaws.{Sound}
-use Rattle.model.specs.Tests.{decide, never, eqb_equal, eqb-true, eqb-false, ltb_true, ltb_false, and_first, and_second}
+use Rattle.model.specs.Tests.{decide, eqb-true, eqb-false}
 use Rattle.registry.specs.Nodes.{same_key, find_node}
 use Rattle.registry.specs.Words.{
   reactive_unit,
@@ -27,6 +26,8 @@ use Rattle.registry.specs.Words.{
   nodes_of,
   registry_of,
 }
+use Rattle.std.proofs.Common.{Some, None}
+use Rattle.entries.specs.declared.NodeId.{NodeId}
 use Rattle.registry.specs.Words.{Packed, NodesPacked, Sized, BehindLast, BucketsLinked, KeySought}
 use Rattle.registry.proofs.Pack.{link_back, linked_word, packed_below, same_words, words_same}
 use Rattle.registry.proofs.Quarters.{raised, others}
@@ -201,76 +202,20 @@ pub record Passed (ws : List ℕ) (key value e : ℕ) : Type 0 where
   pub last : (k : ℕ) → k + 1 ≡ e → bucket_at ws k ≡ bucket_by key value
   pub none : (j : ℕ) → e ≤ j → j < count_in ws → key_at ws j ≡ key → value_at ws j ≢ value
 
-module _ (ws : List ℕ) (key value : ℕ) (linked : BucketsLinked ws) where
-  -- nodes of other buckets have another key or value
-  apart : (j : ℕ) → bucket_at ws j ≢ bucket_by key value → key_at ws j ≡ key → value_at ws j ≢ value
-  apart j other k v = other (rw (k, v))
+-- What the search says of the nodes: the node found is the one with the key, or there is none.
+module _ (ws : List ℕ) (head value span : ℕ) (packed : NodesPacked ws) (new : Packed head value span) where
+  pub sought_found : (k : NodeId) → KeySought ws (head % reactive_unit) value (Some k) → Sound (registry_of ws)
+      → find_node (nodes_of ws) (unpack head value span) ≡ k.0
+  sought_found k both sound =
+      found_at ws k.0 (unpack head value span) sound both.within
+      (words_same (get_or ws (k.0 * 3) 0) head both.same_key (value_at ws k.0) value (get_or ws (k.0 * 3 + 2) 0) span both.same_value)
 
-  pub passed_start : (b e : ℕ) → b ≡ bucket_by key value → b < 512 → e ≡ end_in ws b → Passed ws key value e
-  passed_start b e is small end =
-      let x : BehindLast ws (bucket_by key value) (count_in ws) e =
-      subst (λ c. BehindLast ws c (count_in ws) e) is (subst (BehindLast ws b (count_in ws)) (sym end) (linked.ends b small)) in
-      record { within = x.within; last = x.last; none = λ j a l. apart j (x.later j a l) }
-
-  -- node k is passed too, and all nodes down to its link
-  pub passed_more : (e k link : ℕ) → Passed ws key value e → k + 1 ≡ e → eqb (key_at ws k) key && eqb (value_at ws k) value ≡ false → link ≡ link_at ws k
-      → Passed ws key value link
-  passed_more e k link p at miss is =
-      let within = p.within in
-      let x : BehindLast ws (bucket_by key value) k link =
-      subst (λ c. BehindLast ws c k link) (p.last k at) (subst (BehindLast ws (bucket_at ws k) k) (sym is) (linked.links k (omega arith))) in
-      record {
-        within = let low = x.within in omega arith;
-        last = x.last;
-        none = λ j a l. decide (ltb j k)
-            (λ t. apart j (x.later j a (ltb_true j k t)))
-            (λ t. let above = ltb_false j k t in decide (eqb j k)
-            (λ here. subst (λ i. key_at ws i ≡ key → value_at ws i ≢ value) (sym (eqb-true j k here))
-            (λ f g. never (rw (eqb_equal (key_at ws k) key f, eqb_equal (value_at ws k) value g)) miss))
-            (λ other. let ne = eqb-false j k other in p.none j (omega arith) l));
-      }
-
-  pub link_within : (e k : ℕ) → Passed ws key value e → k + 1 ≡ e → link_at ws k ≤ k
-  link_within e k p at = let within = p.within in (linked.links k (omega arith)).within
-
--- the search ends at a node with the key and the value, or has passed all
-
-pub sought_here : (ws : List ℕ) (key value e k : ℕ) → Passed ws key value e → k + 1 ≡ e → eqb (key_at ws k) key && eqb (value_at ws k) value ≡ true
-    → KeySought ws key value e
-sought_here ws key value e k p at hit =
-    let within = p.within in
-    record {
-      within = within;
-      here = λ j l.
-          let same : j ≡ k = omega arith in
-          subst (λ i. (key_at ws i ≡ key) × (value_at ws i ≡ value)) (sym same)
-          (eqb-true (key_at ws k) key (and_first (eqb (key_at ws k) key) _ hit), eqb-true (value_at ws k) value (and_second (eqb (key_at ws k) key) _ hit));
-      none = λ z. absurd (omega arith);
-    }
-
-pub sought_none : (ws : List ℕ) (key value e : ℕ) → Passed ws key value e → e ≤ 0 → KeySought ws key value e
-sought_none ws key value e p l = record {
-  within = p.within;
-  here = λ k at. absurd (omega arith);
-  none = λ z j m. p.none j (omega arith) m;
-}
-
--- What the search says of the nodes: the node with the key is the one before r, or there is none.
-module _ (ws : List ℕ) (head value span r : ℕ) (packed : NodesPacked ws) (new : Packed head value span)
-    (sought : KeySought ws (head % reactive_unit) value r) where
-  pub sought_found : Sound (registry_of ws) → 0 < r → find_node (nodes_of ws) (unpack head value span) ≡ r - 1
-  sought_found sound some =
-      let within = sought.within in
-      let both = sought.here (r - 1) (omega arith) in
-      found_at ws (r - 1) (unpack head value span) sound (omega arith)
-      (words_same (get_or ws ((r - 1) * 3) 0) head both.0 (value_at ws (r - 1)) value (get_or ws ((r - 1) * 3 + 2) 0) span both.1)
-
-  pub sought_nowhere : r ≤ 0 → find_node (nodes_of ws) (unpack head value span) ≡ count_in ws
+  pub sought_nowhere : KeySought ws (head % reactive_unit) value None → find_node (nodes_of ws) (unpack head value span) ≡ count_in ws
   sought_nowhere none =
       none_found ws (unpack head value span)
       (λ j l.
       decide (same_key (stored_node ws j) (unpack head value span))
       (λ t.
       let words = same_words (stored_node ws j) (unpack head value span) t in
-      absurd (sought.none (omega arith) j l ((packed j l).key ∙ words.0 ∙ sym new.key) ((packed j l).second ∙ words.1 ∙ sym new.second)))
+      absurd (none j l ((packed j l).key ∙ words.0 ∙ sym new.key) ((packed j l).second ∙ words.1 ∙ sym new.second)))
       (λ t. t))

@@ -4,3 +4,4 @@ pub mod Stored
 pub mod View
 pub mod Buckets
 pub mod Noted
+pub mod Held

@@ -18,7 +18,6 @@ use Rattle.model.specs.RegistryLaws.{node_at, Sound}
 use Rattle.model.proofs.RegistryLaws.{sound_empty}
 use Rattle.model.specs.Reduction.{has_optional}
 use Rattle.rows.specs.Members.{members_of}
-use Rattle.rows.proofs.Members.{no_members}
 use Rattle.registry.specs.declared.Node.{Node}
 use Rattle.registry.specs.declared.Node.TheVariants.{Root, Child}
 use Rattle.registry.specs.Nodes.{node_over, optional_over, noted_with}
@@ -108,9 +107,8 @@ none_held ws os long none ends eight empty = (
         go [] e = refl
         go (n ∷ r) e = absurd (omega arith)
 
--- words that are all 0
-pub zeros_hold_none : HoldsNone (replicate 1665 0) (replicate 8 0)
-zeros_hold_none =
-    none_held (replicate 1665 0) (replicate 8 0) (length-replicate {A = ℕ} 1665 0) (get_or-replicate 1665 1536 0 0 (omega arith))
-    (λ b l. ap (λ (w : ℕ). quarter w (b % 4)) (get_or-replicate 1665 (1537 + b / 4) 0 0 (omega arith)) ∙ no_quarter (b % 4)) (length-replicate {A = ℕ} 8 0)
-    (no_members (replicate 8 0) (λ i l. get_or-replicate 8 i 0 0 l))
+-- words that are all 0, and a set with no member
+pub zeros_hold_none : (os : List ℕ) → length os ≡ 8 → members_of os ≡ [] → HoldsNone (replicate 1665 0) os
+zeros_hold_none os =
+    none_held (replicate 1665 0) os (length-replicate {A = ℕ} 1665 0) (get_or-replicate 1665 1536 0 0 (omega arith))
+    (λ b l. ap (λ (w : ℕ). quarter w (b % 4)) (get_or-replicate 1665 (1537 + b / 4) 0 0 (omega arith)) ∙ no_quarter (b % 4))

@@ -1,6 +1,7 @@
 -- A node that is packed into three words and unpacked again is the node: each field stands in bits
 -- of its own.
 use Prim.Native.Nat.{ℕ, ◌+◌, ◌*◌, ◌/◌, ◌%◌, ◌<◌}
+use mir.Val.{bool_byte}
 use native.Mathlib.Omega.{arith}
 use mathlib.Core.Bool.{Bool, true, false}
 use mathlib.Core.Path.{◌≡◌, refl, sym, ap, ◌∙◌, subst}
@@ -18,20 +19,7 @@ use Rattle.model.specs.Answer.{flag}
 use Rattle.registry.specs.declared.Node.{Node}
 use Rattle.registry.specs.declared.Node.TheVariants.{Root, Child}
 use Rattle.registry.specs.Nodes.{same_key, Inside, optional_over}
-use Rattle.registry.specs.Words.{
-  ParentFits,
-  parent_unit,
-  optional_unit,
-  number_unit,
-  reactive_unit,
-  link_unit,
-  value_in,
-  span_in,
-  key_in,
-  unpack_by,
-  unpack,
-  Packed,
-}
+use Rattle.registry.specs.Words.{ParentFits, parent_unit, optional_unit, number_unit, reactive_unit, link_unit, value_in, key_in, unpack_by, unpack, Packed}
 
 -- The fields of a word: 32 bits, 16 bits, and flags.
 module _ (i p o k r : ℕ) (i< : i < 4294967296) (p< : p < 65536) (o< : o < 2) (k< : k < 2) (r< : r < 2) where
@@ -91,6 +79,11 @@ packed_child p e o k p< eo o< ek k< =
       property_back,
     )
 
+-- the number of a yes or no, as the code makes it
+pub flagged : (b : Bool) (r : ℕ) → r ≡ bool_byte b → (r ≡ flag b) × (r < 2)
+flagged false r e = (e, omega arith)
+flagged true r e = (e, omega arith)
+
 pub packs_child : {n : Node} {p : NodeId} {e : DependencyPathEntry} → ParentFits n → n ≡ Child p e → p.0 < root_mark
 packs_child h e = subst ParentFits e h
 
@@ -146,14 +139,6 @@ key_of_root i r i< = omega arith
 pub key_of_child : (p o k : ℕ) → p < root_mark → o < 2 → k < 2
     → (p * 4294967296 + (o + k * 2) * 281474976710656) % reactive_unit ≡ p * parent_unit + (o + k * 2) * optional_unit
 key_of_child p o k p< o< k< = omega arith
-
--- the words of a node, as the code has them
-module _ (n : Node) (h v s : ℕ) (back : unpack h (value_in n) (span_in n) ≡ n) (second : v ≡ value_in n) (third : s ≡ span_in n) where
-  pub unpacked : unpack h v s ≡ n
-  unpacked = rw (second, third) back
-
-  pub packed_words : h % reactive_unit ≡ key_in n → Packed h v s
-  packed_words key = record { key = key ∙ ap key_in (sym unpacked); second = second ∙ ap value_in (sym unpacked) }
 
 -- a link leaves a packed node's words packed
 pub packed_below : (h v s link : ℕ) → Packed h v s → Packed (h + link * link_unit) v s

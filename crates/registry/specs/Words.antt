@@ -22,8 +22,16 @@ use Rattle.std.specs.Prelude.{
   length,
   get_or,
   eqb,
+  Option,
+  Some,
+  None,
+  Result,
+  Ok,
+  Err,
 }
 use Rattle.entries.specs.declared.NodeId.{NodeId}
+use Rattle.entries.specs.declared.Refusal.{Refusal}
+use Rattle.entries.specs.declared.Refusal.TheVariants.{ManyNodes}
 use Rattle.model.specs.Registry.{node_limit, root_mark, PropertyPathRegistry, Reached}
 use Rattle.model.specs.RegistryLaws.{Sound}
 use Rattle.model.specs.Sets.{contains}
@@ -32,8 +40,6 @@ use Rattle.entries.specs.Property.{property_of, is_number, value_of}
 use Rattle.model.specs.Answer.{flag}
 use Rattle.rows.specs.Members.{members_of}
 use Rattle.registry.specs.declared.Node.{Node}
-use Rattle.registry.specs.declared.NodeEntered.{NodeEntered}
-use Rattle.registry.specs.declared.NodeEntered.TheVariants.{At, Full}
 use Rattle.registry.specs.declared.Node.TheVariants.{Root, Child}
 use Rattle.registry.specs.Nodes.{registry_from}
 
@@ -177,11 +183,16 @@ pub record BucketsLinked (ws : List ℕ) : Type 0 where
   pub ends : (b : ℕ) → b < 512 → BehindLast ws b (count_in ws) (end_in ws b)
   pub links : (k : ℕ) → k < count_in ws → BehindLast ws (bucket_at ws k) k (link_at ws k)
 
--- r is the number behind a node with this key and value, or 0 where no node has them.
-pub record KeySought (ws : List ℕ) (key value r : ℕ) : Type 0 where
-  pub within : r ≤ count_in ws
-  pub here : (k : ℕ) → k + 1 ≡ r → (key_at ws k ≡ key) × (value_at ws k ≡ value)
-  pub none : r ≡ 0 → (j : ℕ) → j < count_in ws → key_at ws j ≡ key → value_at ws j ≢ value
+-- Node k has this key and value.
+pub record KeyHere (ws : List ℕ) (key value k : ℕ) : Type 0 where
+  pub within : k < count_in ws
+  pub same_key : key_at ws k ≡ key
+  pub same_value : value_at ws k ≡ value
+
+-- The node found has this key and value, or no node has them.
+abbrev pub KeySought : List ℕ → ℕ → ℕ → Option NodeId → Type 0
+KeySought ws key value (Some k) = KeyHere ws key value k.0
+KeySought ws key value None = (j : ℕ) → j < count_in ws → key_at ws j ≡ key → value_at ws j ≢ value
 
 -- The words hold a registry as its operations make it.
 pub record HoldsRegistry (ws : List ℕ) : Type 0 where
@@ -203,7 +214,7 @@ abbrev pub HoldsNone : List ℕ → List ℕ → Type 0
 HoldsNone ws os = Held ws os × (registry_of ws ≡ [])
 
 -- What is reached: the words hold the registry that was to be reached, the node is its number, and
--- as many nodes were made on the way; or that registry has no room.
-abbrev pub Arrives : Reached → NodeEntered → List ℕ → List ℕ → Type 0
-Arrives want (At k made) ws os = Held ws os × (want ≡ record { registry = registry_of ws; node = k; made = made })
-Arrives want Full ws os = node_limit < length want.registry
+-- as many nodes were made on the way; or that registry has no room, which is the refusal.
+abbrev pub Arrives : Reached → Result (NodeId × ℕ) Refusal → List ℕ → List ℕ → Type 0
+Arrives want (Ok at) ws os = Held ws os × (want ≡ record { registry = registry_of ws; node = at.0; made = at.1 })
+Arrives want (Err e) ws os = (e ≡ ManyNodes) × (node_limit < length want.registry)

@@ -1,13 +1,12 @@
-// The registry of property paths: nodes numbered from 0 as made, in words that the caller lends:
-// three words a node, and the number of nodes behind them. A node is looked for among those of its
-// bucket, of which there are 512. 128 more words say where each bucket's last node is, and a node's
-// first word where the one before it is. Eight words of their own are the set of the nodes with an
-// optional entry, so that a reduction finds them at once.
+// The registry of property paths: nodes numbered from 0 as made, in words: three words a node, and
+// the number of nodes behind them. A node is looked for among those of its bucket, of which there
+// are 512. 128 more words say where each bucket's last node is, and a node's first word where the
+// one before it is. A set of its own has the nodes with an optional entry, so that a reduction
+// finds them at once.
 #![tactic(auto)]
 
 ghost use Rattle.std.specs.Prelude.{◌≡◌, ◌<◌, ◌+◌, ◌*◌, ◌%◌, ◌^◌, ◌++◌, ◌∷◌, [], length, eqb, ◌&&◌};
 ghost use Rattle.model.specs.Registry.{get_or_create_identifier, get_or_create_property_entry};
-ghost use Rattle.registry.specs.declared.Node.TheVariants.{Root, Child};
 ghost use Rattle.rows.specs.Members.{members_of};
 ghost use Rattle.registry.specs.Nodes.{reached_for, Inside, optional_over, noted_with};
 ghost use Rattle.registry.specs.Words.{
@@ -30,10 +29,12 @@ ghost use Rattle.registry.specs.Words.{
   nodes_of,
   registry_of,
 };
-ghost use Rattle.registry.specs.Words.{Sized, BucketsLinked, KeySought, Held, Arrives};
+ghost use Rattle.registry.specs.Props.{StandsAt-prop};
+ghost use Rattle.std.proofs.Props.{props};
+ghost use Rattle.registry.specs.Words.{HoldsRegistry, Sized, BucketsLinked, KeySought, Held, Arrives};
 
-use entries::{DependencyPathEntry, IdentifierId, NodeId, PropertyLiteral};
-use writer::flag;
+use entries::{DependencyPathEntry, IdentifierId, NodeId, PropertyLiteral, Refusal};
+use rows::NodeBits;
 
 // A node: a root with its identifier, reactive mark and span, or the child of a node by an entry.
 #[derive(Clone, Copy)]
@@ -47,24 +48,15 @@ impl Node {
     pub const LIMIT: usize = 512;
 
     // What stands for the parent of a root.
+    // Design: a number, as the sheet's format has it (`parent_number`).
     pub const ROOT: u64 = 65535;
-
-    pub fn root(identifier: IdentifierId, reactive: bool, span: u64) -> Node
-        ensures { result ≡ Root identifier reactive span }
-    {
-        Node::Root(identifier, reactive, span)
-    }
-
-    pub fn child(parent: NodeId, entry: DependencyPathEntry) -> Node
-        ensures { result ≡ Child parent entry }
-    {
-        Node::Child(parent, entry)
-    }
 }
 
 // A node as three words, and back. The first word has the identifier (of a root) below the parent,
 // and three marks above it, of which the second is worth two of the first and the third four. Above
 // them stands the link to the node before it in its bucket.
+// Design: packed words, and no array of `Node`, since the definitions `stored_node` and `unpack`,
+// on which the registry's theorems and edits rest, read the node from words.
 const PARENT: u64 = 4294967296;
 
 const OPTIONAL: u64 = 281474976710656;
@@ -82,13 +74,13 @@ impl Node {
     {
         match self {
             Node::Root(identifier, reactive, _) => {
-                let mark = flag(reactive);
-                identifier.0 as u64 + Node::ROOT * PARENT + mark * 4 * OPTIONAL
+                let mark = u64::from(reactive);
+                u64::from(identifier.0) + Node::ROOT * PARENT + mark * 4 * OPTIONAL
             }
             Node::Child(parent, entry) => {
                 let property = entry.property;
-                let number = flag(property.is_number());
-                let optional = flag(entry.optional);
+                let number = u64::from(property.is_number());
+                let optional = u64::from(entry.optional);
                 parent.0 as u64 * PARENT + (optional + number * 2) * OPTIONAL
             }
         }
@@ -140,6 +132,7 @@ impl Node {
 
 // The words.
 
+// Design: `count` and `load` stand beside the methods of `Nodes`, since they ask less of the words.
 pub fn count(ws: &[u64; 1665]) -> usize
     ensures { result ≡ count_in ws.now }
 {
@@ -152,6 +145,28 @@ pub fn load(ws: &[u64; 1665], k: NodeId) -> Node
 {
     let at = k.0 * 3;
     Node::unpack(ws[at], ws[at + 1], ws[at + 2])
+}
+
+// The nodes that words hold, for those who only read them.
+#[derive(Clone, Copy)]
+pub struct Nodes<'a> {
+    pub words: &'a [u64; 1665],
+    pub ghost holds: { HoldsRegistry words.now } by { Prim.hlevel (props, StandsAt-prop) },
+}
+
+impl Nodes<'_> {
+    pub fn count(self) -> usize
+        ensures { result ≡ count_in self.entry.words.now }
+    {
+        count(self.words)
+    }
+
+    pub fn load(self, k: NodeId) -> Node
+        requires { k.0 < 512 }
+        ensures { result ≡ stored_node self.entry.words.now k.0 }
+    {
+        load(self.words, k)
+    }
 }
 
 // The bucket in which a key and a value are looked for.
@@ -184,6 +199,7 @@ fn raise(ends: u64, i: usize, rise: u64) -> u64
 }
 
 // One node more in these words, which is the last of its bucket b.
+// Design: a node's three words apart, as `Packed` has them; `Node` is what they stand for.
 fn push(ws: &mut [u64; 1665], b: usize, head: u64, value: u64, span: u64)
     requires { Sized ws.old × BucketsLinked ws.old × NodesPacked ws.old × (count_in ws.old < 512)
         × Packed head value span × (head < link_unit) × (b ≡ bucket_by (head % reactive_unit) value) × (b < 512) }
@@ -209,16 +225,14 @@ fn has_key(ws: &[u64; 1665], k: usize, key: u64, value: u64) -> bool
     ensures { result ≡ eqb (key_at ws.now k) key && eqb (value_at ws.now k) value }
 {
     let at = k * 3;
-    if ws[at] % REACTIVE == key {
-        ws[at + 1] == value
-    } else {
-        false
-    }
+    ws[at] % REACTIVE == key && ws[at + 1] == value
 }
 
-// The number behind the node with this key and value, or 0 where there is none. They occur once, so
-// that the search may go from the last node of the bucket to the first, along the links.
-fn find(ws: &[u64; 1665], b: usize, key: u64, value: u64) -> usize
+// The node with this key and value, where there is one. They occur once, so that the search may go
+// from the last node of the bucket to the first, along the links.
+// Design: ends and links are numbers, 0 for none, since they share words with others (fixed
+// memory).
+fn find(ws: &[u64; 1665], b: usize, key: u64, value: u64) -> Option<NodeId>
     requires { Sized ws.now × BucketsLinked ws.now × (b ≡ bucket_by key value) × (b < 512) }
     ensures { KeySought ws.now key value result }
 {
@@ -226,25 +240,17 @@ fn find(ws: &[u64; 1665], b: usize, key: u64, value: u64) -> usize
     while 0 < end {
         let k = end - 1;
         if has_key(ws, k, key, value) {
-            return end;
+            return Some(NodeId(k));
         }
         end = (ws[k * 3] / LINK) as usize;
     }
-    end
-}
-
-// The node reached, and how many nodes were made on the way to it, 1 or 0 where a single one was to
-// be found or made; or that the words have no room.
-#[derive(Clone, Copy)]
-pub enum NodeEntered {
-    At(NodeId, usize),
-    Full,
+    None
 }
 
 // Whether a node with this first word has an optional entry: its own, or one of its parent's path.
-fn has_optional(head: u64, optional: &[u64; 8]) -> bool
+fn has_optional(head: u64, optional: &NodeBits) -> bool
     requires { Inside (unpack head 0 0) 512 }
-    ensures { result ≡ optional_over (members_of optional.now) (unpack head 0 0) }
+    ensures { result ≡ optional_over (members_of optional.now.words) (unpack head 0 0) }
 {
     let parent = head / PARENT % 65536;
     if parent == Node::ROOT {
@@ -253,77 +259,89 @@ fn has_optional(head: u64, optional: &[u64; 8]) -> bool
     if head / OPTIONAL % 2 == 1 {
         return true;
     }
-    let p = parent as usize;
-    (optional[p / 64] >> (p % 64)) % 2 == 1
+    optional.contains(NodeId(parent as usize))
 }
 
 // Node k, which has this first word, joins the set where it has an optional entry.
-fn note(optional: &mut [u64; 8], head: u64, k: usize)
-    requires { (length optional.old ≡ 8) × Inside (unpack head 0 0) 512 × (k < 512) }
-    ensures { (length optional.new ≡ 8)
-        × (members_of optional.new ≡ noted_with (members_of optional.old) (unpack head 0 0)
-        (record { 0 = k })) }
+fn note(optional: &mut NodeBits, head: u64, k: NodeId)
+    requires { Inside (unpack head 0 0) 512 × (k.0 < 512) }
+    ensures { members_of optional.new.words ≡ noted_with (members_of optional.old.words) (unpack head 0 0) k }
 {
     if has_optional(head, optional) {
-        let at = k / 64;
-        optional[at] = optional[at] | (1 << (k % 64));
+        optional.insert(k);
     }
 }
 
-// The node with the key and value of these words, made where there is none.
-fn find_or_make(
-    ws: &mut [u64; 1665],
-    optional: &mut [u64; 8],
-    head: u64,
-    value: u64,
-    span: u64,
-) -> NodeEntered
-    requires { Held ws.old optional.old × Packed head value span × (head < link_unit)
-        × Inside (unpack head value span) (count_in ws.old) }
-    ensures { Arrives (reached_for (registry_of ws.old) (unpack head value span)) result ws.new
-        optional.new }
-{
-    let key = head % REACTIVE;
-    let b = bucket(key, value);
-    let found = find(ws, b, key, value);
-    if 0 < found {
-        return NodeEntered::At(NodeId(found - 1), 0);
-    }
-    let end = count(ws);
-    if end < Node::LIMIT {
-        push(ws, b, head, value, span);
-        note(optional, head, end);
-        NodeEntered::At(NodeId(end), 1)
-    } else {
-        NodeEntered::Full
-    }
+// The registry: its words, and the set of its nodes with an optional entry.
+// Design: an array of one length, and no list of nodes that grows: the stage has no heap, and 512
+// nodes are all that it has room for (fixed memory).
+#[derive(Drop)]
+pub struct Registry {
+    pub words: [u64; 1665],
+    pub optional: NodeBits,
+    pub ghost held: { Held words optional.words } by { Prim.hlevel (props, StandsAt-prop) },
 }
 
-pub fn get_or_create_identifier(
-    ws: &mut [u64; 1665],
-    optional: &mut [u64; 8],
-    identifier: IdentifierId,
-    reactive: bool,
-    span: u64,
-) -> NodeEntered
-    requires { Held ws.old optional.old }
-    ensures { Arrives (get_or_create_identifier (registry_of ws.old) identifier reactive span) result ws.new
-        optional.new }
-{
-    let n = Node::root(identifier, reactive, span);
-    find_or_make(ws, optional, n.head(), n.value(), n.span())
-}
+impl Registry {
+    // With no node.
+    pub fn new() -> Registry
+        ensures { registry_of result.words ≡ [] }
+    {
+        Registry {
+            words: [0; 1665],
+            optional: NodeBits::empty(),
+        }
+    }
 
-pub fn get_or_create_property_entry(
-    ws: &mut [u64; 1665],
-    optional: &mut [u64; 8],
-    parent: NodeId,
-    entry: DependencyPathEntry,
-) -> NodeEntered
-    requires { Held ws.old optional.old × (parent.0 < count_in ws.old) }
-    ensures { Arrives (get_or_create_property_entry (registry_of ws.old) parent entry) result ws.new
-        optional.new }
-{
-    let n = Node::child(parent, entry);
-    find_or_make(ws, optional, n.head(), n.value(), n.span())
+    // The node with the key and value of these words, made where there is none, and how many nodes
+    // were made for it, 1 or 0.
+    // Design: a number, since the model's `made` is a sum of them.
+    fn find_or_make(&mut self, head: u64, value: u64, span: u64) -> Result<(NodeId, usize), Refusal>
+        requires { Packed head value span × (head < link_unit) × Inside (unpack head value span) (count_in self.old.words) }
+        ensures { Arrives (reached_for (registry_of self.old.words) (unpack head value span)) result self.new.words
+            self.new.optional.words }
+    {
+        let key = head % REACTIVE;
+        let b = bucket(key, value);
+        if let Some(k) = find(&self.words, b, key, value) {
+            return Ok((k, 0));
+        }
+        let end = count(&self.words);
+        if end < Node::LIMIT {
+            push(&mut self.words, b, head, value, span);
+            note(&mut self.optional, head, NodeId(end));
+            Ok((NodeId(end), 1))
+        } else {
+            Err(Refusal::ManyNodes)
+        }
+    }
+
+    // The root for an identifier.
+    // Design: two functions, as in the Rust, which differ in the node that they ask for.
+    pub fn get_or_create_identifier(
+        &mut self,
+        identifier: IdentifierId,
+        reactive: bool,
+        span: u64,
+    ) -> Result<(NodeId, usize), Refusal>
+        ensures { Arrives (get_or_create_identifier (registry_of self.old.words) identifier reactive span) result
+            self.new.words self.new.optional.words }
+    {
+        let n = Node::Root(identifier, reactive, span);
+        self.find_or_make(n.head(), n.value(), n.span())
+    }
+
+    // The child of a node by an entry.
+    pub fn get_or_create_property_entry(
+        &mut self,
+        parent: NodeId,
+        entry: DependencyPathEntry,
+    ) -> Result<(NodeId, usize), Refusal>
+        requires { parent.0 < count_in self.old.words }
+        ensures { Arrives (get_or_create_property_entry (registry_of self.old.words) parent entry) result
+            self.new.words self.new.optional.words }
+    {
+        let n = Node::Child(parent, entry);
+        self.find_or_make(n.head(), n.value(), n.span())
+    }
 }

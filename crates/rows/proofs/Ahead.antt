@@ -6,13 +6,13 @@ use native.Mathlib.Numerals.{add-one}
 use mathlib.Core.Bool.{true, false}
 use mathlib.Core.Path.{◌≡◌, refl, sym, ◌∙◌, ap}
 use mathlib.Core.List.{List, [], ◌∷◌}
+use Rattle.std.proofs.Common.{Some, None}
 use lib.Count.{count_trailing_zeros}
 use lib.ListN.{get_or}
 use lib.Pow.{shr_lt}
 use Rattle.entries.specs.declared.NodeId.{NodeId}
 use Rattle.model.specs.Sets.{NodeSet}
 use Rattle.model.specs.Tests.{decide}
-use Rattle.rows.specs.declared.Next.TheVariants.{At, Nothing}
 use Rattle.rows.specs.Members.{bit, has_bit, members_from, first_of}
 use Rattle.rows.proofs.Words.{zero_bit, shifted_bit, trailing_none, trailing_set}
 
@@ -67,7 +67,7 @@ module _ (ws : List ℕ) (k : ℕ) (small : k < 512) where
         let e : 64 - k % 64 + k % 64 ≡ 64 = omega arith in
         trailing_set 64 (64 - k % 64) (left ws k) (omega arith) (shr_lt (64 - k % 64) (k % 64) (rw e fits)) some
 
-    pub member_found : first_of (members_from ws k) ≡ At (record { 0 = k + count_trailing_zeros 64 (left ws k) })
+    pub member_found : first_of (members_from ws k) ≡ Some (record { 0 = k + count_trailing_zeros 64 (left ws k) })
     unfolding passed
     member_found =
         let l = lowest.0 in
@@ -82,7 +82,7 @@ pub record Ahead (ws : List ℕ) (k : ℕ) (j : NodeId) : Type 0 where
   pub rest : members_from ws k ≡ j ∷ members_from ws (j.0 + 1)
 
 module _ (ws : List ℕ) where
-  ahead : (n k : ℕ) (j : NodeId) → 512 - k ≡ n → first_of (members_from ws k) ≡ At j → Ahead ws k j
+  ahead : (n k : ℕ) (j : NodeId) → 512 - k ≡ n → first_of (members_from ws k) ≡ Some j → Ahead ws k j
   ahead zero k j l e = let none = none_past ws k (omega arith) in let z : ◌≡◌ {A = ℕ} 0 1 = cc in let f : ⊥ = omega arith in elim f [ ]
   ahead (suc n) k j l e =
       decide (has_bit ws k)
@@ -97,12 +97,12 @@ module _ (ws : List ℕ) where
       let le = rest.from in
       record { from = omega arith; below = rest.below; rest = here ∙ rest.rest })
 
-  pub next_at : (k : ℕ) (j : NodeId) → first_of (members_from ws k) ≡ At j → Ahead ws k j
+  pub next_at : (k : ℕ) (j : NodeId) → first_of (members_from ws k) ≡ Some j → Ahead ws k j
   next_at k j e = ahead (512 - k) k j refl e
 
-  pub next_nothing : (k : ℕ) → first_of (members_from ws k) ≡ Nothing → members_from ws k ≡ []
+  pub next_nothing : (k : ℕ) → first_of (members_from ws k) ≡ None → members_from ws k ≡ []
   next_nothing k e = empty (members_from ws k) e
     where
-      empty : (s : NodeSet) → first_of s ≡ Nothing → s ≡ []
+      empty : (s : NodeSet) → first_of s ≡ None → s ≡ []
       empty [] h = refl
       empty (x ∷ xs) h = let z : ◌≡◌ {A = ℕ} 0 1 = cc in let f : ⊥ = omega arith in elim f [ ]

@@ -1,44 +1,14 @@
 -- The intersection of rows: of the rows passed, met word by word, and of those still to come.
-use Prim.Native.Nat.{ℕ, zero, suc, ◌+◌, ◌*◌, ◌≤◌, ◌<◌}
+use Prim.Native.Nat.{ℕ, zero, suc, ◌≤◌, ◌<◌}
 use native.Mathlib.Omega.{arith}
-use native.Mathlib.Numerals.{add-one}
-use mathlib.Core.Path.{◌≡◌, sym, ap, ◌∙◌}
+use mathlib.Core.Path.{refl, ◌≡◌, ap}
 use mathlib.Core.List.{List, [], ◌∷◌, map, foldl}
-use lib.Bits.{bit_and}
-use lib.ListN.{length, get_or, drop, drop_of_length-le, replicate, get_or-replicate}
-use lib.Seq.{drop-cons, get_or-drop}
+use lib.ListN.{length, get_or, drop}
 use Rattle.model.specs.ListLaws.{All}
 use Rattle.model.specs.Sets.{NodeSet, intersection}
 use Rattle.model.specs.Propagation.{intersection_of}
 use Rattle.rows.specs.Members.{members_of}
 use Rattle.rows.specs.Rows.{row_of}
-use Rattle.rows.proofs.Members.{no_members, eight, intersected}
-
--- eight words, each with the word of the same number from a place on
-abbrev met_at : List ℕ → List ℕ → ℕ → List ℕ
-met_at words ws at =
-    bit_and (get_or words 0 0) (get_or ws at 0) ∷ bit_and (get_or words 1 0) (get_or ws (at + 1) 0) ∷ bit_and (get_or words 2 0) (get_or ws (at + 2) 0)
-    ∷ bit_and (get_or words 3 0) (get_or ws (at + 3) 0) ∷ bit_and (get_or words 4 0) (get_or ws (at + 4) 0) ∷ bit_and (get_or words 5 0) (get_or ws (at + 5) 0)
-    ∷ bit_and (get_or words 6 0) (get_or ws (at + 6) 0) ∷ bit_and (get_or words 7 0) (get_or ws (at + 7) 0) ∷ []
-
-met_is : (words ws : List ℕ) (at : ℕ) → eight bit_and words (drop at ws) ≡ met_at words ws at
-met_is words ws at =
-    let z : at + 0 ≡ at = omega arith in
-    rw (
-      get_or-drop at ws 0 0,
-      get_or-drop at ws 1 0,
-      get_or-drop at ws 2 0,
-      get_or-drop at ws 3 0,
-      get_or-drop at ws 4 0,
-      get_or-drop at ws 5 0,
-      get_or-drop at ws 6 0,
-      get_or-drop at ws 7 0,
-      z,
-    )
-
-pub row_met : (words ws : List ℕ) (b : ℕ) → members_of (met_at words ws (b * 8)) ≡ intersection (members_of words) (row_of ws b)
-unfolding row_of
-row_met words ws b = ap members_of (sym (met_is words ws (b * 8))) ∙ intersected words (drop (b * 8) ws)
 
 -- what holds of every place, at one of them
 pub all_at : (P : ℕ → Type 0) (places : List ℕ) (i : ℕ) → All P places → i < length places → P (get_or places i 0)
@@ -52,9 +22,9 @@ pub record Met (ws places found : List ℕ) (i : ℕ) : Type 0 where
   pub rest : foldl intersection (members_of found) (map (row_of ws) (drop i places)) ≡ intersection_of (map (row_of ws) places)
 
 -- of no place
-pub none_met : (ws places : List ℕ) → length places ≡ 0 → members_of (replicate 8 0) ≡ intersection_of (map (row_of ws) places)
+pub none_met : (ws places : List ℕ) → length places ≡ 0 → [] ≡ intersection_of (map (row_of ws) places)
 unfolding intersection_of
-none_met ws [] e = no_members (replicate 8 0) (λ i l. get_or-replicate 8 i 0 0 l)
+none_met ws [] e = refl
 none_met ws (p ∷ ps) e = absurd (omega arith)
 
 pub met_first : (ws places found : List ℕ) → 0 < length places → members_of found ≡ row_of ws (get_or places 0 0) → Met ws places found 1
@@ -64,18 +34,3 @@ met_first ws (p ∷ ps) found l e = record {
   within = omega arith;
   rest = ap (λ (s : NodeSet). foldl intersection s (map (row_of ws) ps)) e;
 }
-
-module _ {ws places found : List ℕ} {i : ℕ} (m : Met ws places found i) where
-  to_come : (bs : List ℕ) → drop i places ≡ bs → foldl intersection (members_of found) (map (row_of ws) bs) ≡ intersection_of (map (row_of ws) places)
-  to_come bs e = ap (λ (ks : List ℕ). foldl intersection (members_of found) (map (row_of ws) ks)) (sym e) ∙ m.rest
-
-  pub met_more : i < length places → (next : List ℕ) → members_of next ≡ intersection (members_of found) (row_of ws (get_or places i 0))
-      → Met ws places next (i + 1)
-  met_more l next e = record {
-    within = omega arith;
-    rest = ap (λ (s : NodeSet). foldl intersection s (map (row_of ws) (drop (i + 1) places))) e
-        ∙ to_come (get_or places i 0 ∷ drop (i + 1) places) (rw (add-one i) (drop-cons places i 0 l));
-  }
-
-  pub met_end : length places ≤ i → members_of found ≡ intersection_of (map (row_of ws) places)
-  met_end l = to_come [] (drop_of_length-le places l)

@@ -11,6 +11,7 @@ use lib.Seq.{get_or-set_same, get_or-set_other, ext_get_or}
 use lib.Bits.{bit_or, bit_and}
 use lib.Pow.{pow-lt}
 use lib.Dec.{eqb}
+use lib.Pointwise.{pointwise, bytes_decides}
 use borrow.Author.Tests.{eq-eqb, ne_eqb}
 use Rattle.entries.specs.declared.NodeId.{NodeId}
 use Rattle.model.specs.Lists.{select}
@@ -136,43 +137,44 @@ module _ (ws : List ℕ) (k : NodeId) (long : length ws ≡ 8) (small : k.0 < 51
       bit_changed without (λ a b. a && not b) without_bit and-true ws k long small
       ∙ sym (remove_selected (λ j. has_bit ws j.0) (nodes_from 0 512) k)
 
--- all eight words by an operation
+-- what holds of each of eight words
+abbrev pub Eight : (ℕ → Type 0) → Type 0
+Eight P = P 0 × P 1 × P 2 × P 3 × P 4 × P 5 × P 6 × P 7
 
-abbrev pub eight : (ℕ → ℕ → ℕ) → List ℕ → List ℕ → List ℕ
-eight op a b =
-    op (get_or a 0 0) (get_or b 0 0) ∷ op (get_or a 1 0) (get_or b 1 0) ∷ op (get_or a 2 0) (get_or b 2 0) ∷ op (get_or a 3 0) (get_or b 3 0)
-    ∷ op (get_or a 4 0) (get_or b 4 0) ∷ op (get_or a 5 0) (get_or b 5 0) ∷ op (get_or a 6 0) (get_or b 6 0) ∷ op (get_or a 7 0) (get_or b 7 0) ∷ []
+pub word_at : (P : ℕ → Type 0) → Eight P → (i : ℕ) → i < 8 → P i
+word_at P w zero l = w.0
+word_at P w (suc zero) l = w.1
+word_at P w (suc (suc zero)) l = w.2
+word_at P w (suc (suc (suc zero))) l = w.3
+word_at P w (suc (suc (suc (suc zero)))) l = w.4
+word_at P w (suc (suc (suc (suc (suc zero))))) l = w.5
+word_at P w (suc (suc (suc (suc (suc (suc zero)))))) l = w.6
+word_at P w (suc (suc (suc (suc (suc (suc (suc zero))))))) l = w.7
+word_at P w (suc (suc (suc (suc (suc (suc (suc (suc i)))))))) l = let z : ⊥ = omega arith in elim z [ ]
 
-eight_at : (op : ℕ → ℕ → ℕ) (a b : List ℕ) (i : ℕ) → i < 8 → get_or (eight op a b) i 0 ≡ op (get_or a i 0) (get_or b i 0)
-eight_at op a b zero l = refl
-eight_at op a b (suc zero) l = refl
-eight_at op a b (suc (suc zero)) l = refl
-eight_at op a b (suc (suc (suc zero))) l = refl
-eight_at op a b (suc (suc (suc (suc zero)))) l = refl
-eight_at op a b (suc (suc (suc (suc (suc zero))))) l = refl
-eight_at op a b (suc (suc (suc (suc (suc (suc zero)))))) l = refl
-eight_at op a b (suc (suc (suc (suc (suc (suc (suc zero))))))) l = refl
-eight_at op a b (suc (suc (suc (suc (suc (suc (suc (suc i)))))))) l = let z : ⊥ = omega arith in elim z [ ]
+-- The words of c are those of a and b by an operation.
+abbrev pub Wordwise : (ℕ → ℕ → ℕ) → List ℕ → List ℕ → List ℕ → Type 0
+Wordwise op a b c = Eight (λ i. get_or c i 0 ≡ op (get_or a i 0) (get_or b i 0))
 
-eight_members : (op : ℕ → ℕ → ℕ) (f : Bool → Bool → Bool) → ((a b m : ℕ) → bit (op a b) m ≡ f (bit a m) (bit b m)) → (a b : List ℕ)
-    → members_of (eight op a b) ≡ select (λ j. f (has_bit a j.0) (has_bit b j.0)) (nodes_from 0 512)
+wordwise_members : (op : ℕ → ℕ → ℕ) (f : Bool → Bool → Bool) → ((a b m : ℕ) → bit (op a b) m ≡ f (bit a m) (bit b m)) → (a b c : List ℕ)
+    → Wordwise op a b c → members_of c ≡ select (λ j. f (has_bit a j.0) (has_bit b j.0)) (nodes_from 0 512)
 unfolding has_bit
-eight_members op f op_bit a b =
-    members_by (eight op a b) (λ j. f (has_bit a j.0) (has_bit b j.0))
+wordwise_members op f op_bit a b c w =
+    members_by c (λ j. f (has_bit a j.0) (has_bit b j.0))
     (λ j l.
-    ap (λ (w : ℕ). bit w (j.0 % 64)) (eight_at op a b (j.0 / 64) (omega arith))
+    ap (λ (w : ℕ). bit w (j.0 % 64)) (word_at (λ i. get_or c i 0 ≡ op (get_or a i 0) (get_or b i 0)) w (j.0 / 64) (omega arith))
     ∙ op_bit (get_or a (j.0 / 64) 0) (get_or b (j.0 / 64) 0) (j.0 % 64))
 
-pub united : (a b : List ℕ) → members_of (eight bit_or a b) ≡ union (members_of a) (members_of b)
+pub united : (a b c : List ℕ) → Wordwise bit_or a b c → members_of c ≡ union (members_of a) (members_of b)
 unfolding members_from
-united a b =
-    eight_members bit_or (λ x y. x || y) or_bit a b
+united a b c w =
+    wordwise_members bit_or (λ x y. x || y) or_bit a b c w
     ∙ sym (union_selected (λ j. has_bit a j.0) (λ j. has_bit b j.0) 0 (nodes_from 0 512) (nodes_ascending 0 512))
 
-pub intersected : (a b : List ℕ) → members_of (eight bit_and a b) ≡ intersection (members_of a) (members_of b)
+pub intersected : (a b c : List ℕ) → Wordwise bit_and a b c → members_of c ≡ intersection (members_of a) (members_of b)
 unfolding members_from
-intersected a b =
-    eight_members bit_and (λ x y. x && y) and_bit a b
+intersected a b c w =
+    wordwise_members bit_and (λ x y. x && y) and_bit a b c w
     ∙ sym (intersection_selected (λ j. has_bit a j.0) (λ j. has_bit b j.0) (nodes_from 0 512))
 
 -- equal sets
@@ -204,13 +206,17 @@ module _ (a b : List ℕ) (i : ℕ) (at : i < 8) (fa : get_or a i 0 < 2 ^ 64) (f
           ∙ ap (λ (s : NodeSet). contains s (record { 0 = n })) e
           ∙ contains_members b (record { 0 = n }) l
 
-  pub word_differs : (get_or a i 0 ≡ get_or b i 0 → ⊥) → same_set (members_of a) (members_of b) ≡ false
-  word_differs n = decide (same_set (members_of a) (members_of b)) (λ e. elim (n (word_same (same_lists (members_of a) (members_of b) e))) [ ]) (λ e. e)
-
-pub words_agree : (a b : List ℕ) → ((i : ℕ) → i < 8 → get_or a i 0 ≡ get_or b i 0) → same_set (members_of a) (members_of b) ≡ true
-words_agree a b h = ap (λ (s : NodeSet). same_set s (members_of b)) (members_same a b h) ∙ same_self (members_of b)
-
 -- two values with the same members are equal
 pub members_injective : (a b : List ℕ) → length a ≡ 8 → length b ≡ 8 → ((i : ℕ) → get_or a i 0 < 2 ^ 64) → ((i : ℕ) → get_or b i 0 < 2 ^ 64)
     → members_of a ≡ members_of b → a ≡ b
 members_injective a b la lb fa fb e = ext_get_or 0 a b (la ∙ sym lb) (λ i l. word_same a b i (omega arith) (fa i) (fb i) e)
+
+-- `==` on the words of two sets
+pub words_equal : (a b : List ℕ) → length a ≡ 8 → length b ≡ 8 → ((i : ℕ) → get_or a i 0 < 2 ^ 64) → ((i : ℕ) → get_or b i 0 < 2 ^ 64)
+    → pointwise eqb a b ≡ same_set (members_of a) (members_of b)
+words_equal a b la lb fa fb =
+    decide (pointwise eqb a b)
+    (λ e. e ∙ sym (ap (λ (ws : List ℕ). same_set (members_of ws) (members_of b)) ((bytes_decides a b).0 e) ∙ same_self (members_of b)))
+    (λ e. e ∙ sym (decide (same_set (members_of a) (members_of b))
+    (λ h. never ((bytes_decides a b).1 (members_injective a b la lb fa fb (same_lists (members_of a) (members_of b) h))) e)
+    (λ h. h)))

@@ -2,7 +2,7 @@
 use Prim.Native.Nat.{ℕ, zero, suc, ◌+◌, ◌*◌, ◌-◌, ◌≤◌, ◌<◌}
 use native.Mathlib.Omega.{arith}
 use native.Mathlib.Nat.{zero-add}
-use native.Mathlib.Decide.{ℕ_discrete, dec_lt}
+use native.Mathlib.Decide.{dec_lt}
 use mathlib.Core.Path.{◌≡◌, refl, sym, ◌∙◌, ap}
 use mathlib.Core.List.{List, [], ◌++◌}
 use lib.ListN.{length, get_or, set, take, drop, get_or-append}
@@ -12,7 +12,7 @@ use Rattle.model.specs.Sets.{NodeSet}
 use Rattle.model.specs.SetLaws.{Ascending}
 use Rattle.rows.specs.Members.{members_of}
 use Rattle.rows.specs.Rows.{Lent, RowSet, row_of, rows_from, rows_of}
-use Rattle.rows.proofs.Members.{members_same, members_ascending, members_below}
+use Rattle.rows.proofs.Members.{Eight, word_at, members_same, members_ascending, members_below}
 
 -- what every row has
 
@@ -48,13 +48,9 @@ pub row_same : (vs ws : List ℕ) (b : ℕ) → ((i : ℕ) → i < 8 → get_or 
 unfolding row_of
 row_same vs ws b h = members_same vs (drop (b * 8) ws) (λ i l. h i l ∙ sym (get_or-drop (b * 8) ws i 0))
 
--- one word more of a copy
-pub word_copied : (l ws : List ℕ) (start i : ℕ) → i < length l → ((j : ℕ) → j < i → get_or l j 0 ≡ get_or ws (start + j) 0)
-    → (j : ℕ) → j < i + 1 → get_or (set l i (get_or ws (start + i) 0)) j 0 ≡ get_or ws (start + j) 0
-word_copied l ws start i room h j less = elim (ℕ_discrete j i) [
-  | yes e ↦ rw (e, get_or-set_same l i (get_or ws (start + i) 0) 0 room)
-  | no n ↦ get_or-set_other l i j (get_or ws (start + i) 0) 0 n ∙ h j (omega (arith, n))
-]
+-- a copy of a row's words
+pub row_copied : (vs ws : List ℕ) (b : ℕ) → Eight (λ i. get_or vs i 0 ≡ get_or ws (b * 8 + i) 0) → members_of vs ≡ row_of ws b
+row_copied vs ws b w = row_same vs ws b (λ i l. word_at (λ i. get_or vs i 0 ≡ get_or ws (b * 8 + i) 0) w i l)
 
 -- one row changed, and no other
 

@@ -1,10 +1,8 @@
 -- The members of a set that is held as eight words of 64 bits.
-use Rattle.std.specs.Prelude.{ℕ, zero, suc, ◌-◌, ◌/◌, ◌%◌, ◌^◌, Bool, List, [], ◌∷◌, get_or, eqb}
+use Rattle.std.specs.Prelude.{ℕ, zero, suc, ◌-◌, ◌/◌, ◌%◌, ◌^◌, Bool, List, [], ◌∷◌, get_or, eqb, Option, Some, None}
 use Rattle.entries.specs.declared.NodeId.{NodeId}
 use Rattle.model.specs.Lists.{select}
 use Rattle.model.specs.Sets.{NodeSet}
-use Rattle.rows.specs.declared.Next.{Next}
-use Rattle.rows.specs.declared.Next.TheVariants.{At, Nothing}
 
 -- bit m of a word is set
 abbrev pub bit : ℕ → ℕ → Bool
@@ -28,6 +26,6 @@ abbrev pub members_of : List ℕ → NodeSet
 members_of ws = members_from ws 0
 
 -- The first of an ascending list, where there is one.
-abbrev pub first_of : NodeSet → Next
-first_of [] = Nothing
-first_of (k ∷ ks) = At k
+abbrev pub first_of : NodeSet → Option NodeId
+first_of [] = None
+first_of (k ∷ ks) = Some k

@@ -9,11 +9,13 @@ ghost use Rattle.stage.specs.Jobs.{Meets};
 ghost use Rattle.run.specs.Fronts.{ConsumesFront, AppendsFront};
 ghost use Rattle.run.specs.Programs.{program_of, operation_of, bytes_read, bytes_lent, Responds, GivesToWrite};
 
-use stage::Outcome;
+use entries::Refusal;
 use std::io;
 use std::io::{Read, Write};
 
 // A program, by its operation.
+// Design: an enum and no closure, since the contracts of `run` and `run_between`, which are public,
+// say by it what is written: a closure's caller would have to show what `program_of` says.
 #[derive(Clone, Copy)]
 pub enum Program {
     Answer,
@@ -24,7 +26,7 @@ pub enum Program {
 }
 
 // The operation of a program.
-pub fn perform(program: Program, s: &[u8], out: &mut [u8]) -> Outcome
+pub fn perform(program: Program, s: &[u8], out: &mut [u8]) -> Result<usize, Refusal>
     ensures { Meets (operation_of program s.now out.old) result out.old out.new }
 {
     match program {
@@ -36,19 +38,18 @@ pub fn perform(program: Program, s: &[u8], out: &mut [u8]) -> Outcome
     }
 }
 
-// The job is the first `got` bytes of the space in which a program reads it. How many bytes at the
-// buffer's start are to be written: the operation's, or RF and the refusal's number.
-fn respond(program: Program, space: &[u8], got: usize, out: &mut [u8]) -> usize
-    requires { (length space.now ≡ bytes_read) × (got ≤ bytes_read) × (length out.old ≡ bytes_lent) }
-    ensures { Responds program (take got space.now) out.old out.new result }
+// How many bytes at the buffer's start are to be written: the operation's, or RF and the refusal's
+// number.
+fn respond(program: Program, job: &[u8], out: &mut [u8]) -> usize
+    requires { length out.old ≡ bytes_lent }
+    ensures { Responds program job.now out.old out.new result }
 {
-    let outcome = perform(program, &space[..got], out);
-    match outcome {
-        Outcome::Written(length) => length,
-        Outcome::Refused(refusal) => {
-            out[0] = b'R';
-            out[1] = b'F';
-            out[2] = refusal.number();
+    match perform(program, job, out) {
+        Ok(length) => length,
+        Err(refusal) => {
+            // Design: three bytes that `replay` spells too, since a function for both would be
+            // public, with a contract and an edit of its own, and no shorter.
+            out[..3].copy_from_slice(&[b'R', b'F', u8::from(refusal)]);
             3
         }
     }
@@ -65,6 +66,7 @@ pub fn read_full<R: Read>(reader: &mut R, space: &mut [u8]) -> io::Result<usize>
     ensures err { OnErr result (ConsumesFront (R.remaining reader.old) (R.remaining reader.new)
         space.new) }
 {
+    // Design: a place and no `for`: each read says how far it moves, and the place is returned.
     let mut got = 0;
     while got < space.len() {
         let n = reader.read(&mut space[got..])?;
@@ -84,13 +86,15 @@ pub fn write_full<W: Write>(writer: &mut W, bytes: &[u8]) -> io::Result<()>
     ensures err { OnErr result (AppendsFront (W.contents writer.old) (W.contents writer.new)
         bytes.now) }
 {
-    let mut done = 0;
-    while done < bytes.len() {
-        let taken = writer.write(&bytes[done..])?;
+    // Design: a loop and no `write_all`, whose contract does not say what was written on an error,
+    // as the clause `err` does.
+    let mut rest = bytes;
+    while !rest.is_empty() {
+        let taken = writer.write(rest)?;
         if taken == 0 {
             return Err(io::ErrorKind::WriteZero.into());
         }
-        done += taken;
+        rest = &rest[taken..];
     }
     Ok(())
 }
@@ -114,7 +118,7 @@ pub fn run_between<R: Read, W: Write>(
     let mut space = [0u8; 65536];
     let got = read_full(reader, &mut space)?;
     let mut out = [0u8; 32768];
-    let n = respond(program, &space, got, &mut out);
+    let n = respond(program, &space[..got], &mut out);
     write_full(writer, &out[..n])?;
     Ok(n)
 }

@@ -1,11 +1,11 @@
 -- The bytes of a row are the bytes of its words, each word's lowest first.
-use Prim.Native.Nat.{ℕ, zero, suc, ◌+◌, ◌*◌, ◌-◌, ◌/◌, ◌%◌, ◌^◌, ◌≤◌, ◌<◌}
+use Prim.Native.Nat.{ℕ, zero, suc, ◌+◌, ◌*◌, ◌-◌, ◌/◌, ◌%◌, ◌^◌, ◌<◌}
 use native.Mathlib.Omega.{arith}
 use native.Mathlib.Nat.{pow-suc, div-one, mod-one, mod-lt}
 use mathlib.Core.Path.{◌≡◌, refl, sym, ap, ◌∙◌}
 use mathlib.Core.List.{List, [], ◌∷◌, ◌++◌}
-use lib.ListN.{get_or, drop}
-use lib.Seq.{get_or-drop}
+use lib.ListN.{get_or, take, drop}
+use lib.Seq.{get_or-take, get_or-drop}
 use lib.Arith.{mod-mul}
 use lib.Pow.{pow_pos}
 use lib.Dec.{eqb}
@@ -66,19 +66,21 @@ word_agrees sets b i l m k =
     contains_members (drop (b * 8) sets) (record { 0 = 64 * i + m }) (omega arith)
     ∙ rw (q, r) (ap (λ (w : ℕ). bit w m) (get_or-drop (b * 8) sets i 0))
 
--- what is to come of a row from word i on: this word's bytes, and those from the next on
-pub row_more : (sets : List ℕ) (b i : ℕ) → i < 8
-    → row_bytes (row_of sets b) (64 * i) (8 * (8 - i))
-    ≡ number_bytes 8 (get_or sets (b * 8 + i) 0) ++ row_bytes (row_of sets b) (64 * (i + 1)) (8 * (8 - (i + 1)))
-row_more sets b i l =
-    let e : 8 * (8 - i) ≡ 8 + 8 * (8 - (i + 1)) = omega arith in
-    let f : 64 * i + 8 * 8 ≡ 64 * (i + 1) = omega arith in
-    ap (row_bytes (row_of sets b) (64 * i)) e
-    ∙ bytes_split 8 (8 * (8 - (i + 1))) (row_of sets b) (64 * i)
-    ∙ ap (λ (bs : List ℕ). bs ++ row_bytes (row_of sets b) (64 * i + 8 * 8) (8 * (8 - (i + 1))))
-    (bytes_are 8 (row_of sets b) (get_or sets (b * 8 + i) 0) (64 * i) (word_agrees sets b i l))
-    ∙ ap (λ (k : ℕ). number_bytes 8 (get_or sets (b * 8 + i) 0) ++ row_bytes (row_of sets b) k (8 * (8 - (i + 1)))) f
+-- the bytes of the row up to word i and this word's bytes are those up to the next
+pub row_next : (sets : List ℕ) (b i : ℕ) → i < 8
+    → row_bytes (row_of sets b) 0 (8 * i) ++ number_bytes 8 (get_or sets (b * 8 + i) 0) ≡ row_bytes (row_of sets b) 0 (8 * (i + 1))
+row_next sets b i l =
+    let e : 8 * i + 8 ≡ 8 * (i + 1) = omega arith in
+    let f : 64 * i ≡ 0 + 8 * (8 * i) = omega arith in
+    ap (λ (bs : List ℕ). row_bytes (row_of sets b) 0 (8 * i) ++ bs)
+    (sym (bytes_are 8 (row_of sets b) (get_or sets (b * 8 + i) 0) (64 * i) (word_agrees sets b i l)) ∙ ap (λ (k : ℕ). row_bytes (row_of sets b) k 8) f)
+    ∙ sym (bytes_split (8 * i) 8 (row_of sets b) 0)
+    ∙ ap (row_bytes (row_of sets b) 0) e
 
-pub row_over : (s : NodeSet) (i : ℕ) → 8 ≤ i → row_bytes s (64 * i) (8 * (8 - i)) ≡ []
+pub row_none : (s : NodeSet) → [] ≡ row_bytes s 0 (8 * 0)
 unfolding row_bytes
-row_over s i l = let e : 8 * (8 - i) ≡ 0 = omega arith in rw e
+row_none s = refl
+
+-- the row's words, as a part of all words
+pub word_at : (sets : List ℕ) (b i : ℕ) → i < 8 → get_or (take (b * 8 + 8 - b * 8) (drop (b * 8) sets)) i 0 ≡ get_or sets (b * 8 + i) 0
+word_at sets b i l = get_or-take (b * 8 + 8 - b * 8) (drop (b * 8) sets) i 0 (omega arith) ∙ get_or-drop (b * 8) sets i 0

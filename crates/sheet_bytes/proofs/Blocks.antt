@@ -1,9 +1,9 @@
 -- The bytes of the blocks: what is to come of them, and that they are those of the job's blocks.
-use Prim.Native.Nat.{ℕ, zero, suc, ◌+◌, ◌-◌, ◌≤◌, ◌<◌}
+use Prim.Native.Nat.{ℕ, zero, suc, ◌+◌, ◌<◌}
 use native.Mathlib.Omega.{arith}
-use native.Mathlib.Nat.{zero-add}
+use native.Mathlib.Nat.{zero-add, add-zero}
 use mathlib.Core.Path.{◌≡◌, refl, sym, ap, ◌∙◌}
-use mathlib.Core.List.{List, [], ◌∷◌, ◌++◌, map}
+use mathlib.Core.List.{List, [], ◌∷◌, ◌++◌, map, append_assoc, append-nil}
 use lib.ListN.{length, get_or, take, length-append, get_or-map}
 use lib.Seq.{get_or-take}
 use Rattle.entries.specs.declared.BlockId.{BlockId}
@@ -23,19 +23,29 @@ pub block_length : (id : BlockId) (s : NodeSet) → length (set_record id s) ≡
 block_length id s = simp (length-append, number_length, row_length)
 
 module _ (numbers rows : List ℕ) where
-  -- what is to come from block b on: its bytes, and those from the next on
-  pub blocks_more : (b n : ℕ) → b < n
-      → set_records numbers rows b (n - b) ≡ set_record (block_id (get_or numbers b 0)) (row_of rows b) ++ set_records numbers rows (b + 1) (n - (b + 1))
+  -- block b + n behind the n blocks from b on
+  blocks_last : (n b : ℕ) → set_records numbers rows b n ++ set_record (block_id (get_or numbers (b + n) 0)) (row_of rows (b + n)) ≡ set_records numbers
+      rows b (suc n)
   unfolding set_records
-  blocks_more b n l =
-      let e : n - b ≡ suc (n - (b + 1)) = omega arith in
-      let f : suc b ≡ b + 1 = omega arith in
-      ap (set_records numbers rows b) e
-      ∙ ap (λ (k : ℕ). set_record (block_id (get_or numbers b 0)) (row_of rows b) ++ set_records numbers rows k (n - (b + 1))) f
+  blocks_last zero b = rw (add-zero b) (sym (append-nil (set_record (block_id (get_or numbers b 0)) (row_of rows b))))
+  blocks_last (suc n) b =
+      let e : b + suc n ≡ suc b + n = omega arith in
+      append_assoc (set_record (block_id (get_or numbers b 0)) (row_of rows b)) (set_records numbers rows (suc b) n)
+      (set_record (block_id (get_or numbers (b + suc n) 0)) (row_of rows (b + suc n)))
+      ∙ ap (λ (ys : List ℕ). set_record (block_id (get_or numbers b 0)) (row_of rows b) ++ ys)
+      (ap (λ (k : ℕ). set_records numbers rows (suc b) n ++ set_record (block_id (get_or numbers k 0)) (row_of rows k)) e ∙ blocks_last n (suc b))
 
-  pub blocks_over : (b n : ℕ) → n ≤ b → set_records numbers rows b (n - b) ≡ []
+  -- the blocks up to b, and block b
+  pub blocks_next : (b : ℕ) → set_records numbers rows 0 b ++ set_record (block_id (get_or numbers b 0)) (row_of rows b)
+      ≡ set_records numbers rows 0 (b + 1)
+  blocks_next b =
+      let e : suc b ≡ b + 1 = omega arith in
+      ap (λ (k : ℕ). set_records numbers rows 0 b ++ set_record (block_id (get_or numbers k 0)) (row_of rows k)) (sym (zero-add b))
+      ∙ blocks_last b 0 ∙ ap (set_records numbers rows 0) e
+
+  pub blocks_none : [] ≡ set_records numbers rows 0 0
   unfolding set_records
-  blocks_over b n l = let e : n - b ≡ 0 = omega arith in ap (set_records numbers rows b) e
+  blocks_none = refl
 
   -- The blocks of a job from block b on.
 

@@ -1,4 +1,3 @@
-pub mod Coming
 pub mod Bits
 pub mod Nodes
 pub mod Blocks

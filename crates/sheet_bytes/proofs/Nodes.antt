@@ -1,12 +1,11 @@
 -- A node of the model's registry by the node in the words, and the bytes of the nodes.
-use Prim.Native.Nat.{ℕ, zero, suc, ◌+◌, ◌*◌, ◌≤◌, ◌<◌}
+use Prim.Native.Nat.{ℕ, zero, suc, ◌*◌, ◌<◌}
 use native.Mathlib.Omega.{arith}
 use native.Mathlib.Nat.{not-suc-le-zero}
 use mathlib.Core.Path.{◌≡◌, refl, sym, ap, subst, ◌∙◌}
 use mathlib.Core.Bool.{Bool}
 use mathlib.Core.List.{List, [], ◌∷◌, ◌++◌, append_assoc, append-nil}
-use lib.ListN.{length, get_or, take, drop, length-append, drop_of_length-le}
-use lib.Seq.{drop-cons}
+use lib.ListN.{length, get_or, take, length-append}
 use Rattle.entries.specs.declared.IdentifierId.{IdentifierId}
 use Rattle.entries.specs.declared.NodeId.{NodeId}
 use Rattle.entries.specs.declared.DependencyPathEntry.{DependencyPathEntry}
@@ -94,17 +93,6 @@ pub node_written : (ws : List ℕ) (k : ℕ) → k < count_in ws → (n : Node) 
 node_written ws k l n r p s f loaded er ep es ef =
     node_bytes_lem (Placed.node_at (registry_of ws) k) (origin_of n) r p s f (origin_at ws k l ∙ ap origin_of (sym loaded)) er ep
     (span_at ws k l ∙ ap span_in (sym loaded) ∙ sym es) ef
-
--- What is to come from node i on: its bytes, and those from the next on.
-
-pub nodes_more : (reg : PropertyPathRegistry) (i : ℕ) → i < length reg → concat_map (node_bytes 4) (drop i reg) ≡ node_bytes 4
-    (Placed.node_at reg i) ++ concat_map (node_bytes 4) (drop (i + 1) reg)
-nodes_more reg i l =
-    let e : suc i ≡ i + 1 = omega arith in
-    ap (concat_map (node_bytes 4)) (drop-cons reg i _ l) ∙ ap (λ (k : ℕ). node_bytes 4 (Placed.node_at reg i) ++ concat_map (node_bytes 4) (drop k reg)) e
-
-pub nodes_over_lem : (reg : PropertyPathRegistry) (i : ℕ) → length reg ≤ i → concat_map (node_bytes 4) (drop i reg) ≡ []
-nodes_over_lem reg i l = ap (concat_map (node_bytes 4)) (drop_of_length-le reg l)
 
 pub nodes_length : (ns : List PropertyPathNode) → length (concat_map (node_bytes 4) ns) ≡ 23 * length ns
 nodes_length [] = refl

@@ -9,14 +9,15 @@ ghost use Rattle.model.specs.Lists.{concat_map};
 ghost use Rattle.model.specs.Answer.{parent_number, origin_bytes, node_bytes, row_bytes, sheet_head, least_buffer, span_width};
 ghost use Rattle.rows.specs.Rows.{Lent, row_of};
 ghost use Rattle.registry.specs.Nodes.{origin_of};
-ghost use Rattle.registry.specs.Words.{count_in, registry_of, HoldsRegistry};
-ghost use Rattle.writer.specs.Writes.{Writes};
+ghost use Rattle.registry.specs.Words.{count_in, registry_of};
+ghost use Rattle.writer.specs.Writes.{HasRoom, Puts};
 ghost use Rattle.sheet_bytes.specs.Sheet.{root_of, set_record, set_records, WritesSheet};
 
-use entries::{BlockId, IdentifierId, NodeId};
-use registry::Node;
-use writer::{flag, put_number, put_step};
+use entries::{BlockId, IdentifierId, NodeId, RoundsRun};
+use registry::{Node, Nodes};
+use writer::Writer;
 
+// Design: a mark is the number that its two bytes make, as the format has it; no code goes by it.
 // "SH", "NO" and "SE", the marks of a sheet, a node and a set.
 const SH: u64 = 0x4853;
 
@@ -32,14 +33,15 @@ pub struct PathRoot {
 }
 
 // What node k's path has of its root, which is reached from parent to parent.
-fn root_of(ws: &[u64; 1665], k: NodeId) -> PathRoot
-    requires { HoldsRegistry ws.now × (k.0 < count_in ws.now) }
-    ensures { result ≡ root_of (full_path_of (registry_of ws.now) k) }
+// Design: a walk beside those of `hoistable` and `reduction`, which take other things on the way:
+// an iterator for all would be longer than the line that they share.
+fn root_of(nodes: Nodes, k: NodeId) -> PathRoot
+    requires { k.0 < count_in nodes.words.now }
+    ensures { result ≡ root_of (full_path_of (registry_of nodes.entry.words.now) k) }
 {
     let mut at = k;
     loop {
-        let n = registry::load(ws, at);
-        match n {
+        match nodes.load(at) {
             Node::Root(identifier, reactive, _) => {
                 return PathRoot {
                     identifier,
@@ -64,134 +66,104 @@ fn parent_number(n: Node) -> u64
 }
 
 // The entry by which a node is a child: optional, kind and value, or as many zeros for a root.
-fn put_origin(out: &mut [u8], at: usize, n: Node) -> usize
-    requires { at + 10 ≤ length out.old }
-    ensures { Writes out.old out.new at (origin_bytes (origin_of n)) result }
+fn put_origin(w: &mut Writer, n: Node)
+    requires { HasRoom w.old 10 }
+    ensures { Puts w.old w.new 10 (origin_bytes (origin_of n)) }
 {
     match n {
-        Node::Root(_, _, _) => put_number(out, at, 10, 0),
-        Node::Child(_, entry) => put_step(out, at, entry),
+        Node::Root(_, _, _) => w.number(10, 0),
+        Node::Child(_, entry) => w.step(entry),
     }
 }
 
 // A node: its parent, its root's identifier, the entry by which it is a child, its span and its
 // root's reactive mark.
-fn put_node(ws: &[u64; 1665], k: NodeId, out: &mut [u8], at: usize) -> usize
-    requires { HoldsRegistry ws.now × (k.0 < count_in ws.now) × (at + 23 ≤ length out.old) }
-    ensures { Writes out.old out.new at
-        (node_bytes span_width (node_at (registry_of ws.now) k.0)) result }
+fn put_node(nodes: Nodes, k: NodeId, w: &mut Writer)
+    requires { (k.0 < count_in nodes.words.now) × HasRoom w.old 23 }
+    ensures { Puts w.old w.new 23 (node_bytes span_width (node_at (registry_of nodes.entry.words.now) k.0)) }
 {
-    let n = registry::load(ws, k);
-    let root = root_of(ws, k);
-    let identifier = root.identifier;
-    let parent_at = put_number(out, at, 2, NO);
-    let identifier_at = put_number(out, parent_at, 2, parent_number(n));
-    let origin_at = put_number(out, identifier_at, 4, identifier.0 as u64);
-    let span_at = put_origin(out, origin_at, n);
-    let reactive_at = put_number(out, span_at, 4, n.span());
-    put_number(out, reactive_at, 1, flag(root.reactive))
+    let n = nodes.load(k);
+    let root = root_of(nodes, k);
+    w.number(2, NO);
+    w.number(2, parent_number(n));
+    w.number(4, u64::from(root.identifier.0));
+    put_origin(w, n);
+    w.number(4, n.span());
+    w.number(1, u64::from(root.reactive));
 }
 
 // All nodes, in the order of their making.
-fn put_nodes(ws: &[u64; 1665], out: &mut [u8], start: usize) -> usize
-    requires { HoldsRegistry ws.now × (start + 23 * 512 ≤ length out.old) }
-    ensures { Writes out.old out.new start
-        (concat_map (node_bytes span_width) (registry_of ws.now)) result }
+fn put_nodes(nodes: Nodes, w: &mut Writer)
+    requires { HasRoom w.old (23 * 512) }
+    ensures { Puts w.old w.new (23 * count_in nodes.entry.words.now)
+        (concat_map (node_bytes span_width) (registry_of nodes.entry.words.now)) }
 {
-    let end = registry::count(ws);
-    let mut at = start;
-    let mut i: usize = 0;
-    while i < end {
-        at = put_node(ws, NodeId(i), out, at);
-        i += 1;
+    for k in 0..nodes.count() {
+        put_node(nodes, NodeId(k), w);
     }
-    at
 }
 
 // Row b: node k is bit k % 64 of word k / 64, so a word's bytes, lowest first, are the row's.
-fn put_row(sets: &[u64], b: usize, out: &mut [u8], start: usize) -> usize
-    requires { Lent (b + 1) sets.now × (start + 64 ≤ length out.old) }
-    ensures { Writes out.old out.new start (row_bytes (row_of sets.now b) 0 64) result }
+fn put_row(sets: &[u64], b: usize, w: &mut Writer)
+    requires { Lent (b + 1) sets.now × HasRoom w.old 64 }
+    ensures { Puts w.old w.new 64 (row_bytes (row_of sets.now b) 0 64) }
 {
-    let first = b * 8;
-    let mut at = start;
-    let mut i: usize = 0;
-    while i < 8 {
-        at = put_number(out, at, 8, sets[first + i]);
-        i += 1;
+    for word in &sets[b * 8..b * 8 + 8] {
+        w.number(8, *word);
     }
-    at
 }
 
 // Block b: its id and its set.
-fn put_block(sets: &[u64], b: usize, id: BlockId, out: &mut [u8], at: usize) -> usize
-    requires { Lent (b + 1) sets.now × (at + 70 ≤ length out.old) }
-    ensures { Writes out.old out.new at (set_record id (row_of sets.now b)) result }
+fn put_block(sets: &[u64], b: usize, id: BlockId, w: &mut Writer)
+    requires { Lent (b + 1) sets.now × HasRoom w.old 70 }
+    ensures { Puts w.old w.new 70 (set_record id (row_of sets.now b)) }
 {
-    let id_at = put_number(out, at, 2, SE);
-    let row_at = put_number(out, id_at, 4, id.0 as u64);
-    put_row(sets, b, out, row_at)
+    w.number(2, SE);
+    w.number(4, u64::from(id.0));
+    put_row(sets, b, w);
 }
 
 // All blocks, in job order.
-fn put_blocks(sets: &[u64], ids: &[u32; 128], blocks: usize, out: &mut [u8], start: usize) -> usize
-    requires { (blocks ≤ 128) × Lent blocks sets.now × (start + 70 * 128 ≤ length out.old) }
-    ensures { Writes out.old out.new start (set_records ids.now sets.now 0 blocks) result }
+// Design: an array and a count, since `put_sheet` is named in docs/PROOFS.md, and its contract
+// (`WritesSheet`) takes both.
+fn put_blocks(sets: &[u64], ids: &[u32; 128], blocks: usize, w: &mut Writer)
+    requires { (blocks ≤ 128) × Lent blocks sets.now × HasRoom w.old (70 * 128) }
+    ensures { Puts w.old w.new (70 * blocks) (set_records ids.now sets.now 0 blocks) }
 {
-    let mut at = start;
-    let mut b: usize = 0;
-    while b < blocks {
-        let id = BlockId(ids[b]);
-        at = put_block(sets, b, id, out, at);
-        b += 1;
+    for (b, id) in ids[..blocks].iter().enumerate() {
+        put_block(sets, b, BlockId(*id), w);
     }
-    at
 }
 
 // The head; at its end how many nodes were there before the first round.
-fn put_head(
-    out: &mut [u8],
-    nodes: usize,
-    blocks: usize,
-    rounds: u8,
-    settled: bool,
-    nodes_before: usize,
-) -> usize
-    requires { 10 ≤ length out.old }
-    ensures { Writes out.old out.new 0 (sheet_head nodes blocks rounds settled nodes_before) result }
+fn put_head(w: &mut Writer, nodes: usize, blocks: usize, run: RoundsRun, nodes_before: usize)
+    requires { HasRoom w.old 10 }
+    ensures { Puts w.old w.new 10 (sheet_head nodes blocks run.rounds run.settled nodes_before) }
 {
-    let settled_value = flag(settled);
-    let nodes_at = put_number(out, 0, 2, SH);
-    let blocks_at = put_number(out, nodes_at, 2, nodes as u64);
-    let rounds_at = put_number(out, blocks_at, 2, blocks as u64);
-    let settled_at = put_number(out, rounds_at, 1, rounds as u64);
-    let before_at = put_number(out, settled_at, 1, settled_value);
-    put_number(out, before_at, 2, nodes_before as u64)
+    w.number(2, SH);
+    w.number(2, nodes as u64);
+    w.number(2, blocks as u64);
+    w.rounds(run);
+    w.number(2, nodes_before as u64);
 }
 
 // The whole sheet, from the buffer's start on.
 pub fn put_sheet(
-    ws: &[u64; 1665],
+    nodes: Nodes,
     sets: &[u64],
     ids: &[u32; 128],
     blocks: usize,
-    rounds: u8,
-    settled: bool,
+    run: RoundsRun,
     nodes_before: usize,
     out: &mut [u8],
 ) -> usize
-    requires { HoldsRegistry ws.now × (blocks ≤ 128) × Lent blocks sets.now × (least_buffer ≤ length out.old) }
-    ensures { WritesSheet ws.now sets.now ids.now blocks rounds settled nodes_before
+    requires { (blocks ≤ 128) × Lent blocks sets.now × (least_buffer ≤ length out.old) }
+    ensures { WritesSheet nodes.entry.words.now sets.now ids.now blocks run.rounds run.settled nodes_before
         out.old out.new result }
 {
-    let nodes_at = put_head(
-        out,
-        registry::count(ws),
-        blocks,
-        rounds,
-        settled,
-        nodes_before,
-    );
-    let blocks_at = put_nodes(ws, out, nodes_at);
-    put_blocks(sets, ids, blocks, out, blocks_at)
+    let mut w = Writer { out, at: 0 };
+    put_head(&mut w, nodes.count(), blocks, run, nodes_before);
+    put_nodes(nodes, &mut w);
+    put_blocks(sets, ids, blocks, &mut w);
+    w.at
 }

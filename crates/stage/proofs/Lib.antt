@@ -2,6 +2,5 @@ pub mod Propagating
 pub mod Putting
 pub mod Performing
 pub mod Accepting
-pub mod Numbers
 pub mod Thinned
 pub mod Room

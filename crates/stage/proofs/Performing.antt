@@ -4,56 +4,41 @@ use Prim.Native.Nat.{ℕ, ◌≤◌, ◌<◌}
 use native.Mathlib.Omega.{arith}
 use native.Mathlib.Nat.{zero-add}
 use mathlib.Core.Path.{◌≡◌, refl, sym, ap, subst, ◌∙◌}
-use mathlib.Core.Bool.{true, false, cond}
+use mathlib.Core.Bool.{cond}
 use mathlib.Core.List.{List, ◌++◌}
 use lib.ListN.{length, drop}
-use lib.Seq.{sets, sets-eq}
-use lib.Dec.{ltb}
+use lib.Seq.{sets-eq}
 use Rattle.entries.specs.declared.Refusal.{Refusal}
-use Rattle.entries.specs.declared.Refusal.TheVariants.{ShortBuffer, LongJob, ManyNodes}
+use Rattle.entries.specs.declared.Refusal.TheVariants.{ManyNodes}
 use Rattle.model.specs.Tests.{ltb_less, ltb_not_less}
-use Rattle.model.specs.ReadingBytes.{Read, got, refused}
+use Rattle.model.specs.ReadingBytes.{got}
 use Rattle.model.specs.Registry.{node_limit}
 use Rattle.model.specs.Rounds.{Rounds}
+use Rattle.model.specs.Strict.{strict_neighbours, strict_answer_of, strict_sheet_of}
 use Rattle.model.specs.Propagation.{Work, JoiningRule, done_neighbours}
 use Rattle.model.specs.Job.{HD, Job, read_job}
 use Rattle.model.specs.Stage.{start_of, propagated}
-use Rattle.model.specs.Answer.{
-  Verdict,
-  writes,
-  turns_back,
-  within_nodes,
-  on_job,
-  least_buffer,
-  longest_job,
-  span_width,
-  verdict,
-  answer_of,
-  sheet_of,
-  buffer_after,
-}
-use Rattle.model.specs.Strict.{strict_neighbours, strict_answer_of, strict_sheet_of}
-use Rattle.registry.specs.Words.{registry_of, Held}
+use Rattle.model.specs.Answer.{Verdict, writes, turns_back, within_nodes, on_job, least_buffer, longest_job, span_width, buffer_after, answer_of, sheet_of}
 use Rattle.registry.proofs.View.{registry_length}
 use Rattle.writer.specs.Writes.{Writes}
-use Rattle.propagation.specs.declared.RoundsRun.{RoundsRun}
+use Rattle.entries.specs.declared.RoundsRun.{RoundsRun}
 use Rattle.propagation.specs.Propagates.{HoldsRounds}
 use Rattle.propagation.proofs.Answers.{propagated_registry}
 use Rattle.stage.specs.declared.Operation.{Operation}
 use Rattle.stage.specs.declared.Operation.TheVariants as operation
-use Rattle.stage.specs.declared.Outcome.{Outcome}
-use Rattle.stage.specs.declared.Outcome.TheVariants.{Written, Refused}
-use Rattle.stage.specs.Jobs.{operation_bytes, outcome_of, Meets, verdict_of, job_verdict}
+use Rattle.std.specs.Prelude.{Result, Ok, Err}
+use Rattle.stage.specs.declared.Accepted.{Accepted}
+use Rattle.stage.specs.Jobs.{operation_bytes, outcome_of, TurnedBack, Meets, verdict_of, job_verdict}
 
 -- a verdict that turns back leaves the buffer
-pub refuses : {v : Verdict} {r : Refusal} {out : List ℕ} → v ≡ turns_back r → Meets v (Refused r) out out
-refuses {out = out} e = record { outcome = sym (ap outcome_of e); buffer = sym (ap (λ v. buffer_after v out) e) }
+pub refuses : {v : Verdict} {r : Refusal} {o : Result ℕ Refusal} {out : List ℕ} → v ≡ turns_back r → o ≡ Err r → Meets v o out out
+refuses {out = out} e told = record { outcome = told ∙ sym (ap outcome_of e); buffer = sym (ap (λ v. buffer_after v out) e) }
 
 -- bytes that stand in the buffer from its start on are written before the rest of it
 pub stands_written : {v : Verdict} {bytes before after : List ℕ} {next : ℕ} → v ≡ writes bytes → Writes before after 0 bytes next
-    → length bytes ≤ length before → Meets v (Written next) before after
+    → length bytes ≤ length before → Meets v (Ok next) before after
 stands_written {v} {bytes} {before} {after} {next} e w fits = record {
-  outcome = ap Written (w.ends ∙ zero-add (length bytes)) ∙ sym (ap outcome_of e);
+  outcome = ap Ok (w.ends ∙ zero-add (length bytes)) ∙ sym (ap outcome_of e);
   buffer = w.is ∙ sets-eq bytes before 0 (omega arith) ∙ ap (λ n. bytes ++ drop n before) (zero-add (length bytes)) ∙ sym (ap (λ v. buffer_after v before) e);
 }
 
@@ -84,23 +69,17 @@ module _ (rule : JoiningRule) (op : Operation) (s : List ℕ) (j : Job) (end : �
 -- Any bytes and any buffer.
 
 module _ (rule : JoiningRule) (op : Operation) (s out : List ℕ) where
-  pub short_refused : length out < least_buffer → verdict_of rule op s out ≡ turns_back ShortBuffer
+  -- what is turned back is turned back by the operation
+  pub turned_back : {r : Refusal} → TurnedBack least_buffer s out r → verdict_of rule op s out ≡ turns_back r
   unfolding verdict_of
-  short_refused h = rw (ltb_less (length out) least_buffer h)
+  turned_back t = t (on_job rule (operation_bytes op span_width)) (λ q. refl)
 
-  module _ (wide : least_buffer ≤ length out) where
-    pub long_refused : longest_job < length s → verdict_of rule op s out ≡ turns_back LongJob
-    unfolding verdict_of
-    long_refused h = rw (ltb_not_less (length out) least_buffer wide, ltb_less longest_job (length s) h)
-
-    pub by_job : length s ≤ longest_job → verdict_of rule op s out ≡ job_verdict rule op s
-    unfolding verdict_of job_verdict
-    by_job h = rw (ltb_not_less (length out) least_buffer wide, ltb_not_less longest_job (length s) h)
-
-pub read_refused : (rule : JoiningRule) (op : Operation) (s : List ℕ) {r : Refusal} → read_job HD span_width s ≡ refused r
-    → job_verdict rule op s ≡ turns_back r
-unfolding job_verdict
-read_refused rule op s e = ap (on_job rule (operation_bytes op span_width)) e
+  -- and the verdict on what is read is the operation's
+  pub by_job : (o : Accepted) → o.s.now ≡ s → least_buffer ≤ length out → verdict_of rule op s out ≡ job_verdict rule op o.s.now
+  unfolding verdict_of job_verdict
+  by_job o same wide =
+      let short : length s ≤ longest_job = subst (λ (l : List ℕ). length l ≤ longest_job) same o.short in
+      rw (same, ltb_not_less (length out) least_buffer wide, ltb_not_less longest_job (length s) short)
 
 -- The operations, each under its rule.
 

@@ -1,9 +1,8 @@
 -- The propagation of a job: its assumed paths entered and its graph filled are what the definition
 -- starts from.
-use Prim.Native.Nat.{ℕ, ◌+◌, ◌≤◌, ◌<◌}
+use Prim.Native.Nat.{ℕ, ◌+◌, ◌<◌}
 use native.Mathlib.Omega.{arith}
-use mathlib.Core.Path.{◌≡◌, refl, sym, ap, subst, ◌∙◌}
-use mathlib.Core.Bool.{true, false}
+use mathlib.Core.Path.{◌≡◌, sym, ap, subst, ◌∙◌}
 use mathlib.Core.List.{List, []}
 use lib.ListN.{length}
 use Rattle.model.specs.ListLaws.{All}
@@ -12,24 +11,23 @@ use Rattle.model.specs.Registry.{node_limit, PropertyPathRegistry}
 use Rattle.model.proofs.RegistryLaws.{extends_length}
 use Rattle.model.specs.ReductionLaws.{Members}
 use Rattle.model.specs.Rounds.{Rounds}
-use Rattle.model.specs.Propagation.{Work, Graph, JoiningRule, propagate_non_null, round_start}
+use Rattle.model.specs.Propagation.{Work, JoiningRule, propagate_non_null}
 use Rattle.model.proofs.PropagationLaws.{propagated_extends, blocks_longer, start_proper}
 use Rattle.model.specs.Job.{Block}
-use Rattle.model.specs.Stage.{Started, graph_of, start_of, propagated}
+use Rattle.model.specs.Stage.{graph_of, start_of, propagated}
 use Rattle.rows.specs.Rows.{rows_of}
 use Rattle.registry.specs.Words.{registry_of}
 use Rattle.job.specs.Kept.{blocks_of}
 use Rattle.job.proofs.BlocksAt.{blocks_read}
-use Rattle.assumed.specs.declared.BlocksEntered.{BlocksEntered}
-use Rattle.assumed.specs.declared.BlocksEntered.TheVariants as entered
-use Rattle.assumed.specs.Start.{StartHeld, Starts}
+use Rattle.assumed.specs.Start.{StartHeld}
 use Rattle.graph.specs.Bytes.{size_in, graph_in}
 use Rattle.laws.specs.GraphsAgree.{Agree, propagation_agrees}
 use Rattle.edges.specs.Fills.{NotedJob, HoldsGraph}
 use Rattle.propagation.specs.Joins.{RowsStand, Ready}
 use Rattle.propagation.specs.Propagates.{Propagates}
-use Rattle.propagation.specs.declared.Propagated.{Propagated}
-use Rattle.propagation.specs.declared.Propagated.TheVariants.{Full}
+use Rattle.entries.specs.declared.RoundsRun.{RoundsRun}
+use Rattle.entries.specs.declared.Refusal.{Refusal}
+use Rattle.std.specs.Prelude.{Result}
 
 -- a registry that has passed the limit before propagation stays beyond it
 pub full_start : (rule : JoiningRule) (bs : List Block) → node_limit < length (start_of bs).registry → node_limit < length
@@ -70,29 +68,25 @@ module _ {bs : List Block} {n : ℕ} {ws os sets g : List ℕ} (count : length b
       ∙ ap (λ (reg : PropertyPathRegistry). propagate_non_null rule (graph_of bs) reg (rows_of sets n)) (sym x.registry)
       ∙ ap (λ (ss : List NodeSet). propagate_non_null rule (graph_of bs) (start_of bs).registry ss) (sym x.sets)
 
-  pub propagates : (rule : JoiningRule) (r : Propagated) (sets' ws' os' : List ℕ) → Propagates
+  pub propagates : (rule : JoiningRule) (r : Result RoundsRun Refusal) (sets' ws' os' : List ℕ) → Propagates
       (propagate_non_null rule (graph_in g) (registry_of ws) (rows_of sets (size_in g))) (size_in g) r sets' ws' os'
       → Propagates (propagated rule bs) n r sets' ws' os'
   propagates rule r sets' ws' os' h =
       subst (λ m. Propagates (propagated rule bs) m r sets' ws' os') size_same
       (subst (λ (w : Rounds Work). Propagates w (size_in g) r sets' ws' os') (want_same rule) h)
 
--- the answer of `enter_blocks` by its case
-module _ (want : Started) (n : ℕ) (r : BlocksEntered) (ws os sets : List ℕ) (h : Starts want n r ws os sets) where
-  pub entered_all : (made : ℕ) → r ≡ entered.All made → StartHeld want n ws os sets × (made ≡ want.made)
-  entered_all made e = subst (λ q. Starts want n q ws os sets) e h
-
-  pub entered_full : r ≡ entered.Full → node_limit < length want.registry
-  entered_full e = subst (λ q. Starts want n q ws os sets) e h
-
 -- the blocks that the bytes read to are those of the job
 module _ {s ids places : List ℕ} {n : ℕ} (noted : NotedJob s ids places n) where
   pub blocks_count : length (blocks_of s) ≡ n
   blocks_count = ap length (blocks_read noted.job noted.blocks) ∙ noted.blocks.count
 
-  pub job_propagated : (rule : JoiningRule) (r : Propagated) (sets ws os : List ℕ) → Propagates (propagated rule (blocks_of s)) n r sets ws os
+  pub job_propagated : (rule : JoiningRule) (r : Result RoundsRun Refusal) (sets ws os : List ℕ) → Propagates (propagated rule (blocks_of s)) n r sets ws os
       → Propagates (propagated rule noted.job.blocks) n r sets ws os
   job_propagated rule r sets ws os = subst (λ (bs : List Block). Propagates (propagated rule bs) n r sets ws os) (blocks_read noted.job noted.blocks)
+
+  pub job_full : (rule : JoiningRule) → node_limit < length (propagated rule (blocks_of s)).work.registry
+      → node_limit < length (propagated rule noted.job.blocks).work.registry
+  job_full rule = subst (λ (bs : List Block). node_limit < length (propagated rule bs).work.registry) (blocks_read noted.job noted.blocks)
 
   -- what entering made is what is there before the first round
   pub job_entered : (made : ℕ) → made ≡ (start_of (blocks_of s)).made → length (start_of noted.job.blocks).registry ≡ made

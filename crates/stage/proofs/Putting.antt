@@ -1,39 +1,40 @@
 -- The bytes of an accepted job: the scope block's row is its set, the candidates are the job's, and
 -- the ids noted are its blocks'.
-use Prim.Native.Nat.{ℕ, ◌*◌, ◌≤◌, ◌<◌}
+use Prim.Native.Nat.{ℕ, zero, suc, ◌*◌, ◌≤◌, ◌<◌}
 use native.Mathlib.Omega.{arith}
-use mathlib.Core.Path.{◌≡◌, sym, ap, subst, ◌∙◌}
-use mathlib.Core.Bool.{false, not}
+use mathlib.Core.Path.{◌≡◌, refl, sym, ap, subst, ◌∙◌}
+use mathlib.Core.Bool.{false, not, cond}
 use mathlib.Core.List.{List, [], ◌∷◌, map, ◌++◌}
-use lib.ListN.{length, get_or, length-append}
+use lib.ListN.{length, get_or, take, length-append}
 use borrow.Author.Tests.{not-false}
-use Rattle.entries.specs.Path.{ReactiveScopeDependency}
 use Rattle.model.specs.Lists.{concat_map, any_of}
-use Rattle.model.specs.ListLaws.{All, all_get_or}
+use Rattle.model.specs.ListLaws.{all_get_or}
 use Rattle.model.specs.Sets.{NodeSet}
 use Rattle.model.specs.ReadingBytes.{got, read_many}
-use Rattle.model.specs.Job.{HD, CA, Block, Job, read_path, read_job, contains_id, ids_of, has_unknown}
-use Rattle.model.specs.Registry.{PropertyPathRegistry, full_path_of}
+use Rattle.model.specs.Job.{CA, Block, Job, read_path, contains_id, ids_of, has_unknown}
+use Rattle.model.specs.Registry.{full_path_of}
 use Rattle.model.specs.ReductionLaws.{Members}
 use Rattle.model.specs.Rounds.{Rounds}
 use Rattle.model.specs.Propagation.{Work, set_of}
 use Rattle.model.proofs.PropagationLaws.{members_empty}
 use Rattle.model.specs.Tree.{derive_minimal_dependencies}
 use Rattle.model.specs.Stage.{Started, place_of, hoistable_paths, returned_paths}
-use Rattle.model.specs.Answer.{u8, u16, flag, AN, DE, path_bytes, answer_bytes, node_bytes, set_bytes, sheet_head, sheet_bytes, span_width, least_buffer}
+use Rattle.model.specs.Answer.{answer_bytes, node_bytes, set_bytes, sheet_head, sheet_bytes, span_width, least_buffer}
 use Rattle.rows.specs.Rows.{row_of, rows_of}
 use Rattle.rows.proofs.Rows.{row_at}
-use Rattle.registry.specs.Words.{registry_of}
+use Rattle.registry.specs.Words.{registry_of, Sized}
 use Rattle.writer.specs.Writes.{Writes}
-use Rattle.writer.proofs.Bytes.{writes_as}
-use Rattle.job.specs.Kept.{BlocksAt, head_of}
 use Rattle.job.specs.declared.JobHead.{JobHead}
 use Rattle.job.proofs.BlocksAt.{job_accepted, same_job}
 use Rattle.laws.specs.Membership.{Member, neither}
 use Rattle.laws.specs.GraphLaws.{contains_member, place_known}
-use Rattle.edges.specs.Rows.{ids_noted, place_among}
+use Rattle.edges.specs.Rows.{ids_from, ids_noted, place_among, block_among}
+use Rattle.edges.proofs.Fronts.{front_noted}
+use Rattle.model.specs.Tests.{ltb_less}
+use Rattle.entries.specs.declared.BlockId.{BlockId}
+use Rattle.std.specs.Prelude.{Option, Some, None}
 use Rattle.edges.proofs.Jobs.{place_is}
-use Rattle.propagation.specs.declared.RoundsRun.{RoundsRun}
+use Rattle.entries.specs.declared.RoundsRun.{RoundsRun}
 use Rattle.propagation.specs.Joins.{work_of}
 use Rattle.propagation.specs.Propagates.{rounds_of}
 use Rattle.answer_bytes.specs.Answers.{answer_over, WritesAnswer}
@@ -48,6 +49,22 @@ use Rattle.stage.specs.Jobs.{AcceptedJob, Standing, PutsAnswer, PutsJob}
 -- bytes stand in the buffer from its start on, and have their room there
 abbrev Stand : List ℕ → List ℕ → List ℕ → ℕ → Type 0
 Stand before after bytes next = Writes before after 0 bytes next × (length bytes ≤ length before)
+
+-- A place within the ids is what is found.
+
+count_from : (ids : List ℕ) (k n : ℕ) → length (ids_from ids k n) ≡ n
+count_from ids k zero = refl
+count_from ids k (suc n) = ap suc (count_from ids (suc k) n)
+
+ids_count : (ids : List ℕ) (n : ℕ) → length (ids_noted ids n) ≡ n
+unfolding ids_noted
+ids_count ids n = count_from ids 0 n
+
+some_same : {x y : ℕ} → Some x ≡ Some y → x ≡ y
+some_same e = cc
+
+among : (l : List BlockId) (i : BlockId) → place_among l i < length l → block_among l i ≡ Some (place_among l i)
+among l i h = ap (λ b. cond b (Some (place_among l i)) None) (ltb_less (place_among l i) (length l) h)
 
 -- The scope block is a block of the job, since 8 did not turn it back.
 scope_known : (j : Job) → has_unknown j ≡ false → Member j.scope (ids_of j.blocks)
@@ -102,6 +119,17 @@ module _ {s ids places : List ℕ} {head : JobHead} (acc : AcceptedJob s ids pla
   place_inside : place_of job.blocks job.scope < n
   place_inside = let l = (place_known job.blocks job.scope member).0 in let c = acc.noted.blocks.count in omega arith
 
+  -- the scope block is found among the blocks' ids
+  pub scope_found : length ids ≡ 128
+      → block_among (ids_noted (take n ids) (length (take n ids))) head.scope ≡ Some (place_among (ids_noted ids n) head.scope)
+  scope_found wide =
+      ap (λ (l : List BlockId). block_among l head.scope) (front_noted acc.noted wide refl)
+      ∙ among (ids_noted ids n) head.scope (let l = place_inside in let p = scope_place in let c = ids_count ids n in omega arith)
+
+  pub scope_led : length ids ≡ 128 → {o : Option ℕ} {k : ℕ} → o ≡ block_among (ids_noted (take n ids) (length (take n ids))) head.scope
+      → o ≡ Some k → k ≡ place_among (ids_noted ids n) head.scope
+  scope_led wide found told = some_same (sym told ∙ found ∙ scope_found wide)
+
   -- the scope block has a row
   pub scope_inside : (place : ℕ) → place ≡ place_among (ids_noted ids n) head.scope → place < n
   scope_inside place is = let e = is ∙ scope_place in let l = place_inside in omega arith
@@ -117,7 +145,7 @@ module _ {s ids places : List ℕ} {head : JobHead} (acc : AcceptedJob s ids pla
     pub scope_members : (set : NodeSet) → set ≡ row_of sets place → Members (registry_of ws) set
     scope_members set e =
         subst (Members (registry_of ws)) (row_is ∙ sym e)
-        (all_get_or (Members (registry_of ws)) (rows_of sets n) (place_of job.blocks job.scope) [] stands.members (members_empty (registry_of ws)))
+        (all_get_or (Members (registry_of ws)) (rows_of sets n) (place_of job.blocks job.scope) [] stands (members_empty (registry_of ws)))
 
     -- the answer over the words is the job's
     pub puts_answer : (set : NodeSet) → set ≡ row_of sets place → (run : RoundsRun) (before after : List ℕ) (next : ℕ)
@@ -140,16 +168,16 @@ module _ {s ids places : List ℕ} {head : JobHead} (acc : AcceptedJob s ids pla
         (answer_over (derive_minimal_dependencies (map (full_path_of (registry_of ws)) t) job.candidates) run.rounds run.settled) next)
         (sym sets_same) (w job.candidates (length s) cs)))
 
-  pub puts_sheet : (sets ws : List ℕ) → Standing n sets ws → (nodes_before : ℕ) (run : RoundsRun) (before after : List ℕ) (next : ℕ)
+  pub puts_sheet : (sets ws : List ℕ) → Sized ws → (nodes_before : ℕ) (run : RoundsRun) (before after : List ℕ) (next : ℕ)
       → least_buffer ≤ length before → WritesSheet ws sets ids n run.rounds run.settled nodes_before before after next
       → PutsJob Sheet s head sets ws nodes_before run before after next
   unfolding work_of
-  puts_sheet sets ws stands nodes_before run before after next wide w j end reads start size-before p same =
+  puts_sheet sets ws sized nodes_before run before after next wide w j end reads start size-before p same =
       let j-same : j ≡ job = (let b = sym reads ∙ acc.noted.blocks.reads in cc) in
       let count : length j.blocks ≡ n = ap (λ (k : Job). length k.blocks) j-same ∙ acc.noted.blocks.count in
       let registry : p.work.registry ≡ registry_of ws = ap (λ (q : Rounds Work). q.work.registry) same in
       let few = acc.noted.few in
-      let nodes = stands.sized.room in
+      let nodes = sized.room in
       let size = ap length registry ∙ registry_length ws in (
         w j start p (record {
           count = count;

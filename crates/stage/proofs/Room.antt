@@ -1,6 +1,6 @@
 -- Room for the sets and the dependency tree goes by the length of the words alone.
 use Prim.Native.Nat.{ℕ, ◌*◌, ◌≤◌, ◌<◌}
-use mathlib.Core.Path.{◌≡◌, sym, subst}
+use mathlib.Core.Path.{◌≡◌}
 use mathlib.Core.List.{List}
 use lib.ListN.{length, replicate, length-replicate}
 use Rattle.job.specs.declared.JobHead.{JobHead}

@@ -1,6 +1,7 @@
 // The C interface: a slice is a pointer and a length. Each export is the function of `stage` of the
 // same name, with the same clauses, in a crate of its own, since a crate that other crates use is
 // no static library.
+// Design: five functions that differ in the operation, since C calls each by its name.
 #![tactic(auto)]
 
 ghost use Rattle.std.specs.Prelude.{◌≡◌};

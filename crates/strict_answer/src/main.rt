@@ -1,5 +1,6 @@
 // Program `strict_answer`: a job on standard input, its answer by the strict propagation on
 // standard output.
+// Design: five programs, each a crate of one line, since they have five names; `run` does the work.
 #![tactic(auto)]
 
 use run::Program;

@@ -1,5 +1,6 @@
 // Program `strict_sheet`: a job on standard input, its sheet by the strict propagation on standard
 // output.
+// Design: five programs, each a crate of one line, since they have five names; `run` does the work.
 #![tactic(auto)]
 
 use run::Program;

@@ -13,7 +13,7 @@ pub all_bytes : (l : List ℕ) → ((i : ℕ) → get_or l i 0 < 256) → All (�
 all_bytes [] h = tt
 all_bytes (x ∷ l) h = (h 0, all_bytes l (λ i. h (suc i)))
 
-slice_take : (f t : ℕ) (l : List ℕ) → slice f t l ≡ take (t - f) (drop f l)
+pub slice_take : (f t : ℕ) (l : List ℕ) → slice f t l ≡ take (t - f) (drop f l)
 slice_take zero t l = let e : t ≡ t - 0 = omega arith in ap (λ n. take n l) e
 slice_take (suc f) zero l = let e : 0 ≡ 0 - suc f = omega arith in drop-nil (suc f) ∙ ap (λ n. take n (drop (suc f) l)) e
 slice_take (suc f) (suc t) [] = sym (take-nil (suc t - suc f))

@@ -15,8 +15,9 @@ use Rattle.model.specs.JobBytes.{raw_read_bytes, block_bytes}
 use Rattle.model.specs.Answer.{number_bytes, u8, u16, u32, path_bytes}
 use Rattle.model.specs.Thin.{thinned_paths, thinned_block}
 use Rattle.laws.specs.Written.{Stand, block_written, paths_written}
-use Rattle.writer.specs.Writes.{Writes}
-use Rattle.writer.proofs.Bytes.{number_length, writes_before, writes_length, writes_as}
+use Rattle.writer.specs.declared.Writer.{Writer}
+use Rattle.writer.specs.Writes.{HasRoom, Puts}
+use Rattle.writer.proofs.Bytes.{number_length, moved, puts_before, puts_own, puts_as}
 use Rattle.job.specs.Head.{read_block_head}
 use Rattle.job.specs.Passing.{passed}
 use Rattle.job.specs.declared.BlockHead.{BlockHead}
@@ -25,7 +26,6 @@ use Rattle.job.proofs.BlockAgain.{paths_there}
 use Rattle.thin_bytes.specs.declared.PathsDone.{PathsDone}
 use Rattle.thin_bytes.specs.Thins.{PathsThere, ThinsPaths, Recountable, recounted, PartThinned, BlockThere}
 use Rattle.thin_bytes.proofs.Copied.{stand_slice, stand_within, stand_first, stand_rest}
-use Rattle.thin_bytes.proofs.Recounting.{recounted_length}
 
 -- What stands before the number of ready paths, behind it and before the paths, and of the paths.
 abbrev front : Block → List ℕ
@@ -95,12 +95,13 @@ module _ (s : List ℕ) (at : ℕ) {b : Block} {next : ℕ} (read : read_block 4
   first_bytes : slice at (at + 7) s ≡ front b
   first_bytes = stand_slice (subst (Stand s at (front b)) (ap (λ n. at + n) (front_length b)) (stand_first (front b) _ stands))
 
-  pub block_thinned : {out middle after : List ℕ} {to end : ℕ} {r : PathsDone}
-      → Recountable s at (at + 7) 1 paths_at middle to
-      → ThinsPaths s PA paths_at head.assumed out middle (to + (paths_at - at)) r
-      → Writes middle after to (recounted s at (at + 7) 1 r.kept paths_at) end
-      → PartThinned (block_bytes 4 (thinned_block b)) at next out after to (record { from = r.from; to = r.to })
-  block_thinned {r = r} fits thins w =
+  -- the paths are written from the writer u on, behind the place of what stands before them, to v,
+  -- and that from v's buffer at u's place
+  pub block_thinned : {u v z : Writer} {r : PathsDone} → Recountable s at (at + 7) 1 paths_at (moved v u.at)
+      → ThinsPaths s PA paths_at head.assumed (moved u (u.at + (paths_at - at))) v r
+      → Puts (moved v u.at) z (paths_at - at) (recounted s at (at + 7) 1 r.kept paths_at)
+      → PartThinned (block_bytes 4 (thinned_block b)) at next u (moved z v.at) r.from
+  block_thinned {r = r} fits thins put =
       let t = thins.is b.ready_paths next paths_read in
       let kept = thinned_paths b.ready_paths in
       let whole : recounted s at (at + 7) 1 r.kept paths_at ≡ front b ++ u8 (length kept) ++ behind b =
@@ -108,17 +109,17 @@ module _ (s : List ℕ) (at : ℕ) {b : Block} {next : ℕ} (read : read_block 4
       ∙ ap (λ n. front b ++ number_bytes 1 n ++ slice (at + 7 + 1) paths_at s) t.kept
       ∙ ap (λ l. front b ++ u8 (length kept) ++ l) (stand_slice behind_stands) in
       record {
-        writes = writes_as (ap (λ l. l ++ concat_map (path_bytes 4 PA) kept) whole ∙ sym (before_paths_grouped (thinned_block b)))
-            (writes_before (recounted_length fits r.kept) t.writes w);
+        puts = puts_own (puts_as (ap (λ l. l ++ concat_map (path_bytes 4 PA) kept) whole ∙ sym (before_paths_grouped (thinned_block b)))
+            (puts_before t.puts put));
         from = t.from;
         near = (let near = t.near in let low = places.0 in omega arith);
       }
 
 -- What the calls ask for.
-module _ {s : List ℕ} {at : ℕ} {out : List ℕ} {to : ℕ} (x : BlockThere s at out to) (bytes : All (λ b. b < 256) s) {head : BlockHead} {ids_at : ℕ}
+module _ {s : List ℕ} {at : ℕ} {w : Writer} (x : BlockThere s at w) (bytes : All (λ b. b < 256) s) {head : BlockHead} {ids_at : ℕ}
     (headed : read_block_head s at ≡ got head ids_at) {reads_at : ℕ} (past : passed (read_many head.predecessors read_block_id s ids_at) ≡ got tt reads_at)
     {paths_at : ℕ} (past_reads : passed (read_many head.raw (read_raw_read 4) s reads_at) ≡ got tt paths_at) where
-  pub paths_wanted : PathsThere s PA paths_at head.assumed out (to + (paths_at - at))
+  pub paths_wanted : PathsThere s PA paths_at head.assumed (moved w (w.at + (paths_at - at)))
   paths_wanted =
       let p = places s at x.read bytes headed past past_reads in
       let low = p.0 in
@@ -132,7 +133,7 @@ module _ {s : List ℕ} {at : ℕ} {out : List ℕ} {to : ℕ} (x : BlockThere s
         room = omega arith;
       }
 
-  pub before_paths : (at + 8 ≤ paths_at) × (paths_at ≤ 32768) × (to + (paths_at - at) ≤ length out)
+  pub before_paths : (at + 8 ≤ paths_at) × (paths_at ≤ 32768) × HasRoom w (paths_at - at)
   before_paths =
       let p = places s at x.read bytes headed past past_reads in
       let low = p.0 in
@@ -141,8 +142,8 @@ module _ {s : List ℕ} {at : ℕ} {out : List ℕ} {to : ℕ} (x : BlockThere s
       let short = x.short in
       (low, omega arith, omega arith)
 
-  pub count_wanted : {middle : List ℕ} {r : PathsDone} → ThinsPaths s PA paths_at head.assumed out middle (to + (paths_at - at)) r
-      → Recountable s at (at + 7) 1 paths_at middle to
+  pub count_wanted : {v : Writer} {r : PathsDone} → ThinsPaths s PA paths_at head.assumed (moved w (w.at + (paths_at - at))) v r
+      → Recountable s at (at + 7) 1 paths_at (moved v w.at)
   count_wanted thins =
       let t = thins.is x.block.ready_paths x.next (paths_there s at x.block x.next x.read headed past past_reads) in
       let p = places s at x.read bytes headed past past_reads in
@@ -150,5 +151,5 @@ module _ {s : List ℕ} {at : ℕ} {out : List ℕ} {to : ℕ} (x : BlockThere s
       let high = p.1 in
       let within = p.2 in
       let room = x.room in
-      let long = writes_length t.writes in
+      let long = t.puts.long in
       record { begins = omega arith; ends = omega arith; within = omega arith; room = omega arith }

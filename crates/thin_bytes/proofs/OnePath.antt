@@ -5,8 +5,7 @@ use native.Mathlib.Omega.{arith}
 use mathlib.Core.Path.{◌≡◌, refl, sym, ap, subst, ◌∙◌}
 use mathlib.Core.Bool.{true, false}
 use mathlib.Core.List.{List}
-use lib.ListN.{length}
-use lib.Seq.{slice}
+use lib.ListN.{length, take, drop, length-take, length-drop}
 use Rattle.entries.specs.declared.Refusal.{Refusal}
 use Rattle.entries.specs.Path.{ReactiveScopeDependency}
 use Rattle.model.specs.ListLaws.{All}
@@ -14,16 +13,17 @@ use Rattle.model.specs.ReadingBytes.{got, refused, read_many}
 use Rattle.model.specs.Job.{read_path}
 use Rattle.model.specs.Answer.{path_bytes}
 use Rattle.laws.specs.Written.{Stand, path_written}
-use Rattle.writer.specs.Writes.{Writes}
-use Rattle.writer.proofs.Bytes.{writes_none, writes_as}
+use Rattle.writer.specs.declared.Writer.{Writer}
+use Rattle.writer.specs.Writes.{HasRoom, Puts}
+use Rattle.writer.proofs.Bytes.{puts_none, puts_own, puts_as}
 use Rattle.job.specs.Passing.{passed}
 use Rattle.job.proofs.Passing.{not_both}
 use Rattle.job.proofs.RecordParts.{path_parts}
 use Rattle.thin_bytes.specs.declared.PathsDone.{PathsDone}
 use Rattle.thin_bytes.specs.Thins.{PathBehind, Repeats, PathNext, PathThinned, ThinsPath}
-use Rattle.thin_bytes.proofs.Copied.{stand_slice, stand_within}
+use Rattle.thin_bytes.proofs.Copied.{slice_take, stand_slice, stand_within}
 
-module _ {s : List ℕ} {first earlier mark : ℕ} {out : List ℕ} {done : PathsDone} (x : PathNext s first earlier mark out done) where
+module _ {s : List ℕ} {first earlier mark : ℕ} {w : Writer} {done : PathsDone} (x : PathNext s first earlier mark w done) where
   pub behind : PathBehind s first earlier done.from
   behind = record { mark = mark; before = x.before; reads = x.reads; path = x.path; next = x.next; read = x.read; short = x.short }
 
@@ -47,18 +47,20 @@ module _ {s : List ℕ} {first earlier mark : ℕ} {out : List ℕ} {done : Path
           let g = x.short in
           record { mark = mark; before = ds; reads = reads; path = d; next = n; read = read; short = omega arith }
 
-    pub repeat_dropped : Repeats s first earlier done.from true
-        → ThinsPath s first earlier mark out out done (record { from = next; to = done.to; kept = done.kept })
+    pub repeat_dropped : Repeats s first earlier done.from true → ThinsPath s first earlier mark w w done (record { from = next; kept = done.kept })
     repeat_dropped repeat = record {
       is = λ ds d n reads read.
-          subst (λ b. PathThinned mark b d n out out done (record { from = next; to = done.to; kept = done.kept }))
+          subst (λ b. PathThinned mark b d n w w done (record { from = next; kept = done.kept }))
           (repeat.is (again ds d n reads read))
-          (record { writes = writes_none; from = sym (place_is ds d n reads read); kept = sym (add-zero done.kept); near = omega arith });
+          (record { puts = puts_none w; from = sym (place_is ds d n reads read); kept = sym (add-zero done.kept); near = omega arith });
     }
 
     module _ (bytes : All (λ b. b < 256) s) where
       stands : Stand s done.from (path_bytes 4 mark x.path) next
       stands = subst (Stand s done.from (path_bytes 4 mark x.path)) next_is (path_written s bytes 4 mark done.from x.read)
+
+      pub next_behind : done.from ≤ next
+      next_behind = let p = stands.place in omega arith
 
       pub next_within : next ≤ length s
       next_within =
@@ -67,21 +69,28 @@ module _ {s : List ℕ} {first earlier mark : ℕ} {out : List ℕ} {done : Path
           let f = next_is in
           stand_within stands (let g = stands.place in omega arith)
 
-      pub next_room : done.to + (next - done.from) ≤ length out
-      next_room = let e = next_is in let r = x.room in omega arith
+      pub next_room : HasRoom w (length (take (next - done.from) (drop done.from s)))
+      next_room =
+          let e = next_is in
+          let r = x.room in
+          let within = next_within in
+          omega (arith, length-take (next - done.from) (drop done.from s), length-drop done.from s)
 
-      pub path_kept : {after : List ℕ} {end : ℕ} → Repeats s first earlier done.from false → Writes out after done.to (slice done.from next s) end
-          → ThinsPath s first earlier mark out after done (record { from = next; to = end; kept = done.kept + 1 })
-      path_kept {after} {end} repeat w = record {
-        is = λ ds d n reads read.
-            let stand = subst (Stand s done.from (path_bytes 4 mark d)) (place_is ds d n reads read)
+      pub path_kept : {after : Writer} {n : ℕ} → Repeats s first earlier done.from false
+          → Puts w after n (take (next - done.from) (drop done.from s))
+          → ThinsPath s first earlier mark w after done (record { from = next; kept = done.kept + 1 })
+      path_kept {after} repeat put = record {
+        is = λ ds d m reads read.
+            let stand = subst (Stand s done.from (path_bytes 4 mark d)) (place_is ds d m reads read)
             (path_written s bytes 4 mark done.from read) in
-            subst (λ b. PathThinned mark b d n out after done (record { from = next; to = end; kept = done.kept + 1 }))
-            (repeat.is (again ds d n reads read))
+            let is = sym (slice_take done.from next s) ∙ stand_slice stand in
+            subst (λ b. PathThinned mark b d m w after done (record { from = next; kept = done.kept + 1 }))
+            (repeat.is (again ds d m reads read))
             (record {
-              writes = writes_as (stand_slice stand) w;
-              from = sym (place_is ds d n reads read);
+              puts = puts_own (puts_as is put);
+              from = sym (place_is ds d m reads read);
               kept = refl;
-              near = (let e = w.ends in let size = ap length (stand_slice stand) in let g = stand.place in let h = place_is ds d n reads read in omega arith);
+              near =
+                  (let e = put.writes.ends in let size = ap length is in let g = stand.place in let h = place_is ds d m reads read in omega arith);
             });
       }

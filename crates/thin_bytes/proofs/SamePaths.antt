@@ -2,19 +2,18 @@
 -- entries.
 use Prim.Native.Nat.{ℕ, suc}
 use native.Mathlib.Omega.{arith}
-use mathlib.Core.Path.{◌≡◌, refl, sym, ap, subst, ◌∙◌}
-use mathlib.Core.Bool.{Bool, false, ◌&&◌, and-false}
+use mathlib.Core.Path.{◌≡◌, refl, sym, ap, ◌∙◌}
+use mathlib.Core.Bool.{false, ◌&&◌, and-false}
 use mathlib.Core.List.{List, [], ◌∷◌}
 use lib.ListN.{length}
 use lib.Dec.{eqb}
 use Rattle.entries.specs.declared.DependencyPathEntry.{DependencyPathEntry}
 use Rattle.entries.specs.Path.{same_entry, are_equal_paths}
-use Rattle.model.specs.Tests.{eqb_equal, eqb_apart}
-use Rattle.model.specs.ReadingBytes.{got, read_many}
+use Rattle.model.specs.Tests.{eqb_apart}
 use Rattle.model.specs.Job.{read_entry}
 use Rattle.job.specs.declared.PathHead.{PathHead}
 use Rattle.job.proofs.Many.{many_length}
-use Rattle.thin_bytes.specs.Thins.{SameEntries, SamePaths}
+use Rattle.thin_bytes.specs.Thins.{SamePaths}
 
 -- lists of different lengths are not equal
 unequal : (es fs : List DependencyPathEntry) → ¬ (length es ≡ length fs) → are_equal_paths es fs ≡ false
@@ -35,12 +34,4 @@ module _ (s : List ℕ) (a : PathHead) (a_at : ℕ) (b : PathHead) (b_at : ℕ) 
         let second = many_length (read_entry 4) s b.entries b_at q in
         sym (ap (λ t. eqb a.identifier.0 b.identifier.0 && t) (unequal es fs (λ l. h (omega arith)))
         ∙ and-false (eqb a.identifier.0 b.identifier.0));
-  }
-
-  pub by_entries : (answer : Bool) → a.identifier.0 ≡ b.identifier.0 → a.entries ≡ b.entries → SameEntries s a_at b_at a.entries answer
-      → SamePaths s a a_at b b_at answer
-  by_entries answer i c same = record {
-    is = λ es fs m n r q.
-        same.is es fs m n r (subst (λ k. read_many k (read_entry 4) s b_at ≡ got fs n) (sym c) q)
-        ∙ sym (ap (λ t. t && are_equal_paths es fs) (eqb_equal a.identifier.0 b.identifier.0 i));
   }

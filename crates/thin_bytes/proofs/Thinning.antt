@@ -14,6 +14,7 @@ use Rattle.model.specs.ReadingBytes.{got, read_many}
 use Rattle.model.specs.Job.{read_path}
 use Rattle.model.specs.Answer.{path_bytes}
 use Rattle.model.specs.Thin.{same_path, thinned_after, thinned_paths}
+use Rattle.writer.specs.declared.Writer.{Writer}
 use Rattle.writer.proofs.Bytes.{Coming, coming_start, coming_as, coming_more, coming_over}
 use Rattle.job.proofs.Many.{many_first, many_last}
 use Rattle.job.proofs.RecordParts.{path_onward, paths_onward}
@@ -57,7 +58,7 @@ one_most true = omega arith
 one_most false = omega arith
 
 -- The list `ds` that ends at a place, of which i paths are done.
-record Part (s : List ℕ) (mark first : ℕ) (ds : List ReactiveScopeDependency) (end : ℕ) (before : List ℕ) (start : ℕ) (out : List ℕ) (done : PathsDone)
+record Part (s : List ℕ) (mark first : ℕ) (ds : List ReactiveScopeDependency) (end : ℕ) (before w : Writer) (done : PathsDone)
     (i left : ℕ) : Type 0 where
   passed : List ReactiveScopeDependency
   earlier : List ReactiveScopeDependency
@@ -65,19 +66,19 @@ record Part (s : List ℕ) (mark first : ℕ) (ds : List ReactiveScopeDependency
   reads_passed : read_many i (read_path 4 mark) s first ≡ got passed done.from
   reads_rest : read_many left (read_path 4 mark) s done.from ≡ got rest end
   same : (test : ReactiveScopeDependency → Bool) → any_of test earlier ≡ any_of test passed
-  coming : Coming before out start done.to (concat_map (path_bytes 4 mark) (thinned_paths ds)) (concat_map (path_bytes 4 mark) (thinned_after earlier rest))
+  coming : Coming before w (concat_map (path_bytes 4 mark) (thinned_paths ds)) (concat_map (path_bytes 4 mark) (thinned_after earlier rest))
   counted : done.kept + length (thinned_after earlier rest) ≡ length (thinned_paths ds)
-  near : done.to + first ≤ start + done.from
+  near : w.at + first ≤ before.at + done.from
 
-pub record Thinning (s : List ℕ) (mark first count : ℕ) (before : List ℕ) (start : ℕ) (out : List ℕ) (done : PathsDone) (i : ℕ) : Type 0 where
+pub record Thinning (s : List ℕ) (mark first count : ℕ) (before w : Writer) (done : PathsDone) (i : ℕ) : Type 0 where
   pub few : i ≤ count
   pub kept : done.kept ≤ i
   on : (ds : List ReactiveScopeDependency) (end : ℕ) → read_many count (read_path 4 mark) s first ≡ got ds end
-      → Part s mark first ds end before start out done i (count - i)
+      → Part s mark first ds end before w done i (count - i)
 
-pub thinning : (s : List ℕ) (mark first count : ℕ) (out : List ℕ) (start : ℕ)
-    → Thinning s mark first count out start out (record { from = first; to = start; kept = 0 }) 0
-thinning s mark first count out start = record {
+pub thinning : (s : List ℕ) (mark first count : ℕ) (w : Writer)
+    → Thinning s mark first count w w (record { from = first; kept = 0 }) 0
+thinning s mark first count w = record {
   few = omega arith;
   kept = omega arith;
   on = λ ds end e. record {
@@ -87,20 +88,20 @@ thinning s mark first count out start = record {
     reads_passed = refl;
     reads_rest = subst (λ n. read_many n (read_path 4 mark) s first ≡ got ds end) (sym (sub-zero count)) e;
     same = λ test. refl;
-    coming = coming_start out start (concat_map (path_bytes 4 mark) (thinned_paths ds));
+    coming = coming_start w (concat_map (path_bytes 4 mark) (thinned_paths ds));
     counted = zero-add (length (thinned_paths ds));
     near = omega arith;
   };
 }
 
-module _ {s : List ℕ} {mark first count : ℕ} {before : List ℕ} {start : ℕ} {out : List ℕ} {done : PathsDone} {i : ℕ}
-    (t : Thinning s mark first count before start out done i) where
-  pub thinning_end : count ≤ i → ThinsPaths s mark first count before out start done
+module _ {s : List ℕ} {mark first count : ℕ} {before w : Writer} {done : PathsDone} {i : ℕ}
+    (t : Thinning s mark first count before w done i) where
+  pub thinning_end : count ≤ i → ThinsPaths s mark first count before w done
   unfolding thinned_after
   thinning_end over = record { is = λ ds end e. ended ds end (t.on ds end e) }
     where
-      ended : (ds : List ReactiveScopeDependency) (end : ℕ) → Part s mark first ds end before start out done i (count - i)
-          → PathsThinned mark first ds end before out start done
+      ended : (ds : List ReactiveScopeDependency) (end : ℕ) → Part s mark first ds end before w done i (count - i)
+          → PathsThinned mark first ds end before w done
       ended ds end p =
           let z : count - i ≡ 0 = omega arith in
           let nothing : got [] done.from ≡ got p.rest end = subst (λ n. read_many n (read_path 4 mark) s done.from ≡ got p.rest end) z
@@ -111,23 +112,19 @@ module _ {s : List ℕ} {mark first count : ℕ} {before : List ℕ} {start : �
           let counted = p.counted in
           let size = ap length no in
           record {
-            writes = coming_over (coming_as (ap (concat_map (path_bytes 4 mark)) no) p.coming);
+            puts = coming_over (coming_as (ap (concat_map (path_bytes 4 mark)) no) p.coming) refl;
             from = place;
             kept = omega arith;
             near = (let near = p.near in omega arith);
           }
 
-  -- the buffer keeps its length
-  pub thinning_length : PathsThere s mark first count before start → length out ≡ length before
-  thinning_length x = let p = t.on x.paths x.end x.reads in p.coming.long
-
   module _ (more : i < count) where
-    first_of : {ds : List ReactiveScopeDependency} {end : ℕ} (p : Part s mark first ds end before start out done i (count - i))
+    first_of : {ds : List ReactiveScopeDependency} {end : ℕ} (p : Part s mark first ds end before w done i (count - i))
         → (d : ReactiveScopeDependency) × (next : ℕ) × (rest : List ReactiveScopeDependency) × (read_path 4 mark s done.from ≡ got d next) ×
         (read_many (count - i - 1) (read_path 4 mark) s next ≡ got rest end) × (d ∷ rest ≡ p.rest)
     first_of p = many_first (read_path 4 mark) s (count - i) done.from (omega arith) p.reads_rest
 
-    pub next_path : PathsThere s mark first count before start → count < 65536 → PathNext s first i mark out done
+    pub next_path : PathsThere s mark first count before → count < 65536 → PathNext s first i mark w done
     next_path x few =
         let p = t.on x.paths x.end x.reads in
         let f = first_of p in
@@ -149,16 +146,16 @@ module _ {s : List ℕ} {mark first count : ℕ} {before : List ℕ} {start : �
           few = omega arith;
         }
 
-    pub thinning_more : (after : List ℕ) (r : PathsDone) → PathsThere s mark first count before start → ThinsPath s first i mark out after done r
-        → Thinning s mark first count before start after r (i + 1)
-    thinning_more after r x w = record { few = omega arith; kept = kept_more; on = λ ds end e. again ds end (t.on ds end e) }
+    pub thinning_more : (after : Writer) (r : PathsDone) → PathsThere s mark first count before → ThinsPath s first i mark w after done r
+        → Thinning s mark first count before after r (i + 1)
+    thinning_more after r x thins = record { few = omega arith; kept = kept_more; on = λ ds end e. again ds end (t.on ds end e) }
       where
-        again : (ds : List ReactiveScopeDependency) (end : ℕ) → Part s mark first ds end before start out done i (count - i)
-            → Part s mark first ds end before start after r (i + 1) (count - (i + 1))
+        again : (ds : List ReactiveScopeDependency) (end : ℕ) → Part s mark first ds end before w done i (count - i)
+            → Part s mark first ds end before after r (i + 1) (count - (i + 1))
         again ds end p =
             let f = first_of p in
             let d = f.0 in
-            let v : PathThinned mark (any_of (same_path d) p.passed) d f.1 out after done r = w.is p.passed d f.1 p.reads_passed f.3 in
+            let v : PathThinned mark (any_of (same_path d) p.passed) d f.1 w after done r = thins.is p.passed d f.1 p.reads_passed f.3 in
             let repeat : any_of (same_path d) p.passed ≡ any_of (same_path d) p.earlier = sym (p.same (same_path d)) in
             let split : concat_map (path_bytes 4 mark) (thinned_after p.earlier p.rest) ≡ one mark (any_of (same_path d) p.passed) d ++
             concat_map (path_bytes 4 mark)
@@ -182,7 +179,7 @@ module _ {s : List ℕ} {mark first count : ℕ} {before : List ℕ} {start : �
               reads_rest = subst (λ n. read_many n (read_path 4 mark) s r.from ≡ got f.2 end) fewer
                   (subst (λ n. read_many (count - i - 1) (read_path 4 mark) s n ≡ got f.2 end) (sym v.from) f.4);
               same = λ test. ap (λ b. test d || b) (p.same test) ∙ sym (any_last test p.passed d);
-              coming = coming_more {xs = one mark (any_of (same_path d) p.passed) d} (coming_as split p.coming) v.writes;
+              coming = coming_more {xs = one mark (any_of (same_path d) p.passed) d} (coming_as split p.coming) v.puts;
               counted = omega arith;
               near =
                   (let near = v.near in
@@ -196,7 +193,7 @@ module _ {s : List ℕ} {mark first count : ℕ} {before : List ℕ} {start : �
         kept_more =
             let p = t.on x.paths x.end x.reads in
             let f = first_of p in
-            let v = w.is p.passed f.0 f.1 p.reads_passed f.3 in
+            let v = thins.is p.passed f.0 f.1 p.reads_passed f.3 in
             let kept = v.kept in
             let most = one_most (any_of (same_path f.0) p.passed) in
             let before-that = t.kept in

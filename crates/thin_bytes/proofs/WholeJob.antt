@@ -15,20 +15,19 @@ use Rattle.model.specs.Answer.{number_bytes, u16, u32, path_bytes}
 use Rattle.model.specs.Thin.{thinned_paths, thinned_block, thinned}
 use Rattle.laws.specs.JobBack.{header_bytes}
 use Rattle.laws.specs.Written.{Stand, header_written}
-use Rattle.writer.specs.Writes.{Writes}
-use Rattle.writer.proofs.Bytes.{number_length, writes_then, writes_before, writes_length, writes_as}
+use Rattle.std.proofs.Common.{MutBor, Ok}
+use Rattle.writer.specs.declared.Writer.{Writer}
+use Rattle.writer.specs.Writes.{Writes, Puts}
+use Rattle.writer.proofs.Bytes.{number_length, moved, puts_then, puts_before, puts_as}
 use Rattle.job.specs.Kept.{candidates_at, kept_of}
 use Rattle.job.specs.declared.JobHead.{JobHead}
-use Rattle.job.specs.declared.ReadJob.TheVariants.{Value}
 use Rattle.job.proofs.Accepted.{Accepted, accepted}
 use Rattle.job.proofs.Many.{many_length}
 use Rattle.job.proofs.RecordParts.{paths_onward, blocks_onward}
 use Rattle.job.proofs.Records.{Parts}
-use Rattle.thin_bytes.specs.declared.Places.{Places}
 use Rattle.thin_bytes.specs.declared.PathsDone.{PathsDone}
 use Rattle.thin_bytes.specs.Thins.{PathsThere, ThinsPaths, Recountable, recounted, BlocksThere, ThinsBlocks, JobThere, ThinsJob}
 use Rattle.thin_bytes.proofs.Copied.{stand_slice, stand_first, stand_rest}
-use Rattle.thin_bytes.proofs.Recounting.{recounted_length}
 
 -- The parts of a header: mark and number of blocks, number of candidates, scope block.
 abbrev front : Header → List ℕ
@@ -97,25 +96,28 @@ module _ (s : List ℕ) (bytes : All (λ b. b < 256) s) {j : Job} (p : Parts s j
       ∙ ap (λ i. ((u16 HD ++ u16 (length (map thinned_block j.blocks))) ++ u16 (length (thinned_paths j.candidates)) ++ u32 i.0 ++ blocks) ++ candidates)
       (sym p.scope)
 
-  pub job_thinned : {out first second after : List ℕ} {blocks : Places} {candidates : PathsDone} {n : ℕ}
-      → ThinsBlocks s 10 (length j.blocks) out first 10 blocks
-      → ThinsPaths s CA blocks.from (length j.candidates) first second blocks.to candidates
-      → Recountable s 0 4 2 10 second 0 → Writes second after 0 (recounted s 0 4 2 candidates.kept 10) n
-      → Writes out after 0 (job_bytes HD 4 (thinned j)) candidates.to × (candidates.to ≤ length s)
-  job_thinned {blocks = blocks} {candidates = candidates} b c fits w =
-      let v = b.is j.blocks (candidates_at s) blocks_there in
-      let u = c.is j.candidates (length s)
-      (subst (λ at. read_many (length j.candidates) (read_path 4 CA) s at ≡ got j.candidates (length s)) (sym v.from) candidates_there) in
-      let near = v.near in
-      let nearer = u.near in (
-        writes_as (whole candidates.kept u.kept) (writes_before (recounted_length fits candidates.kept) (writes_then v.writes u.writes) w),
+  -- the blocks and the candidates are written from byte 10 of the buffer on, up to v and z, and
+  -- then the header from its start on
+  pub job_thinned : {o : MutBor (List ℕ)} {v z y : Writer} {blocks : ℕ} {candidates : PathsDone}
+      → ThinsBlocks s 10 (length j.blocks) (record { out = o; at = 10 }) v blocks
+      → ThinsPaths s CA blocks (length j.candidates) v z candidates
+      → Puts (moved z 0) y 10 (recounted s 0 4 2 candidates.kept 10)
+      → Writes o.now y.out.now 0 (job_bytes HD 4 (thinned j)) z.at × (z.at ≤ length s)
+  job_thinned {o} {blocks = blocks} {candidates = candidates} b c put =
+      let t = b.is j.blocks (candidates_at s) blocks_there in
+      let r = c.is j.candidates (length s)
+      (subst (λ at. read_many (length j.candidates) (read_path 4 CA) s at ≡ got j.candidates (length s)) (sym t.from) candidates_there) in
+      let near = t.near in
+      let nearer = r.near in
+      let low = places.0 in (
+        (puts_as (whole candidates.kept r.kept) (puts_before {a = record { out = o; at = 0 }} (puts_then t.puts r.puts) put)).writes,
         omega arith,
       )
 
 -- What was kept of the job and what the calls ask for.
 module _ {s : List ℕ} {head : JobHead} {out : List ℕ} (x : JobThere s head out) (bytes : All (λ b. b < 256) s) where
   pub reader_kept : Accepted s head
-  reader_kept = accepted s (ap Value x.keeps ∙ sym (ap (kept_of s) x.reads))
+  reader_kept = accepted s (ap Ok x.keeps ∙ sym (ap (kept_of s) x.reads))
 
   abbrev pub parts_of : Parts s reader_kept.job
   parts_of = reader_kept.parts
@@ -129,8 +131,8 @@ module _ {s : List ℕ} {head : JobHead} {out : List ℕ} (x : JobThere s head o
   candidate_number : head.candidates ≡ length reader_kept.job.candidates
   candidate_number = ap (λ (h : JobHead). h.candidates) reader_kept.keeps
 
-  pub blocks_wanted : BlocksThere s 10 head.blocks out 10
-  blocks_wanted =
+  pub blocks_wanted : (o : MutBor (List ℕ)) → length o.now ≡ length out → BlocksThere s 10 head.blocks (record { out = o; at = 10 })
+  blocks_wanted o long =
       let p = places s bytes parts_of in
       let low = p.0 in
       let high = p.1 in
@@ -145,51 +147,58 @@ module _ {s : List ℕ} {head : JobHead} {out : List ℕ} (x : JobThere s head o
         room = omega arith;
       }
 
-  module _ {first : List ℕ} {blocks : Places} (b : ThinsBlocks s 10 head.blocks out first 10 blocks) where
-    done : ThinsBlocks s 10 (length reader_kept.job.blocks) out first 10 blocks
-    done = subst (λ n. ThinsBlocks s 10 n out first 10 blocks) block_number b
+  module _ {o : MutBor (List ℕ)} {v : Writer} {blocks : ℕ} (size : length o.now ≡ length out)
+      (b : ThinsBlocks s 10 head.blocks (record { out = o; at = 10 }) v blocks) where
+    done : ThinsBlocks s 10 (length reader_kept.job.blocks) (record { out = o; at = 10 }) v blocks
+    done = subst (λ n. ThinsBlocks s 10 n (record { out = o; at = 10 }) v blocks) block_number b
 
-    pub candidates_wanted : PathsThere s CA blocks.from head.candidates first blocks.to
+    pub candidates_wanted : PathsThere s CA blocks head.candidates v
     candidates_wanted =
-        let v = done.is reader_kept.job.blocks (candidates_at s) (blocks_there s bytes parts_of) in
+        let t = done.is reader_kept.job.blocks (candidates_at s) (blocks_there s bytes parts_of) in
         let p = places s bytes parts_of in
+        let low = p.0 in
         let high = p.1 in
         let short = x.short in
         let room = x.room in
-        let near = v.near in
-        let from = v.from in
-        let long = writes_length v.writes in
+        let near = t.near in
+        let from = t.from in
+        let long = t.puts.long in
         record {
           paths = reader_kept.job.candidates;
           end = length s;
-          reads = subst (λ n. read_many n (read_path 4 CA) s blocks.from ≡ got reader_kept.job.candidates (length s)) (sym candidate_number)
+          reads = subst (λ n. read_many n (read_path 4 CA) s blocks ≡ got reader_kept.job.candidates (length s)) (sym candidate_number)
               (subst (λ at. read_many (length reader_kept.job.candidates) (read_path 4 CA) s at ≡ got reader_kept.job.candidates (length s))
-              (sym v.from)
+              (sym t.from)
               (candidates_there s bytes parts_of));
           short = short;
           room = omega arith;
         }
 
-    module _ {second : List ℕ} {candidates : PathsDone} (c : ThinsPaths s CA blocks.from head.candidates first second blocks.to candidates) where
-      pub header_wanted : Recountable s 0 4 2 10 second 0
+    module _ {z : Writer} {candidates : PathsDone} (c : ThinsPaths s CA blocks head.candidates v z candidates) where
+      pub header_wanted : Recountable s 0 4 2 10 (moved z 0)
       header_wanted =
-          let v = done.is reader_kept.job.blocks (candidates_at s) (blocks_there s bytes parts_of) in
+          let t = done.is reader_kept.job.blocks (candidates_at s) (blocks_there s bytes parts_of) in
           let want = candidates_wanted in
-          let u = c.is want.paths want.end want.reads in
+          let r = c.is want.paths want.end want.reads in
           let p = places s bytes parts_of in
           let low = p.0 in
           let high = p.1 in
           let room = x.room in
-          let long = writes_length v.writes in
-          let longer = writes_length u.writes in
+          let long = t.puts.long in
+          let longer = r.puts.long in
           record { begins = omega arith; ends = omega arith; within = omega arith; room = omega arith }
 
-      pub thin_written : {after : List ℕ} {n : ℕ} → Writes second after 0 (recounted s 0 4 2 candidates.kept 10) n
-          → ThinsJob s out after candidates.to
-      thin_written {after} w = record {
-        is = λ j end e.
-            subst (λ j. Writes out after 0 (job_bytes HD 4 (thinned j)) candidates.to × (candidates.to ≤ length s)) (same_job j end e)
-            (job_thinned s bytes parts_of done (subst (λ n. ThinsPaths s CA blocks.from n first second blocks.to candidates) candidate_number c)
-            header_wanted
-            w);
-      }
+      -- what the writers wrote stands in the buffer that was lent to them
+      pub thin_written : {y : Writer} {after : List ℕ} → (y.out.ghost_name ≡ o.ghost_name → after ≡ y.out.now)
+          → Puts (moved z 0) y 10 (recounted s 0 4 2 candidates.kept 10) → ThinsJob s o.now after z.at
+      thin_written {y} back put =
+          let t = done.is reader_kept.job.blocks (candidates_at s) (blocks_there s bytes parts_of) in
+          let want = candidates_wanted in
+          let r = c.is want.paths want.end want.reads in
+          let is = back (put.same ∙ r.puts.same ∙ t.puts.same) in
+          record {
+            is = λ j end e.
+                rw is
+                (subst (λ j. Writes o.now y.out.now 0 (job_bytes HD 4 (thinned j)) z.at × (z.at ≤ length s)) (same_job j end e)
+                (job_thinned s bytes parts_of done (subst (λ n. ThinsPaths s CA blocks n v z candidates) candidate_number c) put));
+          }

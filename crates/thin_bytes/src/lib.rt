@@ -3,7 +3,8 @@
 // was read before, so that no record is refused here.
 #![tactic(auto)]
 
-ghost use Rattle.writer.specs.Writes.{Writes};
+ghost use Rattle.std.specs.Prelude.{◌-◌};
+ghost use Rattle.writer.specs.Writes.{Puts};
 ghost use Rattle.thin_bytes.specs.Thins.{
   SameEntries,
   SamePaths,
@@ -23,22 +24,13 @@ ghost use Rattle.thin_bytes.specs.Thins.{
   ThinsJob,
 };
 
-use fields::Passed;
-use job::{JobHead, PathHead, ReadBlockHead, ReadEntry, ReadPathHead};
-use writer::{put_bytes, put_number};
+use job::{JobHead, PathHead};
+use writer::Writer;
 
-// A place in the job, and one in the buffer.
-#[derive(Clone, Copy)]
-pub struct Places {
-    pub from: usize,
-    pub to: usize,
-}
-
-// The places after a list of paths, and how many of them stayed.
+// The place after a list of paths, and how many of them stayed.
 #[derive(Clone, Copy)]
 pub struct PathsDone {
     pub from: usize,
-    pub to: usize,
     pub kept: u16,
 }
 
@@ -48,14 +40,11 @@ fn same_entries(s: &[u8], a: usize, b: usize, count: u8) -> bool
 {
     let mut at = a;
     let mut other_at = b;
-    let mut left = count;
-    while 0 < left {
-        let field = job::entry_at(s, at);
-        let ReadEntry::Value(entry, next) = field else {
+    for _ in 0..count {
+        let Ok((entry, next)) = job::entry_at(s, at) else {
             return false;
         };
-        let other_field = job::entry_at(s, other_at);
-        let ReadEntry::Value(other, other_next) = other_field else {
+        let Ok((other, other_next)) = job::entry_at(s, other_at) else {
             return false;
         };
         if !entry.same(other) {
@@ -63,7 +52,6 @@ fn same_entries(s: &[u8], a: usize, b: usize, count: u8) -> bool
         }
         at = next;
         other_at = other_next;
-        left = left - 1;
     }
     true
 }
@@ -73,12 +61,7 @@ fn same_entries(s: &[u8], a: usize, b: usize, count: u8) -> bool
 fn same_path(s: &[u8], a: PathHead, a_at: usize, b: PathHead, b_at: usize) -> bool
     ensures { SamePaths s.now a a_at b b_at result }
 {
-    let i = a.identifier;
-    let j = b.identifier;
-    if i.0 != j.0 {
-        return false;
-    }
-    if a.entries != b.entries {
+    if a.identifier != b.identifier || a.entries != b.entries {
         return false;
     }
     same_entries(s, a_at, b_at, a.entries)
@@ -89,81 +72,65 @@ fn is_repeat(s: &[u8], first: usize, earlier: u16, at: usize) -> bool
     requires { PathBehind s.now first earlier at }
     ensures { Repeats s.now first earlier at result }
 {
-    let own_field = job::path_head_at(s, at + 2);
-    let ReadPathHead::Value(own, own_at) = own_field else {
+    let Ok((own, own_at)) = job::path_head_at(s, at + 2) else {
         return false;
     };
     let mut place = first;
-    let mut left = earlier;
-    while 0 < left {
-        let field = job::path_head_at(s, place + 2);
-        let ReadPathHead::Value(head, entries_at) = field else {
+    for _ in 0..earlier {
+        let Ok((head, entries_at)) = job::path_head_at(s, place + 2) else {
             return false;
         };
         if same_path(s, own, own_at, head, entries_at) {
             return true;
         }
-        place = entries_at + job::ENTRY_SIZE * (head.entries as usize);
-        left = left - 1;
+        place = entries_at + job::ENTRY_SIZE * usize::from(head.entries);
     }
     false
 }
 
 // One path more, behind `earlier` ones of its list that stand from `first` on: it is written unless
 // it equals one of them. The job was read, so that it is there.
+// Design: bytes, place of the list and writer are parameters, since the clauses (`PathNext`,
+// `ThinsPath`, `ThinsPaths`) take each; the writer alone changes, and `first` is another per list.
 fn thin_path(
     s: &[u8],
     first: usize,
     earlier: u16,
     mark: u16,
-    out: &mut [u8],
+    w: &mut Writer,
     done: PathsDone,
 ) -> PathsDone
-    requires { PathNext s.now first earlier mark out.old done }
-    ensures { ThinsPath s.now first earlier mark out.old out.new done result }
+    requires { PathNext s.now first earlier mark w.old done }
+    ensures { ThinsPath s.now first earlier mark w.old w.new done result }
 {
     let from = done.from;
-    let past = job::past_path(s, from, mark);
-    let Passed::To(next) = past else {
+    let Ok(next) = job::past_path(s, from, mark) else {
         return done;
     };
-    let to = done.to;
     if is_repeat(s, first, earlier, from) {
         return PathsDone {
             from: next,
-            to,
             kept: done.kept,
         };
     }
-    let end = put_bytes(out, to, s, from, next);
+    w.bytes(&s[from..next]);
     PathsDone {
         from: next,
-        to: end,
         kept: done.kept + 1,
     }
 }
 
 // The paths that stay of `count` paths under a mark.
-fn thin_paths(
-    s: &[u8],
-    first: usize,
-    count: u16,
-    mark: u16,
-    out: &mut [u8],
-    start: usize,
-) -> PathsDone
-    requires { PathsThere s.now mark first count out.old start }
-    ensures { ThinsPaths s.now mark first count out.old out.new start result }
+fn thin_paths(s: &[u8], first: usize, count: u16, mark: u16, w: &mut Writer) -> PathsDone
+    requires { PathsThere s.now mark first count w.old }
+    ensures { ThinsPaths s.now mark first count w.old w.new result }
 {
     let mut done = PathsDone {
         from: first,
-        to: start,
         kept: 0,
     };
-    let mut i: u16 = 0;
-    while i < count {
-        done = thin_path(s, first, i, mark, out, done);
-        i = i + 1;
+    for i in 0..count {
+        done = thin_path(s, first, i, mark, w, done);
     }
     done
 }
@@ -171,74 +138,58 @@ fn thin_paths(
 // The bytes of the job from one place up to another, with a number in the place of the count that
 // stands among them.
 fn put_recounted(
-    out: &mut [u8],
-    at: usize,
+    w: &mut Writer,
     s: &[u8],
     from: usize,
     count_at: usize,
     bytes: usize,
     count: u64,
     until: usize,
-) -> usize
-    requires { Recountable s.now from count_at bytes until out.old at }
-    ensures { Writes out.old out.new at
-        (recounted s.now from count_at bytes count until) result }
+)
+    requires { Recountable s.now from count_at bytes until w.old }
+    ensures { Puts w.old w.new (until - from) (recounted s.now from count_at bytes count until) }
 {
-    let count_to = put_bytes(out, at, s, from, count_at);
-    let rest_to = put_number(out, count_to, bytes, count);
-    put_bytes(out, rest_to, s, count_at + bytes, until)
+    w.bytes(&s[from..count_at]);
+    w.number(bytes, count);
+    w.bytes(&s[count_at + bytes..until]);
 }
 
 // A block with the ready paths that stay. What stands before the paths, its raw reads among it, is
-// written last, since it has their number.
-fn thin_block(s: &[u8], at: usize, out: &mut [u8], to: usize) -> Places
-    requires { BlockThere s.now at out.old to }
-    ensures { ThinsBlock s.now at out.old out.new to result }
+// written last, since it has their number. Says the place after the block.
+fn thin_block(s: &[u8], at: usize, w: &mut Writer) -> usize
+    requires { BlockThere s.now at w.old }
+    ensures { ThinsBlock s.now at w.old w.new result }
 {
-    // A block that was read has its head, its ids and its reads, so this is never the answer.
-    let never = Places { from: at, to };
-    let head_field = job::block_head_at(s, at);
-    let ReadBlockHead::Value(head, ids_at) = head_field else {
-        return never;
+    // A block that was read has its head, its ids and its reads, so none of these is refused.
+    let Ok((head, ids_at)) = job::block_head_at(s, at) else {
+        return at;
     };
-    let ids = job::past_ids(s, ids_at, head.predecessors);
-    let Passed::To(reads_at) = ids else {
-        return never;
+    let Ok(reads_at) = job::past_ids(s, ids_at, head.predecessors) else {
+        return at;
     };
-    let reads = job::past_raw_reads(s, reads_at, head.raw);
-    let Passed::To(paths_at) = reads else {
-        return never;
+    let Ok(paths_at) = job::past_raw_reads(s, reads_at, head.raw) else {
+        return at;
     };
-    let paths = thin_paths(
-        s,
-        paths_at,
-        head.assumed as u16,
-        job::PA,
-        out,
-        to + (paths_at - at),
-    );
-    put_recounted(out, to, s, at, at + 7, 1, paths.kept as u64, paths_at);
-    Places {
-        from: paths.from,
-        to: paths.to,
-    }
+    let to = w.at;
+    w.at = to + (paths_at - at);
+    let paths = thin_paths(s, paths_at, u16::from(head.assumed), job::PA, w);
+    let end = w.at;
+    w.at = to;
+    put_recounted(w, s, at, at + 7, 1, u64::from(paths.kept), paths_at);
+    w.at = end;
+    paths.from
 }
 
-// `count` blocks, one after the other.
-fn thin_blocks(s: &[u8], first: usize, count: usize, out: &mut [u8], start: usize) -> Places
-    requires { BlocksThere s.now first count out.old start }
-    ensures { ThinsBlocks s.now first count out.old out.new start result }
+// `count` blocks, one after the other. Says the place after them.
+fn thin_blocks(s: &[u8], first: usize, count: usize, w: &mut Writer) -> usize
+    requires { BlocksThere s.now first count w.old }
+    ensures { ThinsBlocks s.now first count w.old w.new result }
 {
-    let mut places = Places {
-        from: first,
-        to: start,
-    };
-    let mut left = count;
-    while 0 < left {
-        places = thin_block(s, places.from, out, places.to);
-        left = left - 1;
+    let mut at = first;
+    for _ in 0..count {
+        at = thin_block(s, at, w);
     }
-    places
+    at
 }
 
 // The thin job, from the buffer's start on: how many bytes it has. The header is written last,
@@ -247,15 +198,11 @@ pub fn put_thin(s: &[u8], head: JobHead, out: &mut [u8]) -> usize
     requires { JobThere s.now head out.old }
     ensures { ThinsJob s.now out.old out.new result }
 {
-    let blocks = thin_blocks(s, 10, head.blocks, out, 10);
-    let candidates = thin_paths(
-        s,
-        blocks.from,
-        head.candidates as u16,
-        job::CA,
-        out,
-        blocks.to,
-    );
-    put_recounted(out, 0, s, 0, 4, 2, candidates.kept as u64, 10);
-    candidates.to
+    let mut w = Writer { out, at: 10 };
+    let candidates_at = thin_blocks(s, 10, head.blocks, &mut w);
+    let candidates = thin_paths(s, candidates_at, head.candidates as u16, job::CA, &mut w);
+    let end = w.at;
+    w.at = 0;
+    put_recounted(&mut w, s, 0, 4, 2, u64::from(candidates.kept), 10);
+    end
 }

@@ -1,32 +1,35 @@
 -- The first dependencies on each way down, position by position: what is still to be derived from
 -- here on is the rest of the whole.
-use Prim.Native.Nat.{ℕ, zero, suc, ◌+◌, ◌-◌, ◌≤◌, ◌<◌}
+use Prim.Native.Nat.{ℕ, zero, suc, ◌+◌, ◌*◌, ◌-◌, ◌≤◌, ◌<◌}
 use native.Mathlib.Omega.{arith}
 use native.Mathlib.Numerals.{add-one}
 use native.Mathlib.Nat.{add-zero, zero-add}
 use mathlib.Core.Path.{◌≡◌, refl, sym, ap, subst, ◌∙◌}
 use mathlib.Core.Bool.{Bool, true, false, cond}
 use mathlib.Core.List.{List, [], ◌∷◌, ◌++◌, map, append_assoc, append-nil}
-use lib.ListN.{length, get_or, set, length-append, length-set}
-use lib.Seq.{get_or-set_same, get_or-set_other}
-use lib.Dec.{eqb, leb}
+use Rattle.std.proofs.Common.{Option, Some, None}
+use lib.ListN.{length, get_or, set, take, length-append, length-set, length-take}
+use lib.Seq.{get_or-set_same, get_or-set_other, get_or-take}
+use lib.Dec.{leb}
 use Rattle.entries.specs.Access.{is_dependency_access}
 use Rattle.entries.specs.Path.{ReactiveScopeDependency}
 use Rattle.model.specs.Lists.{concat_map}
 use Rattle.model.specs.Answer.{DE, path_bytes, entry_bytes}
-use Rattle.model.specs.Tests.{decide, eqb-true, eqb-false, eqb_equal, eqb_apart}
+use Rattle.model.specs.Tests.{eqb_equal, eqb_apart}
 use Rattle.model.specs.Tree.{DependencyPosition, is_dependency, dependency_of}
-use Rattle.writer.specs.Writes.{Writes, path_head_bytes}
-use Rattle.writer.proofs.Bytes.{path_head_length, writes_as, Coming, coming_start, coming_more, coming_over, coming_room, coming_as}
-use Rattle.tree.specs.declared.Written.{Written}
+use Rattle.writer.specs.declared.Writer.{Writer}
+use Rattle.writer.specs.Writes.{HasRoom, Puts, path_head_bytes}
+use Rattle.writer.proofs.Bytes.{path_head_length, puts_as, puts_own, Coming, coming_start, coming_more, coming_over, coming_as}
+use Rattle.tree.proofs.Putting.{way_long}
 use Rattle.laws.specs.Flat.{grow, flat_firsts}
-use Rattle.tree.specs.Words.{parent_in, place_in, access_in, sibling_in, position_of, node_of, positions_from, nodes_from, way_positions}
+use Rattle.tree.specs.Words.{parent_in, place_in, access_in, sibling_in, link_of, position_of, node_of, positions_from, nodes_from, way_positions}
 use Rattle.laws.specs.FlatLaws.{flat_firsts_lem}
 use Rattle.tree.specs.Tree.{
   count_in,
   nodes_of,
   Apart,
   Next,
+  Leads,
   forest_of,
   height,
   Sized,
@@ -37,10 +40,9 @@ use Rattle.tree.specs.Tree.{
   paths_from,
   KeepsWay,
   Derives,
-  Puttable,
   Derivable,
 }
-use Rattle.tree.proofs.Linking.{skip_to}
+use Rattle.tree.proofs.Linking.{skip_to, leads_by}
 use Rattle.tree.proofs.Packed.{position_access}
 use Rattle.tree.proofs.Adding.{children_lower, others_lower}
 
@@ -79,6 +81,12 @@ positions_same s ws vs k (suc n) h = rw (h k (omega arith), positions_same s ws 
 pub kept_positions : (s : List ℕ) {way to : List ℕ} {depth : ℕ} → KeepsWay way to depth → way_positions s to depth ≡ way_positions s way depth
 kept_positions s {way} {to} {depth} k = positions_same s way to 0 depth (λ j l. k.same j (omega arith))
 
+-- a part of the words has the positions of its words
+positions_taken : (s way : List ℕ) (n : ℕ) → n ≤ length way → way_positions s (take n way) (length (take n way)) ≡ way_positions s way n
+positions_taken s way n h =
+    let long : length (take n way) ≡ n = omega (arith, length-take n way) in
+    ap (way_positions s (take n way)) long ∙ positions_same s way (take n way) 0 n (λ j l. get_or-take n way j 0 (omega arith))
+
 -- One position more: the word at the end of the way.
 module _ (way to : List ℕ) (depth w : ℕ) (within : depth < length way) where
   pub pushed_keeps : to ≡ set way depth w → KeepsWay way to depth
@@ -102,12 +110,22 @@ keeps_less a = record { long = a.long; same = λ j l. a.same j (omega arith) }
 
 -- One record.
 
-pub count_fits : {s way : List ℕ} {depth : ℕ} {out : List ℕ} {done : Written} → Puttable s way depth out done → done.count + 1 ≤ length out
-count_fits {s} {way} {depth} p = let a = p.room in let b = p.few in let c = path_long (dependency_of (way_positions s way depth)) in omega arith
+-- the way down is the first words of those that are lent
+put_one : (s to : List ℕ) (n : ℕ) {a b : Writer} → n ≤ length to → 0 < n
+    → Puts a b (12 + 14 * (length (take n to) - 1)) (path_bytes 4 DE (dependency_of (way_positions s (take n to) (length (take n to)))))
+    → Derives (dependency_of (way_positions s to n) ∷ []) a b 1
+put_one s to n {a} {b} h some x = record {
+  puts = puts_own (puts_as (ap (λ ps. path_bytes 4 DE (dependency_of ps)) (positions_taken s to n h) ∙ sym (append-nil _)) x);
+  counts = refl;
+}
 
-pub put_one : (d : ReactiveScopeDependency) {before after : List ℕ} (done : Written) (at : ℕ) → Writes before after done.at (path_bytes 4 DE d) at
-    → Derives (d ∷ []) before after done (record { at = at; count = done.count + 1 })
-put_one d done at w = record { writes = writes_as (sym (append-nil _)) w; counts = refl }
+room_one : (s to : List ℕ) (n : ℕ) (w : Writer) → n ≤ length to → 0 < n → HasRoom w (length (bytes_of (dependency_of (way_positions s to n) ∷ [])))
+    → HasRoom w (12 + 14 * (length (take n to) - 1))
+room_one s to n w h some room =
+    let long : length (take n to) ≡ n = omega (arith, length-take n to) in
+    let path = ap (λ ps. length (path_bytes 4 DE (dependency_of ps))) (positions_taken s to n h) in
+    let one = ap length (append-nil (path_bytes 4 DE (dependency_of (way_positions s to n)))) in
+    omega (arith, way_long s (take n to) (omega arith), path, one)
 
 -- The paths from a position on.
 
@@ -188,21 +206,20 @@ module _ (s ws : List ℕ) (parent i : ℕ) (way : List ℕ) (depth : ℕ) (h : 
 -- The loop over the children. `way` is the way down at the start, `now` what the words of the way
 -- are now; what is still to be derived comes from place i on.
 
-pub record Deriving (s ws : List ℕ) (parent : ℕ) (way now : List ℕ) (depth : ℕ) (before out : List ℕ) (start done : Written) (i : ℕ) : Type 0 where
+pub record Deriving (s ws : List ℕ) (parent : ℕ) (way now : List ℕ) (depth : ℕ) (before w : Writer) (count i : ℕ) : Type 0 where
   pub sized : Sized ws
   pub long : length way ≡ 17
   pub keeps : KeepsWay way now depth
   pub reached : parent ≤ i
   pub within : i ≤ count_in ws
   pub low : depth + height (grow (nodes_after s ws i) i parent) ≤ 17
-  pub room : start.at + length (bytes_of (paths_from s ws parent parent way depth)) ≤ length before
-  pub coming : Coming before out start.at done.at (bytes_of (paths_from s ws parent parent way depth)) (bytes_of (paths_from s ws parent i way depth))
-  pub counts : done.count + length (paths_from s ws parent i way depth) ≡ start.count + length (paths_from s ws parent parent way depth)
-  pub few : done.count ≤ done.at
+  pub room : HasRoom before (length (bytes_of (paths_from s ws parent parent way depth)))
+  pub coming : Coming before w (bytes_of (paths_from s ws parent parent way depth)) (bytes_of (paths_from s ws parent i way depth))
+  pub counts : count + length (paths_from s ws parent i way depth) ≡ length (paths_from s ws parent parent way depth)
 
-pub deriving_start : {s ws : List ℕ} {parent : ℕ} {way : List ℕ} {depth : ℕ} {out : List ℕ} {start : Written}
-    → Derivable s ws parent way depth out start → Deriving s ws parent way way depth out out start start parent
-deriving_start {out = out} {start = start} d = record {
+pub deriving_start : {s ws : List ℕ} {parent : ℕ} {way : List ℕ} {depth : ℕ} {w : Writer}
+    → Derivable s ws parent way depth w → Deriving s ws parent way way depth w w 0 parent
+deriving_start {w = w} d = record {
   sized = d.sized;
   long = d.long;
   keeps = record { long = refl; same = λ j l. refl };
@@ -210,39 +227,35 @@ deriving_start {out = out} {start = start} d = record {
   within = d.within;
   low = d.low;
   room = d.room;
-  coming = coming_start out start.at _;
-  counts = refl;
-  few = d.few;
+  coming = coming_start w _;
+  counts = omega arith;
 }
 
-module _ {s ws : List ℕ} {parent : ℕ} {way now : List ℕ} {depth : ℕ} {before out : List ℕ} {start done : Written} {i : ℕ}
-    (d : Deriving s ws parent way now depth before out start done i) where
+module _ {s ws : List ℕ} {parent : ℕ} {way now : List ℕ} {depth : ℕ} {before w : Writer} {count i : ℕ}
+    (d : Deriving s ws parent way now depth before w count i) where
   none_left : count_in ws ≤ i → paths_from s ws parent i way depth ≡ []
   unfolding paths_from
   none_left h = let z : count_in ws - i ≡ 0 = omega arith in rw z
 
-  deriving_over : count_in ws ≤ i → Derives (paths_from s ws parent parent way depth) before out start done
+  deriving_over : count_in ws ≤ i → Derives (paths_from s ws parent parent way depth) before w count
   deriving_over h =
       let none = none_left h in
       record {
-        writes = coming_over (coming_as (ap bytes_of none) d.coming);
+        puts = coming_over (coming_as (ap bytes_of none) d.coming) refl;
         counts = let c = d.counts in let n = ap length none in omega arith;
       }
 
   -- some of the paths are written, and the others come from the next position on
   deriving_more : (ds : List ReactiveScopeDependency) → paths_from s ws parent i way depth ≡ ds ++ paths_from s ws parent (i + 1) way depth
       → depth + height (grow (nodes_after s ws (i + 1)) (i + 1) parent) ≤ 17 → i < count_in ws → (to : List ℕ)
-      → KeepsWay way to depth → (more : List ℕ) (next : Written)
-      → Derives ds out more done next
-      → Deriving s ws parent way to depth before more start next (i + 1)
-  deriving_more ds e low h to keeps more next x =
+      → KeepsWay way to depth → (next : Writer) (n : ℕ)
+      → Derives ds w next n
+      → Deriving s ws parent way to depth before next (count + n) (i + 1)
+  deriving_more ds e low h to keeps next n x =
       let rest = paths_from s ws parent (i + 1) way depth in
       let all = ap length e ∙ length-append ds rest in
       let counted = d.counts in
       let one = x.counts in
-      let ends = x.writes.ends in
-      let many = bytes_many ds in
-      let few = d.few in
       let r = d.reached in
       record {
         sized = d.sized;
@@ -252,18 +265,31 @@ module _ {s ws : List ℕ} {parent : ℕ} {way now : List ℕ} {depth : ℕ} {be
         within = omega arith;
         low = low;
         room = d.room;
-        coming = coming_more (coming_as (ap bytes_of e ∙ bytes_append ds rest) d.coming) x.writes;
+        coming = coming_more (coming_as (ap bytes_of e ∙ bytes_append ds rest) d.coming) x.puts;
         counts = omega arith;
-        few = omega arith;
       }
 
   -- what is written now finds its room
   part_room : (ds : List ReactiveScopeDependency) → paths_from s ws parent i way depth ≡ ds ++ paths_from s ws parent (i + 1) way depth
-      → done.at + length (bytes_of ds) ≤ length out
+      → HasRoom w (length (bytes_of ds))
   part_room ds e =
       let rest = paths_from s ws parent (i + 1) way depth in
-      let all = coming_room (coming_as (ap bytes_of e ∙ bytes_append ds rest) d.coming) d.room in
+      let coming = coming_as (ap bytes_of e ∙ bytes_append ds rest) d.coming in
+      let ends = coming.ends in
+      let long = coming.long in
+      let room = d.room in
       let l = length-append (bytes_of ds) (bytes_of rest) in
+      omega arith
+
+  -- as many as are counted have bytes in the buffer
+  counted : (ds : List ReactiveScopeDependency) (n : ℕ) → paths_from s ws parent i way depth ≡ ds ++ paths_from s ws parent (i + 1) way depth
+      → n ≡ length ds → count + n ≤ length before.out.now
+  counted ds n e m =
+      let rest = paths_from s ws parent (i + 1) way depth in
+      let all = ap length e ∙ length-append ds rest in
+      let many = bytes_many (paths_from s ws parent parent way depth) in
+      let c = d.counts in
+      let r = d.room in
       omega arith
 
   module _ (h : i < count_in ws) where
@@ -294,49 +320,67 @@ module _ {s ws : List ℕ} {parent : ℕ} {way now : List ℕ} {depth : ℕ} {be
         abbrev one : ReactiveScopeDependency
         one = dependency_of (way_positions s to (depth + 1))
 
-        asked_put : dependency ≡ true → Puttable s to (depth + 1) out done
-        asked_put t =
-            let room = part_room (one ∷ []) (paths_dependency s ws parent i way depth h e to pushed (sym tested ∙ t)) in
-            let same = ap length (append-nil (path_bytes 4 DE one)) in
-            let short = deriving_short in
-            record { some = omega arith; short = omega arith; room = omega arith; few = d.few }
+        abbrev below : List ReactiveScopeDependency
+        below = paths_from s ws (i + 1) (i + 1) to (depth + 1)
 
-        put : dependency ≡ true → (more : List ℕ) (next : Written) → Derives (one ∷ []) out more done next
-            → Deriving s ws parent way to depth before more start next (i + 1)
-        put t = deriving_more (one ∷ []) (paths_dependency s ws parent i way depth h e to pushed (sym tested ∙ t)) others h to to_keeps
+        to_short : depth + 1 ≤ length to
+        to_short = let c = deriving_short in let l = to_keeps.long in let m = d.long in omega arith
 
-        asked_derived : dependency ≡ false → Derivable s ws (i + 1) to (depth + 1) out done
+        is_one : dependency ≡ true → paths_from s ws parent i way depth ≡ (one ∷ []) ++ paths_from s ws parent (i + 1) way depth
+        is_one t = paths_dependency s ws parent i way depth h e to pushed (sym tested ∙ t)
+
+        are_below : dependency ≡ false → paths_from s ws parent i way depth ≡ below ++ paths_from s ws parent (i + 1) way depth
+        are_below t = paths_children s ws parent i way depth h e to pushed (sym tested ∙ t)
+
+        asked_put : dependency ≡ true → HasRoom w (12 + 14 * (length (take (depth + 1) to) - 1))
+        asked_put t = room_one s to (depth + 1) w to_short (omega arith) (part_room (one ∷ []) (is_one t))
+
+        counted_put : dependency ≡ true → count + 1 ≤ length before.out.now
+        counted_put t = counted (one ∷ []) 1 (is_one t) refl
+
+        put : dependency ≡ true → (next : Writer)
+            → Puts w next (12 + 14 * (length (take (depth + 1) to) - 1))
+            (path_bytes 4 DE (dependency_of (way_positions s (take (depth + 1) to) (length (take (depth + 1) to)))))
+            → Deriving s ws parent way to depth before next (count + 1) (i + 1)
+        put t next x = deriving_more (one ∷ []) (is_one t) others h to to_keeps next 1 (put_one s to (depth + 1) to_short (omega arith) x)
+
+        asked_derived : dependency ≡ false → Derivable s ws (i + 1) to (depth + 1) w
         asked_derived t = record {
           sized = d.sized;
           within = omega arith;
           long = to_keeps.long ∙ d.long;
           low = children;
-          room = part_room (paths_from s ws (i + 1) (i + 1) to (depth + 1)) (paths_children s ws parent i way depth h e to pushed (sym tested ∙ t));
-          few = d.few;
+          room = part_room below (are_below t);
         }
 
-        derived : dependency ≡ false → (more to' : List ℕ) (next : Written) → Derives (paths_from s ws (i + 1) (i + 1) to (depth + 1)) out more done next
-            → KeepsWay to to' (depth + 1) → Deriving s ws parent way to' depth before more start next (i + 1)
-        derived t more to' next x k =
-            deriving_more (paths_from s ws (i + 1) (i + 1) to (depth + 1)) (paths_children s ws parent i way depth h e to pushed (sym tested ∙ t)) others h to'
-            (keeps_more to_keeps (keeps_less k)) more next x
+        counted_derived : dependency ≡ false → (next : Writer) (n : ℕ) → Derives below w next n → count + n ≤ length before.out.now
+        counted_derived t next n x = counted below n (are_below t) x.counts
+
+        derived : dependency ≡ false → (to' : List ℕ) (next : Writer) (n : ℕ) → Derives below w next n → KeepsWay to to' (depth + 1)
+            → Deriving s ws parent way to' depth before next (count + n) (i + 1)
+        derived t to' next n x k = deriving_more below (are_below t) others h to' (keeps_more to_keeps (keeps_less k)) next n x
 
 -- The children are reached by the links.
 
--- the place to which a number leads: behind all positions where it is 0
-abbrev pub place_of : List ℕ → ℕ → ℕ
-place_of ws number = cond (eqb number 0) (count_in ws) (number - 1)
+-- the place to which a link leads: behind all positions where there is none
+abbrev pub place_of : List ℕ → Option ℕ → ℕ
+place_of ws None = count_in ws
+place_of ws (Some number) = number - 1
+
+-- a child of the parent, where there is one
+abbrev IsChild : List ℕ → ℕ → Option ℕ → Type 0
+IsChild ws parent None = Unit {0}
+IsChild ws parent (Some number) = (0 < number) × (number ≤ count_in ws) × (parent_in (get_or ws (number - 1) 0) ≡ parent)
 
 -- The loop is at a child of the parent, or over.
-pub record AtChild (s ws : List ℕ) (parent : ℕ) (way now : List ℕ) (depth : ℕ) (before out : List ℕ) (start done : Written) (number : ℕ) : Type 0 where
-  pub rest : Deriving s ws parent way now depth before out start done (place_of ws number)
-  pub within : number ≤ count_in ws
-  pub own : 0 < number → parent_in (get_or ws (number - 1) 0) ≡ parent
+pub record AtChild (s ws : List ℕ) (parent : ℕ) (way now : List ℕ) (depth : ℕ) (before w : Writer) (count : ℕ) (next : Option ℕ) : Type 0 where
+  pub rest : Deriving s ws parent way now depth before w count (place_of ws next)
+  pub child : IsChild ws parent next
 
-module _ {s ws : List ℕ} {parent : ℕ} {way now : List ℕ} {depth : ℕ} {before out : List ℕ} {start done : Written} {i : ℕ}
-    (d : Deriving s ws parent way now depth before out start done i) where
+module _ {s ws : List ℕ} {parent : ℕ} {way now : List ℕ} {depth : ℕ} {before w : Writer} {count i : ℕ}
+    (d : Deriving s ws parent way now depth before w count i) where
   -- positions with another parent are passed
-  to_place : (l : ℕ) → i ≤ l → l ≤ count_in ws → Apart ws parent i l → Deriving s ws parent way now depth before out start done l
+  to_place : (l : ℕ) → i ≤ l → l ≤ count_in ws → Apart ws parent i l → Deriving s ws parent way now depth before w count l
   to_place l h k apart =
       let paths = skip_to ws parent (λ j. paths_from s ws parent j way depth) (λ j m ne. paths_other s ws parent j way depth m ne) i l h k apart in
       let forest = skip_to ws parent (λ j. grow (nodes_after s ws j) j parent) (λ j m ne. low_other s ws parent j way depth m ne) i l h k apart in
@@ -351,86 +395,87 @@ module _ {s ws : List ℕ} {parent : ℕ} {way now : List ℕ} {depth : ℕ} {be
         room = d.room;
         coming = coming_as (ap bytes_of paths) d.coming;
         counts = rw (← paths) d.counts;
-        few = d.few;
       }
 
-  pub at_child : (number : ℕ) → Next ws i parent number → AtChild s ws parent way now depth before out start done number
-  at_child number n = record {
-    rest = decide (eqb number 0)
-        (λ t. let z = eqb-true number 0 t in rw t (to_place (count_in ws) d.within (omega arith) (n.none (omega arith))))
-        (λ t.
-        let ne = eqb-false number 0 t in
-        let some : 0 < number = omega (arith, ne) in
-        let b = n.behind some in
-        let w = n.within in
-        rw t (to_place (number - 1) (omega arith) (omega arith) (n.first some)));
-    within = n.within;
-    own = n.own;
-  }
+  pub at_child : (next : Option ℕ) → Leads ws i parent next → AtChild s ws parent way now depth before w count next
+  at_child None n = record { rest = to_place (count_in ws) d.within (omega arith) (n.none (omega arith)); child = tt }
+  at_child (Some number) n =
+      let some = n.0 in
+      let b = n.1.behind some in
+      let w = n.1.within in
+      record { rest = to_place (number - 1) (omega arith) (omega arith) (n.1.first some); child = (some, w, n.1.own some) }
 
-module _ {s ws : List ℕ} {parent : ℕ} {way now : List ℕ} {depth : ℕ} {before out : List ℕ} {start done : Written} {number : ℕ}
-    (c : AtChild s ws parent way now depth before out start done number) where
-  child_deriving : 0 < number → Deriving s ws parent way now depth before out start done (number - 1)
-  child_deriving h = rw (eqb_apart number 0 (λ z. omega arith)) at c.rest
+module _ {s ws : List ℕ} {parent : ℕ} {way now : List ℕ} {depth : ℕ} {before w : Writer} {count : ℕ} {next : Option ℕ}
+    (c : AtChild s ws parent way now depth before w count next) where
+  pub at_number : {number : ℕ} → next ≡ Some number → AtChild s ws parent way now depth before w count (Some number)
+  at_number e = subst (λ (l : Option ℕ). AtChild s ws parent way now depth before w count l) e c
 
-  pub child_inside : 0 < number → number - 1 < count_in ws
-  child_inside h = let w = c.within in omega arith
+  pub at_end : next ≡ None → AtChild s ws parent way now depth before w count None
+  at_end e = subst (λ (l : Option ℕ). AtChild s ws parent way now depth before w count l) e c
 
-  pub child_behind : 0 < number → parent < number
-  child_behind h = let r = (child_deriving h).reached in omega arith
+-- The loop is over.
+pub child_over : {s ws : List ℕ} {parent : ℕ} {way now : List ℕ} {depth : ℕ} {before w : Writer} {count : ℕ}
+    → AtChild s ws parent way now depth before w count None → Derives (paths_from s ws parent parent way depth) before w count
+child_over c = deriving_over c.rest (omega arith)
 
-  pub child_over : number ≤ 0 → Derives (paths_from s ws parent parent way depth) before out start done
-  child_over h = deriving_over c.rest (let z : number ≡ 0 = omega arith in rw (eqb_equal number 0 z) (omega arith))
+-- The loop is at a child.
+module _ {s ws : List ℕ} {parent : ℕ} {way now : List ℕ} {depth : ℕ} {before w : Writer} {count number : ℕ}
+    (c : AtChild s ws parent way now depth before w count (Some number)) where
+  pub child_inside : number - 1 < count_in ws
+  child_inside = let l = c.child.1 in let k = c.child.0 in omega arith
+
+  pub child_behind : parent < number
+  child_behind = let r = c.rest.reached in let k = c.child.0 in omega arith
+
+  back : number - 1 + 1 ≡ number
+  back = let k = c.child.0 in omega arith
+
+  pub child_within : depth < length now
+  child_within = within c.rest child_inside c.child.2
 
   -- The child is put at the end of the way, and the test on its access is as the code has it.
-  module _ (h : 0 < number) (to : List ℕ) (stored : to ≡ set now depth (get_or ws (number - 1) 0)) (dependency : Bool)
+  module _ (to : List ℕ) (stored : to ≡ set now depth (get_or ws (number - 1) 0)) (dependency : Bool)
       (tested : dependency ≡ is_dependency_access (access_in (get_or ws (number - 1) 0))) where
-    back : number - 1 + 1 ≡ number
-    back = omega arith
+    pub child_to : depth + 1 ≤ length to
+    child_to = to_short c.rest child_inside c.child.2 to stored dependency tested
 
-    pub child_short : depth < 17
-    child_short = deriving_short (child_deriving h) (child_inside h) (c.own h)
+    pub child_asked_put : dependency ≡ true → HasRoom w (12 + 14 * (length (take (depth + 1) to) - 1))
+    child_asked_put = asked_put c.rest child_inside c.child.2 to stored dependency tested
 
-    pub child_asked_put : dependency ≡ true → Puttable s to (depth + 1) out done
-    child_asked_put = asked_put (child_deriving h) (child_inside h) (c.own h) to stored dependency tested
+    pub child_counted_put : dependency ≡ true → count + 1 ≤ length before.out.now
+    child_counted_put = counted_put c.rest child_inside c.child.2 to stored dependency tested
 
-    pub child_put : dependency ≡ true → (more : List ℕ) (next : Written) → Derives (dependency_of (way_positions s to (depth + 1)) ∷ []) out more done next
-        → Deriving s ws parent way to depth before more start next (number - 1 + 1)
-    child_put = put (child_deriving h) (child_inside h) (c.own h) to stored dependency tested
+    pub child_put : dependency ≡ true → (next : Writer)
+        → Puts w next (12 + 14 * (length (take (depth + 1) to) - 1))
+        (path_bytes 4 DE (dependency_of (way_positions s (take (depth + 1) to) (length (take (depth + 1) to)))))
+        → Deriving s ws parent way to depth before next (count + 1) (number - 1 + 1)
+    child_put = put c.rest child_inside c.child.2 to stored dependency tested
 
-    pub child_asked_derived : dependency ≡ false → Derivable s ws number to (depth + 1) out done
+    pub child_asked_derived : dependency ≡ false → Derivable s ws number to (depth + 1) w
     child_asked_derived t =
-        subst (λ n. Derivable s ws n to (depth + 1) out done) back
-        (asked_derived (child_deriving h) (child_inside h) (c.own h) to stored dependency tested t)
+        subst (λ n. Derivable s ws n to (depth + 1) w) back (asked_derived c.rest child_inside c.child.2 to stored dependency tested t)
 
-    pub child_derived : dependency ≡ false → (more to' : List ℕ) (next : Written)
-        → Derives (paths_from s ws number number to (depth + 1)) out more done next → KeepsWay to to' (depth + 1)
-        → Deriving s ws parent way to' depth before more start next (number - 1 + 1)
-    child_derived t more to' next x k =
-        derived (child_deriving h) (child_inside h) (c.own h) to stored dependency tested t more to' next
-        (subst (λ n. Derives (paths_from s ws n n to (depth + 1)) out more done next) (sym back) x) k
+    module _ (t : dependency ≡ false) (next : Writer) (n : ℕ) (x : Derives (paths_from s ws number number to (depth + 1)) w next n) where
+      there : Derives (paths_from s ws (number - 1 + 1) (number - 1 + 1) to (depth + 1)) w next n
+      there = subst (λ k. Derives (paths_from s ws k k to (depth + 1)) w next n) (sym back) x
+
+      pub child_counted_derived : count + n ≤ length before.out.now
+      child_counted_derived = counted_derived c.rest child_inside c.child.2 to stored dependency tested t next n there
+
+      pub child_derived : (to' : List ℕ) → KeepsWay to to' (depth + 1) → Deriving s ws parent way to' depth before next (count + n) (number - 1 + 1)
+      child_derived to' k = derived c.rest child_inside c.child.2 to stored dependency tested t to' next n there k
 
   -- the child's link leads to the next
-  module _ (h : 0 < number) (link : ℕ) (is : link ≡ sibling_in (get_or ws (number - 1) 0)) where
-    link_next : Next ws (number - 1 + 1) parent link
-    link_next = rw is
-        (subst (λ p. Next ws (number - 1 + 1) p (sibling_in (get_or ws (number - 1) 0))) (c.own h)
-        (c.rest.sized.linked.siblings (number - 1) (child_inside h)))
+  module _ (link : Option ℕ) (is : link ≡ link_of (sibling_in (get_or ws (number - 1) 0))) where
+    link_next : Leads ws (number - 1 + 1) parent link
+    link_next =
+        leads_by (sibling_in (get_or ws (number - 1) 0)) is
+        (subst (λ p. Next ws (number - 1 + 1) p (sibling_in (get_or ws (number - 1) 0))) c.child.2
+        (c.rest.sized.linked.siblings (number - 1) child_inside))
 
-    pub child_next : (to more : List ℕ) (next : Written) → Deriving s ws parent way to depth before more start next (number - 1 + 1)
-        → AtChild s ws parent way to depth before more start next link
-    child_next to more next d = at_child d link link_next
-
-    pub child_less : count_in ws - place_of ws link < count_in ws - place_of ws number
-    child_less =
-        let w = c.within in
-        rw (eqb_apart number 0 (λ z. omega arith))
-        (decide (eqb link 0) (λ t. rw t (omega arith))
-        (λ t.
-        let ne = eqb-false link 0 t in
-        let b = link_next.behind (omega (arith, ne)) in
-        let v = link_next.within in
-        rw t (omega arith)))
+    pub child_next : (to : List ℕ) (next : Writer) (n : ℕ) → Deriving s ws parent way to depth before next n (number - 1 + 1)
+        → AtChild s ws parent way to depth before next n link
+    child_next to next n d = at_child d link link_next
 
 -- The whole.
 
@@ -440,14 +485,13 @@ module _ (s ws way : List ℕ) where
   paths_all = let e : count_in ws - 0 ≡ count_in ws =
       omega arith in rw e (ap (map dependency_of) (flat_firsts_lem is_dependency (nodes_from s ws 0 (count_in ws)) 0 0))
 
-  pub derivable : (out : List ℕ) (at : ℕ) → length way ≡ 17 → Held s ws → at + length (bytes_of (returned_of s ws)) ≤ length out
-      → Derivable s ws 0 way 0 out (record { at = at; count = 0 })
+  pub derivable : (w : Writer) → length way ≡ 17 → Held s ws → HasRoom w (length (bytes_of (returned_of s ws))) → Derivable s ws 0 way 0 w
   unfolding forest_of nodes_of
-  derivable out at long held room =
+  derivable w long held room =
       let e : count_in ws - 0 ≡ count_in ws = omega arith in
       let low = held.low in
-      record { sized = held.sized; within = omega arith; long = long; low = rw e (omega arith); room = rw paths_all room; few = omega arith }
+      record { sized = held.sized; within = omega arith; long = long; low = rw e (omega arith); room = rw paths_all room }
 
-  pub derives_all : {before after : List ℕ} {start done : Written} → Derives (paths_from s ws 0 0 way 0) before after start done → Derives
-      (returned_of s ws) before after start done
-  derives_all {before} {after} {start} {done} x = subst (λ (ds : List ReactiveScopeDependency). Derives ds before after start done) paths_all x
+  pub derives_all : {before after : Writer} {count : ℕ} → Derives (paths_from s ws 0 0 way 0) before after count → Derives
+      (returned_of s ws) before after count
+  derives_all {before} {after} {count} x = subst (λ (ds : List ReactiveScopeDependency). Derives ds before after count) paths_all x

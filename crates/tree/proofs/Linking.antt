@@ -5,12 +5,13 @@ use native.Mathlib.Omega.{arith}
 use native.Mathlib.Nat.{add-zero}
 use mathlib.Core.Path.{◌≡◌, sym, ap, subst, ◌∙◌}
 use mathlib.Core.List.{List}
+use Rattle.std.proofs.Common.{Option}
 use lib.ListN.{get_or}
 use borrow.Author.Tests.{leb-true, leb-false}
 use lib.Dec.{eqb, leb}
 use Rattle.model.specs.Tests.{decide, eqb-true, eqb-false}
-use Rattle.tree.specs.Words.{parent_in, child_in, sibling_in}
-use Rattle.tree.specs.Tree.{count_in, Apart, Next, Linked, LastChild}
+use Rattle.tree.specs.Words.{parent_in, child_in, sibling_in, link_of}
+use Rattle.tree.specs.Tree.{count_in, Apart, Next, Leads, Linked, LastChild}
 
 -- What does not change at a position that has another parent is the same at the first position
 -- that has this one.
@@ -219,3 +220,11 @@ module _ (ws : List ℕ) (linked : Linked ws) (parent : ℕ) where
   first_link ne h link is =
       let place : parent - 1 + 1 ≡ parent = omega (arith, ne) in
       rw is (subst (λ n. Next ws n n (child_in (get_or ws (parent - 1) 0))) place (linked.children (parent - 1) (omega (arith, ne))))
+
+-- the link that says the number leads there
+pub leads : {ws : List ℕ} {i p : ℕ} (number : ℕ) → Next ws i p number → Leads ws i p (link_of number)
+leads zero x = x
+leads (suc n) x = (omega arith, x)
+
+pub leads_by : {ws : List ℕ} {i p : ℕ} {link : Option ℕ} (number : ℕ) → link ≡ link_of number → Next ws i p number → Leads ws i p link
+leads_by {ws} {i} {p} number e x = subst (λ (l : Option ℕ). Leads ws i p l) (sym e) (leads number x)

@@ -14,7 +14,8 @@ use Rattle.model.specs.Forest.{identifier_key, property_key, same_key}
 use Rattle.model.specs.Tree.{with_merged}
 use Rattle.entries.specs.declared.DependencyPathEntry.{DependencyPathEntry}
 use Rattle.job.specs.declared.PathHead.{PathHead}
-use Rattle.tree.specs.declared.Key.{Key}
+use Rattle.job.specs.Key.{key_in}
+use Rattle.job.specs.declared.Key.{Key}
 use Rattle.tree.specs.Words.{
   head_at,
   entry_at,
@@ -24,7 +25,6 @@ use Rattle.tree.specs.Words.{
   child_in,
   sibling_in,
   pack,
-  key_of,
   key_at,
   position_as,
   position_of,
@@ -185,7 +185,6 @@ module _ (s : List ℕ) (w step : ℕ) where
       ) e
 
   -- the two keys, as the code has them
-  pub keys_told : (parent here : ℕ) (key other : Key) → parent ≡ parent_in step → key_of key ≡ key_at s (parent_in step) (place_in step) → here ≡ place_in w
-      → key_of other ≡ key_at s parent here
-      → same_key (key_of other) (key_of key) ≡ same_key (key_at s (parent_in step) (place_in w)) (key_at s (parent_in step) (place_in step))
-  keys_told parent here key other p k h o = rw (k, o, p, h)
+  pub keys_told : (parent here : ℕ) (key : Key) → parent ≡ parent_in step → key_in key ≡ key_at s (parent_in step) (place_in step) → here ≡ place_in w
+      → same_key (key_at s parent here) (key_in key) ≡ same_key (key_at s (parent_in step) (place_in w)) (key_at s (parent_in step) (place_in step))
+  keys_told parent here key p k h = rw (k, p, h)

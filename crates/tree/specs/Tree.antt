@@ -12,6 +12,12 @@ use Rattle.std.specs.Prelude.{
   true,
   cond,
   ◌&&◌,
+  Option,
+  Some,
+  None,
+  Result,
+  Ok,
+  Err,
   List,
   ◌∷◌,
   ◌++◌,
@@ -37,9 +43,8 @@ use Rattle.model.specs.Tree.{
   dependency_of,
 }
 use Rattle.tree.specs.declared.Position.{Position}
-use Rattle.tree.specs.declared.Sought.{Sought}
-use Rattle.tree.specs.declared.Written.{Written}
-use Rattle.writer.specs.Writes.{Writes}
+use Rattle.writer.specs.declared.Writer.{Writer}
+use Rattle.writer.specs.Writes.{HasRoom, Puts}
 use Rattle.laws.specs.Flat.{Node, grow, enter, flat_firsts}
 use Rattle.tree.specs.Words.{parent_in, child_in, sibling_in, position_of, node_of, nodes_from, way_positions, linked_word}
 use Rattle.tree.specs.Walk.{walk_by, bits_of, path_at}
@@ -72,6 +77,11 @@ pub record Next (ws : List ℕ) (i p number : ℕ) : Type 0 where
   pub own : 0 < number → parent_in (get_or ws (number - 1) 0) ≡ p
   pub first : 0 < number → Apart ws p i (number - 1)
   pub none : number ≤ 0 → Apart ws p i (count_in ws)
+
+-- A link leads to that position: its number, or none.
+abbrev pub Leads : List ℕ → ℕ → ℕ → Option ℕ → Type 0
+Leads ws i p None = Next ws i p 0
+Leads ws i p (Some number) = (0 < number) × Next ws i p number
 
 -- A position stands behind its parent, and its links lead to its first child and to the next child
 -- of its parent.
@@ -115,18 +125,27 @@ pub record LastChild (ws : List ℕ) (p l : ℕ) : Type 0 where
   pub own : p < l → parent_in (get_or ws (l - 1) 0) ≡ p
   pub end : Apart ws p l (count_in ws)
 
--- Where a way down that goes on with the step's position is entered below its parent: at the
--- position of the number found, which has the same parent and key, or behind all positions.
-pub record Seeks (s ws : List ℕ) (step : ℕ) (sought : Sought) : Type 0 where
-  pub within : sought.number ≤ count_in ws
-  pub found : 0 < sought.number → matches (node_of s (get_or ws (sought.number - 1) 0)) (parent_in step) (position_of s step) ≡ true
-  pub there : 0 < sought.number → (ss : List DependencyPosition)
+-- A way down that goes on with the step's position is entered below its parent at the position of
+-- this number, which has the same parent and key.
+pub record Finds (s ws : List ℕ) (step number : ℕ) : Type 0 where
+  pub some : 0 < number
+  pub within : number ≤ count_in ws
+  pub found : matches (node_of s (get_or ws (number - 1) 0)) (parent_in step) (position_of s step) ≡ true
+  pub there : (ss : List DependencyPosition)
       → entered_from s ws (parent_in step) (parent_in step) (position_of s step ∷ ss)
-      ≡ entered_from s ws (sought.number - 1) (parent_in step) (position_of s step ∷ ss)
-  pub none : sought.number ≤ 0 → (ss : List DependencyPosition)
+      ≡ entered_from s ws (number - 1) (parent_in step) (position_of s step ∷ ss)
+
+-- It is entered behind all positions, and this is the last child of its parent.
+pub record Misses (s ws : List ℕ) (step l : ℕ) : Type 0 where
+  pub none : (ss : List DependencyPosition)
       → entered_from s ws (parent_in step) (parent_in step) (position_of s step ∷ ss)
       ≡ entered_from s ws (count_in ws) (parent_in step) (position_of s step ∷ ss)
-  pub last : sought.number ≤ 0 → LastChild ws (parent_in step) sought.last
+  pub last : LastChild ws (parent_in step) l
+
+-- Where a way down that goes on with the step's position is entered.
+abbrev pub Seeks : List ℕ → List ℕ → ℕ → Result ℕ ℕ → Type 0
+Seeks s ws step (Ok number) = Finds s ws step number
+Seeks s ws step (Err l) = Misses s ws step l
 
 -- the words where number l has a link more: to the first child where it is the parent p, else to
 -- the next sibling
@@ -186,24 +205,16 @@ pub record KeepsWay (before after : List ℕ) (depth : ℕ) : Type 0 where
   pub long : length after ≡ length before
   pub same : (j : ℕ) → j < depth → get_or after j 0 ≡ get_or before j 0
 
--- The records of these paths are written one after the other, and counted.
-pub record Derives (paths : List ReactiveScopeDependency) (before after : List ℕ) (start done : Written) : Type 0 where
-  pub writes : Writes before after start.at (concat_map (path_bytes span_width DE) paths) done.at
-  pub counts : done.count ≡ start.count + length paths
-
--- What the record of one way down asks: its room. A count is at most the bytes before it.
-pub record Puttable (s way : List ℕ) (depth : ℕ) (out : List ℕ) (done : Written) : Type 0 where
-  pub some : 0 < depth
-  pub short : depth ≤ 17
-  pub room : done.at + length (path_bytes span_width DE (dependency_of (way_positions s way depth))) ≤ length out
-  pub few : done.count ≤ done.at
+-- The records of these paths are written one after the other, and this is how many they are.
+pub record Derives (paths : List ReactiveScopeDependency) (before after : Writer) (count : ℕ) : Type 0 where
+  pub puts : Puts before after (length (concat_map (path_bytes span_width DE) paths)) (concat_map (path_bytes span_width DE) paths)
+  pub counts : count ≡ length paths
 
 -- What deriving below a parent asks: no way down is too long for the words of a way, and the
 -- records have their room.
-pub record Derivable (s ws : List ℕ) (parent : ℕ) (way : List ℕ) (depth : ℕ) (out : List ℕ) (start : Written) : Type 0 where
+pub record Derivable (s ws : List ℕ) (parent : ℕ) (way : List ℕ) (depth : ℕ) (w : Writer) : Type 0 where
   pub sized : Sized ws
   pub within : parent ≤ count_in ws
   pub long : length way ≡ 17
   pub low : depth + height (grow (nodes_after s ws parent) parent parent) ≤ 17
-  pub room : start.at + length (concat_map (path_bytes span_width DE) (paths_from s ws parent parent way depth)) ≤ length out
-  pub few : start.count ≤ start.at
+  pub room : HasRoom w (length (concat_map (path_bytes span_width DE) (paths_from s ws parent parent way depth)))

@@ -2,7 +2,7 @@
 -- root), the place in the job's bytes where the key and the span stand (16 bits), the access kind
 -- (2 bits), and above them two links, which are numbers of positions, 0 for none: to the first
 -- child (11 bits) and to the next sibling.
-use Rattle.std.specs.Prelude.{ℕ, zero, suc, ◌+◌, ◌*◌, ◌-◌, ◌/◌, ◌%◌, Bool, false, cond, List, [], ◌∷◌, get_or, eqb}
+use Rattle.std.specs.Prelude.{ℕ, zero, suc, ◌+◌, ◌*◌, ◌/◌, ◌%◌, Bool, false, cond, Option, Some, None, List, [], ◌∷◌, get_or, eqb}
 use Rattle.entries.specs.declared.PropertyLiteral.TheVariants.{String}
 use Rattle.entries.specs.declared.DependencyPathEntry.{DependencyPathEntry}
 use Rattle.entries.specs.declared.PropertyAccessType.{PropertyAccessType}
@@ -16,8 +16,6 @@ use Rattle.model.specs.Tree.{DependencyPosition, step_to}
 use Rattle.job.specs.Head.{read_path_head}
 use Rattle.job.specs.declared.PathHead.{PathHead}
 use Rattle.laws.specs.Flat.{Node}
-use Rattle.tree.specs.declared.Key.{Key}
-use Rattle.tree.specs.declared.Key.TheVariants.{Identifier, Property}
 
 -- The head that was read; the fields are 0 where none can be read.
 abbrev pub head_or : Read PathHead → PathHead
@@ -61,6 +59,11 @@ sibling_in w = w / 35184372088832
 abbrev pub link_in : Bool → ℕ → ℕ
 link_in child w = cond child (child_in w) (sibling_in w)
 
+-- the number of a position that a link says, where it is not 0
+abbrev pub link_of : ℕ → Option ℕ
+link_of zero = None
+link_of (suc n) = Some (suc n)
+
 -- the word with a link that it had not, to the first child or to the next sibling
 abbrev pub linked_word : Bool → ℕ → ℕ → ℕ
 linked_word child w number = cond child (w + number * 17179869184) (w + number * 35184372088832)
@@ -68,11 +71,6 @@ linked_word child w number = cond child (w + number * 17179869184) (w + number *
 -- the word without links of a parent's number, a place and an access kind
 unfoldable pub pack : ℕ → ℕ → PropertyAccessType → ℕ
 pack parent place a = parent + place * 65536 + flag (is_optional_access a) * 4294967296 + flag (is_dependency_access a) * 8589934592
-
--- the key that the code's key stands for
-abbrev pub key_of : Key → forest.Key
-key_of (Identifier i) = identifier_key i
-key_of (Property p) = property_key p
 
 -- the key of the position below this parent, whose key and span stand at this place
 abbrev pub key_at : List ℕ → ℕ → ℕ → forest.Key
@@ -113,10 +111,6 @@ nodes_from s ws k (suc n) = node_of s (get_or ws k 0) ∷ nodes_from s ws (suc k
 -- the positions of a way down of this depth
 abbrev pub way_positions : List ℕ → List ℕ → ℕ → List DependencyPosition
 way_positions s way depth = positions_from s way 0 depth
-
--- the rest of a way down, from a position on
-abbrev pub rest_of : List ℕ → List ℕ → ℕ → ℕ → List DependencyPosition
-rest_of s way depth i = positions_from s way i (depth - i)
 
 -- the word of a position into which an access is merged
 abbrev pub merged_word : ℕ → PropertyAccessType → ℕ

@@ -3,16 +3,19 @@
 // stands above the roots. The last word says how many positions there are. Keys and spans stay in
 // the job's bytes: a position keeps their place. It also has links to its first child and to its
 // next sibling, by which children are found.
+// Design: the positions are words with numbers for links, and their count is the last word, since
+// memory is fixed and nothing is on the heap.
 #![tactic(auto)]
 
-ghost use Rattle.std.specs.Prelude.{◌≡◌, ℕ, ◌+◌, ◌-◌, ◌≤◌, ◌<◌, ◌||◌, List, [], ◌∷◌, map, length, get_or, set, eqb};
+ghost use Rattle.std.specs.Prelude.{◌≡◌, ℕ, ◌+◌, ◌-◌, ◌*◌, ◌≤◌, ◌<◌, List, length, get_or, set, eqb};
 ghost use Rattle.model.specs.Forest.{empty, same_key};
 ghost use Rattle.model.specs.Lists.{concat_map};
 ghost use Rattle.model.specs.Answer.{DE, entry_bytes, path_bytes, span_width};
 ghost use Rattle.model.specs.Tree.{step_access, entry_of, dependency_of};
-ghost use Rattle.writer.specs.Writes.{Writes};
-ghost use Rattle.tree.specs.Words.{head_at, entry_at, parent_in, place_in, access_in, pack, key_of, key_at, position_as, position_of};
-ghost use Rattle.tree.specs.Words.{child_in, sibling_in, way_positions, rest_of, merged_word, linked_word, link_in};
+ghost use Rattle.writer.specs.Writes.{HasRoom, Puts};
+ghost use Rattle.job.specs.Key.{key_in};
+ghost use Rattle.tree.specs.Words.{head_at, entry_at, parent_in, place_in, access_in, pack, key_at, position_as, position_of};
+ghost use Rattle.tree.specs.Words.{child_in, sibling_in, link_of, way_positions, merged_word, linked_word, link_in};
 ghost use Rattle.tree.specs.Tree.{
   count_in,
   forest_of,
@@ -20,7 +23,7 @@ ghost use Rattle.tree.specs.Tree.{
   Sized,
   Held,
   KeepsWay,
-  Next,
+  Leads,
   linked_words,
   Seeks,
   Appendable,
@@ -30,42 +33,42 @@ ghost use Rattle.tree.specs.Tree.{
   returned_of,
   paths_from,
   Derives,
-  Puttable,
   Derivable,
 };
 
 use entries::{DependencyPathEntry, IdentifierId, PropertyAccessType, PropertyLiteral};
-use job::{PathHead, ReadEntry, ReadPathHead};
+use job::{Key, PathHead};
+use writer::Writer;
 
 // How many bytes stand between a path's mark and its entries.
 const HEAD_SIZE: usize = 10;
 
 // What stands before a path's entries, at the place after its mark.
+// Design: zeros where nothing is read, in two functions, since the definitions of the same names,
+// by which the specs read, are total in that way and have two types.
+#[tactic(auto, unfolding(crate::specs::Words::head_at))]
 fn head_at(s: &[u8], at: usize) -> PathHead
     ensures { result ≡ head_at s.now at }
 {
-    let ReadPathHead::Value(head, _) = job::path_head_at(s, at) else {
-        return PathHead {
-            identifier: IdentifierId(0),
-            reactive: false,
-            span: 0,
-            entries: 0,
-        };
+    let none = PathHead {
+        identifier: IdentifierId(0),
+        reactive: false,
+        span: 0,
+        entries: 0,
     };
-    head
+    job::path_head_at(s, at).map_or(none, |(head, _)| head)
 }
 
+#[tactic(auto, unfolding(crate::specs::Words::entry_at))]
 fn entry_at(s: &[u8], at: usize) -> DependencyPathEntry
     ensures { result ≡ entry_at s.now at }
 {
-    let ReadEntry::Value(entry, _) = job::entry_at(s, at) else {
-        return DependencyPathEntry {
-            property: PropertyLiteral::String(0),
-            optional: false,
-            span: 0,
-        };
+    let none = DependencyPathEntry {
+        property: PropertyLiteral::String(0),
+        optional: false,
+        span: 0,
     };
-    entry
+    job::entry_at(s, at).map_or(none, |(entry, _)| entry)
 }
 
 // The fields of a word.
@@ -88,21 +91,32 @@ fn access_in(w: u64) -> PropertyAccessType
     PropertyAccessType::of(w / 4294967296 % 2 == 1, w / 8589934592 % 2 == 1)
 }
 
-// The links stand above the other fields. They are numbers of positions, 0 for none.
+// The links stand above the other fields. They are numbers of positions.
 const CHILD: u64 = 17179869184;
 
 const SIBLING: u64 = 35184372088832;
 
-fn child_in(w: u64) -> usize
-    ensures { result ≡ child_in w }
+// Design: a link of none is 0, since a word has 11 bits for it.
+fn link_of(number: u64) -> Option<usize>
+    ensures { result ≡ link_of number }
 {
-    (w / CHILD % 2048) as usize
+    if number == 0 {
+        None
+    } else {
+        Some(number as usize)
+    }
 }
 
-fn sibling_in(w: u64) -> usize
-    ensures { result ≡ sibling_in w }
+fn child_in(w: u64) -> Option<usize>
+    ensures { result ≡ link_of (child_in w) }
 {
-    (w / SIBLING) as usize
+    link_of(w / CHILD % 2048)
+}
+
+fn sibling_in(w: u64) -> Option<usize>
+    ensures { result ≡ link_of (sibling_in w) }
+{
+    link_of(w / SIBLING)
 }
 
 // A word without links.
@@ -110,8 +124,8 @@ fn pack(parent: usize, place: usize, access: PropertyAccessType) -> u64
     requires { (parent < 65536) × (place < 65536) }
     ensures { (result ≡ pack parent place access) × (result < 17179869184) }
 {
-    let optional = writer::flag(access.is_optional());
-    let dependency = writer::flag(access.is_dependency());
+    let optional = u64::from(access.is_optional());
+    let dependency = u64::from(access.is_dependency());
     parent as u64 + place as u64 * 65536 + optional * 4294967296 + dependency * 8589934592
 }
 
@@ -124,6 +138,7 @@ fn merged_word(w: u64, with: PropertyAccessType) -> u64
 }
 
 // The word with a link that it has not yet, to the first child or to the next sibling.
+// Design: `child` is a bool, since the definitions `link_in` and `linked_word` take one.
 fn with_link(w: u64, child: bool, number: usize) -> u64
     requires { (link_in child w ≡ 0) × (number < 2048) }
     ensures { result ≡ linked_word child w number }
@@ -135,54 +150,27 @@ fn with_link(w: u64, child: bool, number: usize) -> u64
     }
 }
 
-// A root's key is its identifier, a child's its property.
-#[derive(Clone, Copy)]
-enum Key {
-    Identifier(IdentifierId),
-    Property(PropertyLiteral),
-}
-
-impl Key {
-    fn same(self, other: Key) -> bool
-        ensures { result ≡ same_key (key_of self) (key_of other) }
-    {
-        match self {
-            Key::Identifier(a) => match other {
-                Key::Identifier(b) => a.0 == b.0,
-                Key::Property(_) => false,
-            },
-            Key::Property(a) => match other {
-                Key::Identifier(_) => false,
-                Key::Property(b) => a.same(b),
-            },
-        }
-    }
-}
-
 // The key of the position below a parent whose key and span stand at a place.
 fn key_at(s: &[u8], parent: usize, place: usize) -> Key
-    ensures { key_of result ≡ key_at s.now parent place }
+    ensures { key_in result ≡ key_at s.now parent place }
 {
     if parent == 0 {
-        let head = head_at(s, place);
-        let identifier = head.identifier;
-        Key::Identifier(identifier)
+        Key::Identifier(head_at(s, place).identifier)
     } else {
-        let entry = entry_at(s, place);
-        let property = entry.property;
-        Key::Property(property)
+        Key::Property(entry_at(s, place).property)
     }
+}
+
+// The position below a parent whose key stands at a place has this key.
+fn has_key(s: &[u8], parent: usize, place: usize, key: Key) -> bool
+    ensures { result ≡ same_key (key_at s.now parent place) (key_in key) }
+{
+    key_at(s, parent, place) == key
 }
 
 // The walk of a candidate.
 
-// At a level where the hoistable tree is NonNull, or by an optional entry.
-fn goes_on(nonnull: bool, optional: bool) -> bool
-    ensures { result ≡ nonnull || optional }
-{
-    if nonnull { true } else { optional }
-}
-
+// Design: no `From<bool>`, since a bool does not say that it is the mark NonNull.
 fn step_access(nonnull: bool) -> PropertyAccessType
     ensures { result ≡ step_access nonnull }
 {
@@ -205,49 +193,45 @@ pub fn clear(tree: &mut [u64])
     tree[room] = 0;
 }
 
-// The number of a parent's first child, 0 for none. The first position is the first root.
-fn first_child(tree: &[u64], parent: usize) -> usize
+// The number of a parent's first child. The first position is the first root.
+fn first_child(tree: &[u64], parent: usize) -> Option<usize>
     requires { Sized tree.now × (parent ≤ count_in tree.now) }
-    ensures { Next tree.now parent parent result }
+    ensures { Leads tree.now parent parent result }
 {
     if parent == 0 {
-        if tree[tree.len() - 1] == 0 {
-            return 0;
-        }
-        return 1;
+        (tree[tree.len() - 1] != 0).then_some(1)
+    } else {
+        child_in(tree[parent - 1])
     }
-    child_in(tree[parent - 1])
 }
 
-// Where a search among the children of a parent ends: at the number found, 0 for none, behind the
-// last child passed, or behind the parent where it passed none.
-#[derive(Clone, Copy)]
-struct Sought {
-    number: usize,
-    last: usize,
-}
-
-// The search for the position that has the step's parent and key.
-fn seek(tree: &[u64], s: &[u8], key: Key, step: u64) -> Sought
-    requires { Sized tree.now × (parent_in step ≤ count_in tree.now) × (key_of key ≡ key_at s.now (parent_in step) (place_in step)) }
+// The number of the position that has the step's parent and key, or, where there is none, that of
+// the last child of the parent, behind which it would stand: the parent's own where there is no
+// child.
+// Design: a walk beside that of `collect_minimal_deps_in_subtree`: this one stops, that one writes
+// and goes down. An iterator of children would be longer than the two lines that they share.
+fn seek(tree: &[u64], s: &[u8], key: Key, step: u64) -> Result<usize, usize>
+    requires { Sized tree.now × (parent_in step ≤ count_in tree.now) × (key_in key ≡ key_at s.now (parent_in step) (place_in step)) }
     ensures { Seeks s.now tree.now step result }
 {
     let parent = parent_in(step);
     let mut last = parent;
-    let mut number = first_child(tree, last);
-    while 0 < number {
+    let mut next = first_child(tree, last);
+    while let Some(number) = next {
         let w = tree[number - 1];
-        let other = key_at(s, parent, place_in(w));
-        if other.same(key) {
-            return Sought { number, last };
+        if has_key(s, parent, place_in(w), key) {
+            return Ok(number);
         }
         last = number;
-        number = sibling_in(w);
+        next = sibling_in(w);
     }
-    Sought { number, last }
+    Err(last)
 }
 
 // Merges an access into position i.
+// Design: words, as the caller lends them, and no struct with `Sized` and `Held`: `add_candidate`
+// and `derive_minimal_dependencies`, which are public and in docs/PROOFS.md, take the words with
+// clauses.
 fn merge_at(tree: &mut [u64], i: usize, with: PropertyAccessType)
     requires { i < length tree.old }
     ensures { tree.new ≡ set tree.old i (merged_word (get_or tree.old i 0) with) }
@@ -293,18 +277,18 @@ fn make_or_merge(
     access: PropertyAccessType,
 ) -> usize
     requires { Sized tree.old × (parent ≤ count_in tree.old) × (count_in tree.old + 1 < length tree.old) × (place < 65536)
-        × (key_of key ≡ key_at s.now parent place) }
+        × (key_in key ≡ key_at s.now parent place) }
     ensures { Enters s.now tree.old tree.new parent
         (position_as s.now parent place access) result }
 {
     let step = pack(parent, place, access);
-    let sought = seek(tree, s, key, step);
-    let number = sought.number;
-    if 0 < number {
-        merge_at(tree, number - 1, access);
-        return number;
+    match seek(tree, s, key, step) {
+        Ok(number) => {
+            merge_at(tree, number - 1, access);
+            number
+        }
+        Err(last) => append(tree, last, step),
     }
-    append(tree, sought.last, step)
 }
 
 // Adds the candidate whose fields stand at a place, after the mark (`add_dependency` of the Rust).
@@ -314,29 +298,24 @@ pub fn add_candidate(tree: &mut [u64], s: &[u8], at: usize, levels: u32)
     ensures { Adds s.now tree.old tree.new at levels }
 {
     let head = head_at(s, at);
-    let identifier = head.identifier;
     let mut parent: usize = 0;
-    let mut key = Key::Identifier(identifier);
+    let mut key = Key::Identifier(head.identifier);
     let mut place = at;
     let mut access = PropertyAccessType::UnconditionalAccess;
     let mut next = at + HEAD_SIZE;
-    let mut left = head.entries;
     let mut flags = levels;
-    while 0 < left {
+    for _ in 0..head.entries {
         let entry = entry_at(s, next);
         let nonnull = flags % 2 == 1;
-        if goes_on(nonnull, entry.optional) {
-            parent = make_or_merge(tree, s, parent, key, place, access);
-            let property = entry.property;
-            key = Key::Property(property);
-            place = next;
-            access = step_access(nonnull);
-            next = next + job::ENTRY_SIZE;
-            left = left - 1;
-            flags = flags / 2;
-        } else {
-            left = 0;
+        if !nonnull && !entry.optional {
+            break;
         }
+        parent = make_or_merge(tree, s, parent, key, place, access);
+        key = Key::Property(entry.property);
+        place = next;
+        access = step_access(nonnull);
+        next += job::ENTRY_SIZE;
+        flags /= 2;
     }
     make_or_merge(
         tree,
@@ -351,17 +330,13 @@ pub fn add_candidate(tree: &mut [u64], s: &[u8], at: usize, levels: u32)
 // The paths that are derived.
 
 // The mark of a returned path.
+// Design: a number and no enum, since `path_bytes` takes a mark as the number of its two bytes.
 pub const DE: u16 = 0x4544;
-
-// The place after what was written, and how many records it is.
-#[derive(Clone, Copy)]
-pub struct Written {
-    pub at: usize,
-    pub count: usize,
-}
 
 // What a path takes of a position: as its root, identifier and reactive; as one of its entries, the
 // entry.
+// Design: one struct with fields that a root or a child does not use, since the definition
+// `parts_of` of the contract gives all three of any position.
 #[derive(Clone, Copy)]
 struct Position {
     identifier: IdentifierId,
@@ -376,9 +351,8 @@ fn position_of(s: &[u8], w: u64) -> Position
     let optional = access.is_optional();
     if parent_in(w) == 0 {
         let head = head_at(s, place_in(w));
-        let identifier = head.identifier;
         Position {
-            identifier,
+            identifier: head.identifier,
             reactive: head.reactive,
             entry: DependencyPathEntry {
                 property: PropertyLiteral::String(0),
@@ -388,110 +362,79 @@ fn position_of(s: &[u8], w: u64) -> Position
         }
     } else {
         let entry = entry_at(s, place_in(w));
-        let property = entry.property;
         Position {
             identifier: IdentifierId(0),
             reactive: false,
-            entry: DependencyPathEntry {
-                property,
-                optional,
-                span: entry.span,
-            },
+            entry: DependencyPathEntry { optional, ..entry },
         }
     }
 }
 
-// The entries of a way down: its positions behind the root.
-fn put_entries(out: &mut [u8], start: usize, s: &[u8], way: &[u64; 17], depth: usize) -> usize
-    requires { (depth ≤ 17) ×
-        (start + length (concat_map (entry_bytes span_width) (map entry_of (rest_of s.now way.now depth 1))) ≤ length out.old) }
-    ensures { Writes out.old out.new start
-        (concat_map (entry_bytes span_width) (map entry_of (rest_of s.now way.now depth 1))) result }
+// The entries of these positions of a way down.
+fn put_entries(w: &mut Writer, s: &[u8], positions: &[u64])
+    requires { HasRoom w.old (14 * length positions.now) }
+    ensures { Puts w.old w.new (14 * length positions.now)
+        (concat_map (λ v. entry_bytes span_width (entry_of (position_of s.now v))) positions.now) }
 {
-    let mut at = start;
-    let mut i: usize = 1;
-    while i < depth {
-        let position = position_of(s, way[i]);
-        at = writer::put_entry(out, at, position.entry);
-        i += 1;
+    for position in positions {
+        w.entry(position_of(s, *position).entry);
     }
-    at
 }
 
-// The record of the path that a way down stands for.
-fn put_path(out: &mut [u8], at: usize, s: &[u8], way: &[u64; 17], depth: usize) -> usize
-    requires { (0 < depth) × (depth ≤ 17) ×
-        (at + length (path_bytes span_width DE (dependency_of (way_positions s.now way.now depth))) ≤ length out.old) }
-    ensures { Writes out.old out.new at
-        (path_bytes span_width DE (dependency_of (way_positions s.now way.now depth))) result }
+// The record of the path that a way down stands for: its root, and the entries behind it.
+fn put_path(w: &mut Writer, s: &[u8], way: &[u64])
+    requires { (0 < length way.now) × HasRoom w.old (12 + 14 * (length way.now - 1)) }
+    ensures { Puts w.old w.new (12 + 14 * (length way.now - 1))
+        (path_bytes span_width DE (dependency_of (way_positions s.now way.now (length way.now)))) }
 {
     let root = position_of(s, way[0]);
-    let last = position_of(s, way[depth - 1]);
-    let identifier = root.identifier;
-    let entry = last.entry;
-    let entries_at = writer::put_path_head(
-        out,
-        at,
+    let last = position_of(s, way[way.len() - 1]);
+    w.path_head(
         DE,
-        identifier,
+        root.identifier,
         root.reactive,
-        entry.span,
-        depth - 1,
+        last.entry.span,
+        way.len() - 1,
     );
-    put_entries(out, entries_at, s, way, depth)
-}
-
-// One record more.
-fn put_next(out: &mut [u8], done: Written, s: &[u8], way: &[u64; 17], depth: usize) -> Written
-    requires { Puttable s.now way.now depth out.old done }
-    ensures { Derives (dependency_of (way_positions s.now way.now depth) ∷ [])
-        out.old out.new done result }
-{
-    let at = put_path(out, done.at, s, way, depth);
-    Written {
-        at,
-        count: done.count + 1,
-    }
+    put_entries(w, s, &way[1..]);
 }
 
 // The records of the first dependencies on each way down below a parent, to which the way down is
-// `way`, of this depth.
+// `way`, of this depth. Says how many they are.
+// Design: the way down is words lent to all levels with its depth, since nothing is on the heap.
 fn collect_minimal_deps_in_subtree(
     tree: &[u64],
     s: &[u8],
     parent: usize,
-    way: &mut [u64; 17],
+    way: &mut [u64],
     depth: usize,
-    out: &mut [u8],
-    start: Written,
-) -> Written
-    requires { Derivable s.now tree.now parent way.old depth out.old start }
-    ensures { Derives (paths_from s.now tree.now parent parent way.old depth) out.old
-        out.new start result × KeepsWay way.old way.new depth }
+    w: &mut Writer,
+) -> usize
+    requires { Derivable s.now tree.now parent way.old depth w.old }
+    ensures { Derives (paths_from s.now tree.now parent parent way.old depth) w.old w.new result × KeepsWay way.old way.new depth }
 {
-    let mut done = start;
-    let mut number = first_child(tree, parent);
-    while 0 < number {
-        let w = tree[number - 1];
-        way[depth] = w;
-        let access = access_in(w);
-        if access.is_dependency() {
-            done = put_next(out, done, s, way, depth + 1);
+    let mut count = 0;
+    let mut next = first_child(tree, parent);
+    while let Some(number) = next {
+        let position = tree[number - 1];
+        way[depth] = position;
+        if access_in(position).is_dependency() {
+            put_path(w, s, &way[..depth + 1]);
+            count += 1;
         } else {
-            done = collect_minimal_deps_in_subtree(tree, s, number, way, depth + 1, out, done);
+            count += collect_minimal_deps_in_subtree(tree, s, number, way, depth + 1, w);
         }
-        number = sibling_in(w);
+        next = sibling_in(position);
     }
-    done
+    count
 }
 
-// The returned paths' records, from a place on.
-pub fn derive_minimal_dependencies(tree: &[u64], s: &[u8], out: &mut [u8], at: usize) -> Written
+// The returned paths' records, and how many they are.
+pub fn derive_minimal_dependencies(tree: &[u64], s: &[u8], w: &mut Writer) -> usize
     requires { Held s.now tree.now ×
-        (at + length (concat_map (path_bytes span_width DE) (returned_of s.now tree.now)) ≤ length out.old) }
-    ensures { Derives (returned_of s.now tree.now) out.old out.new
-        (record { at = at; count = 0 }) result }
+        HasRoom w.old (length (concat_map (path_bytes span_width DE) (returned_of s.now tree.now))) }
+    ensures { Derives (returned_of s.now tree.now) w.old w.new result }
 {
     let mut way = [0u64; 17];
-    collect_minimal_deps_in_subtree(tree, s, 0, &mut way, 0, out, Written { at, count: 0 })
+    collect_minimal_deps_in_subtree(tree, s, 0, &mut way, 0, w)
 }

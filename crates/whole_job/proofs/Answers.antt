@@ -3,6 +3,7 @@ use Prim.Native.Nat.{ℕ, ◌≤◌}
 use mathlib.Core.Path.{◌≡◌, sym, ap, ◌∙◌}
 use mathlib.Core.List.{List}
 use native.Mathlib.Omega.{arith}
+use Rattle.std.specs.Prelude.{Ok, Err}
 use lib.ListN.{length}
 use lib.Seq.{sets, length-sets}
 use Rattle.entries.specs.declared.Refusal.{Refusal}
@@ -12,7 +13,6 @@ use Rattle.laws.specs.Fits.{holds_got}
 use Rattle.whole_job.specs.Ids.{BlocksRead, checked_by}
 use Rattle.job.specs.Kept.{note_place, block_notes, block_places, block_numbers, kept_of}
 use Rattle.job.specs.declared.JobHead.{JobHead}
-use Rattle.job.specs.declared.ReadJob.TheVariants.{Value, Refused}
 use Rattle.job.proofs.Bounds.{blocks_most}
 use Rattle.job.proofs.Many.{read_again}
 use Rattle.job.proofs.Stored.{Stored, stored}
@@ -21,7 +21,7 @@ use Rattle.job.proofs.Noted.{block_count, note_count}
 use Rattle.whole_job.proofs.Checked.{checked_is}
 
 -- a job whose records are refused is refused for that
-pub job_refused : (s : List ℕ) {r : Refusal} → Refused r ≡ kept_of s (read_records HD 4 s) → Refused r ≡ kept_of s (read_job HD 4 s)
+pub job_refused : (s : List ℕ) {r : Refusal} → Err r ≡ kept_of s (read_records HD 4 s) → Err r ≡ kept_of s (read_job HD 4 s)
 job_refused s e = rw (job_fields, answer_refused s (read_records HD 4 s) e)
 
 -- the records were read: the job j has the parts p
@@ -41,7 +41,7 @@ module _ (s : List ℕ) (j : Job) (p : Parts s j) where
       stored l (block_notes f s) r (length j.blocks) (omega (arith, note_count s j p f, few, wide))
       (block_count s j p ∙ sym (note_count s j p f))
 
-module _ (s : List ℕ) {h : JobHead} (e : Value h ≡ kept_of s (read_records HD 4 s)) where
+module _ (s : List ℕ) {h : JobHead} (e : Ok h ≡ kept_of s (read_records HD 4 s)) where
   pub blocks_few : h.blocks ≤ 128
   blocks_few =
       let v = answer_value s (read_records HD 4 s) e in

@@ -3,3 +3,4 @@ pub mod IdLists
 pub mod Stamps
 pub mod Checked
 pub mod Answers
+pub mod Blocks

@@ -1,12 +1,13 @@
 -- The predecessors at a block's place, read again: they are the block's, as many as its head says,
 -- and few enough to be stored.
-use Prim.Native.Nat.{ℕ, ◌≤◌}
+use Prim.Native.Nat.{ℕ}
 use mathlib.Core.Path.{◌≡◌, refl, sym, ap, ◌∙◌}
 use mathlib.Core.List.{List, ◌∷◌}
-use native.Mathlib.Omega.{arith}
 use lib.ListN.{length, length-map}
-use lib.Seq.{sets}
+use Rattle.std.specs.Prelude.{Result, Ok, Err, IsOk}
 use Rattle.entries.specs.declared.BlockId.{BlockId}
+use Rattle.entries.specs.declared.Refusal.{Refusal}
+use Rattle.fields.specs.Answer.{got_value}
 use Rattle.model.specs.ReadingBytes.{Read, got, refused, and_then, mapped, both, read_many, read_number}
 use Rattle.model.specs.Job.{PA, Block, read_block_id, read_path, read_raw_read, read_block, block_id}
 use Rattle.laws.specs.Fits.{HoldsIfRead, holds_then, holds_got}
@@ -14,12 +15,10 @@ use Rattle.job.specs.Passing.{IsRead, notes, or_none, note_value}
 use Rattle.job.specs.Head.{read_block_head}
 use Rattle.job.specs.Kept.{block_ids}
 use Rattle.job.specs.declared.BlockHead.{BlockHead}
-use Rattle.job.proofs.Bounds.{predecessors_most}
 use Rattle.job.proofs.Heads.{block_of, rest_of, block_by_head}
 use Rattle.job.proofs.Many.{many_holds, many_length}
-use Rattle.job.proofs.Noting.{notes_few}
 use Rattle.job.proofs.Passing.{mapped_got}
-use Rattle.job.proofs.Stored.{Stored, stored}
+use Rattle.job.proofs.ReadAgain.{head_again}
 use Rattle.whole_job.specs.Ids.{predecessors_at}
 
 -- the numbers of ids that are read one after the other
@@ -63,6 +62,11 @@ predecessors_are s at = rw block_by_head (by_head (read_block_head s at))
         (all_values (ids ≡ l) e (read_many head.raw (read_raw_read 4) s reads_at)))
     by_head (refused r) = tt
 
+-- the head of a block that was read is there
+pub head_there : (s : List ℕ) (at : ℕ) (r : Result (BlockHead × ℕ) Refusal) → got_value r ≡ read_block_head s at → IsRead (read_block 4 s at) → IsOk r
+head_there s at (Ok x) e b = refl
+head_there s at (Err r) e b = head_again s at b (sym e)
+
 -- as many numbers are noted as ids were read
 pub count_again : (s : List ℕ) (n at : ℕ) → IsRead (read_many n read_block_id s at) → length (notes note_value n (read_number 4) s at) ≡ n
 count_again s n at ids =
@@ -70,18 +74,3 @@ count_again s n at ids =
     sym (length-map numbers block_id)
     ∙ ap length (holds_got (λ all. block_ids numbers ≡ all) ids.read (numbers_noted s n at))
     ∙ many_length read_block_id s n at ids.read
-
-few_held : (P : BlockHead → Type 0) (most : ℕ) (x : Read BlockHead) (list : BlockHead → ℕ → List ℕ) → HoldsIfRead P x
-    → ((a : BlockHead) (n : ℕ) → P a → length (list a n) ≤ most) → length (or_none x list) ≤ most
-few_held P most (got a n) list h f = f a n h
-few_held P most (refused r) list h f = omega arith
-
-predecessors_few : (s : List ℕ) (at : ℕ) → length (predecessors_at s at) ≤ 64
-unfolding predecessors_at
-predecessors_few s at =
-    few_held (λ h. h.predecessors ≤ 64) 64 (read_block_head s at) _ (predecessors_most s at) (λ head ids_at h.
-    omega (arith, notes_few (read_number 4) s note_value head.predecessors ids_at))
-
-pub predecessors_stored : (s : List ℕ) (at : ℕ) (l r : List ℕ) (n : ℕ) → length l ≡ 64 → n ≡ length (predecessors_at s at)
-    → r ≡ sets l 0 (predecessors_at s at) → Stored (predecessors_at s at) r n
-predecessors_stored s at l r n wide = stored l (predecessors_at s at) r n (omega (arith, predecessors_few s at))

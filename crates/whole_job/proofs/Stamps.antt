@@ -1,25 +1,26 @@
 -- Where ids are led to blocks, each to a block of its own, none stands twice, since equal ids are
 -- led to one block. Where the blocks have the ids that led to them, each id is known.
 use Prim.Native.Nat.{ℕ, zero, suc, ◌+◌, ◌-◌, ◌≤◌, ◌<◌}
-use native.Mathlib.Numerals.{add-one}
 use native.Mathlib.Omega.{arith}
 use mathlib.Core.Path.{◌≡◌, refl, sym, ap, ◌∙◌}
 use mathlib.Core.Bool.{Bool, true, false, cond}
 use mathlib.Core.List.{List, [], ◌∷◌}
 use lib.ListN.{length, get_or, set, drop, length-set, drop_of_length-le}
-use lib.Seq.{drop-cons, get_or-set_same, get_or-set_other}
+use lib.Seq.{get_or-set_same, get_or-set_other}
 use lib.Dec.{eqb, ltb}
+use Rattle.std.specs.Prelude.{Option}
+use Rattle.std.specs.Option.{is_some}
 use Rattle.entries.specs.declared.BlockId.{BlockId}
 use Rattle.model.specs.Lists.{any_of}
-use Rattle.model.specs.Tests.{never, eqb_equal, eqb_apart, eqb-false, ltb_true, ltb_less, or_second}
+use Rattle.model.specs.Tests.{never, by_cond, eqb_equal, eqb_apart, eqb-false, ltb_true, ltb_less, or_second}
 use Rattle.model.specs.ReadingBytes.{got, read_number}
 use Rattle.model.specs.Job.{contains_id, repeats, block_id}
-use Rattle.id_index.specs.Index.{leads}
+use Rattle.id_index.specs.Index.{block_by, leads}
 use Rattle.job.specs.Passing.{notes, note_value}
 use Rattle.job.specs.Kept.{block_ids}
 use Rattle.whole_job.specs.Ids.{any_unknown, repeats_at, any_unknown_at, repeated_in, unknown_in}
 use Rattle.whole_job.specs.Stamps.{led_to, Stamped, apart}
-use Rattle.job.proofs.Noting.{one_more, none_left}
+use Rattle.job.proofs.Noting.{one_more}
 
 pub stamped_long : {k n stamp : ℕ} {stamps after : List ℕ} → Stamped k n stamp stamps after → length after ≡ length stamps
 stamped_long {k} {n} {stamp} {stamps} x = ap length x.stamped ∙ length-set stamps k stamp
@@ -32,11 +33,7 @@ module _ (place : ℕ → ℕ) (n stamp : ℕ) where
       rw (ltb_less (place id) n x.there, eqb_apart (get_or stamps (place id) 0) stamp x.new)
       (ap (λ (l : List ℕ). apart place n stamp l ids) (sym x.stamped))
 
-  -- one turn of a loop over a list of ids, and its end
-  pub apart_next : (ids : List ℕ) (k : ℕ) {stamps after : List ℕ} → k < length ids → Stamped (place (get_or ids k 0)) n stamp stamps after
-      → apart place n stamp stamps (drop k ids) ≡ apart place n stamp after (drop (k + 1) ids)
-  apart_next ids k l x = rw (add-one, drop-cons ids k 0) (apart_more (get_or ids k 0) (drop (suc k) ids) x)
-
+  -- the end of a loop over a list of ids
   pub apart_end : (ids : List ℕ) (k : ℕ) (stamps : List ℕ) → length ids ≤ k → apart place n stamp stamps (drop k ids) ≡ true
   apart_end ids k stamps h = rw (drop_of_length-le ids h)
 
@@ -48,9 +45,6 @@ module _ (place : ℕ → ℕ) (n stamp : ℕ) where
     field_next l {id} {next} {stamps} e x =
         ap (apart place n stamp stamps) (one_more (read_number 4) s note_value l e)
         ∙ apart_more id (notes note_value (count - (i + 1)) (read_number 4) s next) x
-
-    pub field_end : (stamps : List ℕ) → count ≤ i → apart place n stamp stamps (notes note_value (count - i) (read_number 4) s at) ≡ true
-    field_end stamps h = ap (apart place n stamp stamps) (none_left (read_number 4) s note_value at h)
 
   -- the first id, and the others
   apart_first : (stamps : List ℕ) (id : ℕ) (ids : List ℕ) → apart place n stamp stamps (id ∷ ids) ≡ true
@@ -98,6 +92,14 @@ module _ (known index : List ℕ) where
   pub led_known : (id : ℕ) → led_to known index id < length known → contains_id (block_ids known) (block_id id) ≡ true
   led_known id l = contains_at known (led_to known index id) id l ((leads known (length known) index id).there l)
 
+  -- an index that answers leads to a block
+  led_there : (id : ℕ) → is_some (block_by known index id) ≡ true → led_to known index id < length known
+  led_there id =
+      let place = led_to known index id in
+      by_cond (λ (o : Option ℕ). is_some o ≡ true → place < length known) (ltb place (length known))
+      (λ l e. ltb_true place (length known) l)
+      (λ l e. absurd (cc))
+
   pub apart_known : (stamp : ℕ) (stamps ids : List ℕ) → apart (led_to known index) (length known) stamp stamps ids ≡ true
       → any_unknown (block_ids known) (block_ids ids) ≡ false
   apart_known stamp stamps [] h = refl
@@ -107,10 +109,10 @@ module _ (known index : List ℕ) where
 
 -- Neither refusal applies where no id and no predecessor within one block stands twice, no
 -- predecessor is unknown, and the index leads from the scope block's id to a block.
-pub neither : (s ids places index : List ℕ) (scope : BlockId) {k : ℕ} → repeats (block_ids ids) ≡ false
+pub neither : (s ids places index : List ℕ) (scope : BlockId) → repeats (block_ids ids) ≡ false
     → (any_of (repeats_at s) places ≡ false) × (any_of (any_unknown_at s ids) places ≡ false)
-    → k ≡ led_to ids index scope.0 → ltb k (length ids) ≡ true
+    → is_some (block_by ids index scope.0) ≡ true
     → (repeated_in s ids places ≡ false) × (unknown_in s ids places scope ≡ false)
-neither s ids places index scope {k} once all e l =
-    let there : led_to ids index scope.0 < length ids = rw (← e) (ltb_true k (length ids) l) in
+neither s ids places index scope once all found =
+    let there = led_there ids index scope.0 found in
     (rw (once, all.0), rw (all.1, led_known ids index scope.0 there))

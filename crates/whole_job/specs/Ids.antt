@@ -1,7 +1,8 @@
 -- Refusals 7 and 8 by what was noted of the blocks: their ids, and the places at which their
 -- predecessors are read again.
-use Rattle.std.specs.Prelude.{ℕ, ◌<◌, Bool, ◌||◌, not, cond, List, length, get_or}
+use Rattle.std.specs.Prelude.{ℕ, ◌<◌, Bool, ◌||◌, not, cond, Result, Ok, Err, List, length, get_or}
 use Rattle.entries.specs.declared.BlockId.{BlockId}
+use Rattle.entries.specs.declared.Refusal.{Refusal}
 use Rattle.entries.specs.declared.Refusal.TheVariants.{RepeatedId, UnknownBlock}
 use Rattle.model.specs.Lists.{any_of}
 use Rattle.model.specs.ReadingBytes.{read_number}
@@ -12,8 +13,6 @@ use Rattle.job.specs.Kept.{block_ids}
 use Rattle.job.specs.Head.{read_block_head}
 use Rattle.job.specs.declared.BlockHead.{BlockHead}
 use Rattle.job.specs.declared.JobHead.{JobHead}
-use Rattle.job.specs.declared.ReadJob.{ReadJob}
-use Rattle.job.specs.declared.ReadJob.TheVariants.{Value, Refused}
 
 -- an id is none of the known ones
 abbrev pub any_unknown : List BlockId → List BlockId → Bool
@@ -47,6 +46,6 @@ abbrev pub unknown_in : List ℕ → List ℕ → List ℕ → BlockId → Bool
 unknown_in s ids places scope = any_of (any_unknown_at s ids) places || not (contains_id (block_ids ids) scope)
 
 -- 7 before 8, else what was kept of the job.
-unfoldable pub checked_by : List ℕ → List ℕ → List ℕ → JobHead → ReadJob
+unfoldable pub checked_by : List ℕ → List ℕ → List ℕ → JobHead → Result JobHead Refusal
 checked_by s ids places head =
-    cond (repeated_in s ids places) (Refused RepeatedId) (cond (unknown_in s ids places head.scope) (Refused UnknownBlock) (Value head))
+    cond (repeated_in s ids places) (Err RepeatedId) (cond (unknown_in s ids places head.scope) (Err UnknownBlock) (Ok head))

@@ -1,23 +1,15 @@
--- What reading a block, and the whole job, answers.
-use Rattle.std.specs.Prelude.{ℕ, ◌≡◌, List}
+-- What reading the whole job answers.
+use Rattle.std.specs.Prelude.{ℕ, ◌≡◌, List, Result}
 use Rattle.std.proofs.lemmas.List.Edits.{sets}
-use Rattle.entries.specs.declared.BlockId.{BlockId}
-use Rattle.model.specs.ReadingBytes.{Read, mapped}
+use Rattle.entries.specs.declared.Refusal.{Refusal}
 use Rattle.model.specs.Answer.{span_width}
 use Rattle.model.specs.Job.{HD, read_job}
-use Rattle.job.specs.Answer.{got_block_head}
 use Rattle.job.specs.Kept.{block_places, block_numbers, kept_of}
-use Rattle.job.specs.declared.BlockHead.{BlockHead}
-use Rattle.job.specs.declared.ReadBlockHead.{ReadBlockHead}
-use Rattle.job.specs.declared.ReadJob.{ReadJob}
-
--- What an answer of `block_at` says: the block's id and the place after its paths, or the refusal.
-abbrev pub got_block_id : ReadBlockHead → Read BlockId
-got_block_id r = mapped (λ (head : BlockHead). head.id) (got_block_head r)
+use Rattle.job.specs.declared.JobHead.{JobHead}
 
 -- The job in these bytes is answered by what is kept of it, or its refusal. The id of each block,
 -- and the place of its record, stand at the front of the two arrays.
-abbrev pub ReadsJob : List ℕ → ReadJob → List ℕ → List ℕ → List ℕ → List ℕ → Type 0
+abbrev pub ReadsJob : List ℕ → Result JobHead Refusal → List ℕ → List ℕ → List ℕ → List ℕ → Type 0
 ReadsJob s answer ids ids_after places places_after =
     (answer ≡ kept_of s (read_job HD span_width s))
     × ((ids_after ≡ sets ids 0 (block_numbers s)) × (places_after ≡ sets places 0 (block_places s)))

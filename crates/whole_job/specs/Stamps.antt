@@ -1,6 +1,7 @@
 -- Ids that are led to blocks, each to a block of its own.
 use Rattle.std.specs.Prelude.{ℕ, ◌<◌, ◌≡◌, Bool, true, false, cond, List, [], ◌∷◌, length, get_or, set, eqb, ltb}
 use Rattle.id_index.specs.Index.{place_by}
+use Rattle.whole_job.specs.declared.apart.Stamps.{Stamps}
 
 -- the place to which an index leads from an id; behind the last block where it leads to none
 abbrev pub led_to : List ℕ → List ℕ → ℕ → ℕ
@@ -27,3 +28,14 @@ apart place n stamp stamps (id ∷ ids) =
 pub record Apart (known index : List ℕ) (stamp : ℕ) (ids before after : List ℕ) : Type 0 where
   pub led : apart (led_to known index) (length known) stamp before ids ≡ true
   pub long : length after ≡ length before
+
+-- The index stays, and the block to which it leads from an id has the stamp now, and had it not
+-- before.
+pub record BlockStamped (before after : Stamps) (stamp id : ℕ) : Type 0 where
+  pub index : after.index ≡ before.index
+  pub block : Stamped (led_to before.index.ids.now before.index.bytes id) (length before.index.ids.now) stamp before.stamps after.stamps
+
+-- The same of several ids.
+pub record BlocksStamped (before after : Stamps) (stamp : ℕ) (ids : List ℕ) : Type 0 where
+  pub index : after.index ≡ before.index
+  pub blocks : Apart before.index.ids.now before.index.bytes stamp ids before.stamps after.stamps

@@ -1,45 +1,29 @@
 // Refusals 7 and 8: the ids of the blocks among each other, and the predecessors of each block,
 // read again at its place.
-ghost use Rattle.std.specs.Prelude.{◌≡◌, ◌≤◌, length, take, drop};
+ghost use Rattle.std.specs.Prelude.{◌≡◌, ◌≤◌, ℕ, Bool, List, length, take};
+ghost use Rattle.std.specs.Fn.{FnReturnsAt};
 ghost use Rattle.std.proofs.lemmas.List.Edits.{sets};
 ghost use Rattle.model.specs.Lists.{any_of};
 ghost use Rattle.model.specs.ReadingBytes.{read_many, read_number};
-ghost use Rattle.model.specs.Job.{read_block_id, read_block, contains_id, repeats};
+ghost use Rattle.model.specs.Job.{read_block_id, read_block, repeats};
 ghost use Rattle.model.specs.Answer.{span_width};
 ghost use Rattle.job.specs.Passing.{IsRead, notes, note_value};
 ghost use Rattle.job.specs.Kept.{block_ids};
 ghost use Rattle.whole_job.specs.Ids.{BlocksRead, predecessors_at, any_unknown};
-ghost use Rattle.whole_job.specs.Ids.{repeats_at, any_unknown_at, repeated_in, unknown_in, checked_by};
+ghost use Rattle.whole_job.specs.Ids.{repeated_in, unknown_in, checked_by};
 
 use entries::{BlockId, Refusal};
-use fields::ReadU32;
-use job::{JobHead, ReadBlockHead, ReadJob};
-
-// Whether an id stands among others, from a place on.
-fn contains_from(ids: &[u32], from: usize, id: BlockId) -> bool
-    ensures { result ≡ contains_id (block_ids (drop from ids.now)) id }
-{
-    let number = id.0;
-    let mut i = from;
-    while i < ids.len() {
-        if number == ids[i] {
-            return true;
-        }
-        i = i + 1;
-    }
-    false
-}
+use job::JobHead;
 
 // Whether an id stands twice.
+#[tactic(auto, using(crate::proofs::IdLists::repeats_here, crate::proofs::IdLists::repeats_next))]
 fn repeat_in(ids: &[u32]) -> bool
     ensures { result ≡ repeats (block_ids ids.now) }
 {
-    let mut i = 0;
-    while i < ids.len() {
-        if contains_from(ids, i + 1, BlockId(ids[i])) {
+    for (i, id) in ids.iter().enumerate() {
+        if ids[i + 1..].contains(id) {
             return true;
         }
-        i = i + 1;
     }
     false
 }
@@ -48,95 +32,49 @@ fn repeat_in(ids: &[u32]) -> bool
 fn unknown_in(ids: &[u32], known: &[u32]) -> bool
     ensures { result ≡ any_unknown (block_ids known.now) (block_ids ids.now) }
 {
-    let mut i = 0;
-    while i < ids.len() {
-        if contains_from(known, 0, BlockId(ids[i])) {
-            i = i + 1;
-        } else {
-            return true;
-        }
-    }
-    false
+    ids.iter().any(|id| !known.contains(id))
 }
 
 // `count` ids from a place on, which were read before, stored.
+// Design: an array of the most ids with a count, since memory is fixed; and a place that moves,
+// since the clause speaks of the notes of `read_many`, which moves it.
 fn ids_into(s: &[u8], start: usize, count: u8, out: &mut [u32; 64])
     requires { (count ≤ 64) × IsRead (read_many count read_block_id s.now start) }
     ensures { out.new ≡ sets out.old 0 (notes note_value count (read_number 4) s.now start) }
 {
     let mut at = start;
-    let mut i: u8 = 0;
-    while i < count {
-        let field = fields::u32_at(s, at);
-        let ReadU32::Value(id, next) = field else {
-            return;
-        };
-        out[i as usize] = id;
+    for i in 0..count {
+        let (id, next) = fields::number_at::<u32>(s, at).unwrap();
+        out[usize::from(i)] = id;
         at = next;
-        i = i + 1;
     }
 }
 
-// The predecessors of the block at a place, which was read before, stored; how many there are.
-fn predecessors_at(s: &[u8], at: usize, out: &mut [u32; 64]) -> usize
+// The predecessors of the block at a place, which was read before, stored.
+fn predecessors_at<'a>(s: &[u8], at: usize, out: &'a mut [u32; 64]) -> &'a [u32]
     requires { IsRead (read_block span_width s.now at) }
-    ensures value { result ≡ length (predecessors_at s.now at) }
-    ensures out_after { out.new ≡ sets out.old 0 (predecessors_at s.now at) }
+    ensures { result.now ≡ predecessors_at s.now at }
 {
-    let head_field = job::block_head_at(s, at);
-    let ReadBlockHead::Value(head, ids_at) = head_field else {
-        return 0;
-    };
+    let (head, ids_at) = job::block_head_at(s, at).unwrap();
     ids_into(s, ids_at, head.predecessors, out);
-    head.predecessors as usize
+    &out[..usize::from(head.predecessors)]
 }
 
-// Whether a predecessor of the block at a place stands twice.
-fn repeat_at(s: &[u8], at: usize) -> bool
-    requires { IsRead (read_block span_width s.now at) }
-    ensures { result ≡ repeats_at s.now at }
+// Whether the predecessors of a block at one of these places pass a test.
+// Design: `BlocksRead` is a clause, since it is said in this file alone, of bytes and cut places,
+// and `checked_by` would have to build a type for both from this same clause.
+fn any_block<F: Fn(&[u32]) -> bool>(s: &[u8], places: &[usize], test: F) -> bool
+    ghost passes: { List ℕ → Bool }
+    requires callable { F.IsAlwaysCallable test }
+    requires computes { (ids : List ℕ) (r : Bool) → FnReturnsAt F.Fn test ids r → r ≡ passes ids }
+    requires read { BlocksRead s.now places.now }
+    ensures { result ≡ any_of (λ at. passes (predecessors_at s.now at)) places.now }
 {
-    let mut out = [0u32; 64];
-    let n = predecessors_at(s, at, &mut out);
-    repeat_in(&out[..n])
-}
-
-// Whether a predecessor of the block at a place is no block of the job.
-fn unknown_at(s: &[u8], at: usize, known: &[u32]) -> bool
-    requires { IsRead (read_block span_width s.now at) }
-    ensures { result ≡ any_unknown_at s.now known.now at }
-{
-    let mut out = [0u32; 64];
-    let n = predecessors_at(s, at, &mut out);
-    unknown_in(&out[..n], known)
-}
-
-// Whether a predecessor stands twice in a block at one of these places.
-fn any_repeat(s: &[u8], places: &[usize]) -> bool
-    requires { BlocksRead s.now places.now }
-    ensures { result ≡ any_of (repeats_at s.now) places.now }
-{
-    let mut i = 0;
-    while i < places.len() {
-        if repeat_at(s, places[i]) {
+    for at in places {
+        let mut out = [0; 64];
+        if test(predecessors_at(s, *at, &mut out)) {
             return true;
         }
-        i = i + 1;
-    }
-    false
-}
-
-// Whether a predecessor of a block at one of these places is no block of the job.
-fn any_unknown(s: &[u8], places: &[usize], known: &[u32]) -> bool
-    requires { BlocksRead s.now places.now }
-    ensures { result ≡ any_of (any_unknown_at s.now known.now) places.now }
-{
-    let mut i = 0;
-    while i < places.len() {
-        if unknown_at(s, places[i], known) {
-            return true;
-        }
-        i = i + 1;
     }
     false
 }
@@ -146,10 +84,7 @@ fn repeated(s: &[u8], ids: &[u32], places: &[usize]) -> bool
     requires { BlocksRead s.now places.now }
     ensures { result ≡ repeated_in s.now ids.now places.now }
 {
-    if repeat_in(ids) {
-        return true;
-    }
-    any_repeat(s, places)
+    repeat_in(ids) || any_block(s, places, |predecessors| repeat_in(predecessors))
 }
 
 // Refusal 8, of the same.
@@ -157,15 +92,18 @@ fn unknown(s: &[u8], ids: &[u32], places: &[usize], scope: BlockId) -> bool
     requires { BlocksRead s.now places.now }
     ensures { result ≡ unknown_in s.now ids.now places.now scope }
 {
-    if any_unknown(s, places, ids) {
-        return true;
-    }
-    !contains_from(ids, 0, scope)
+    any_block(s, places, |predecessors| unknown_in(predecessors, ids)) || !ids.contains(&scope.0)
 }
 
 // The answer for a job whose records were read, by the ids and the places of its blocks. Ids are
 // compared with each other only where an index of them does not rule both refusals out.
-pub fn checked_by(s: &[u8], ids: &[u32], places: &[usize], head: JobHead) -> ReadJob
+#[tactic(auto, unfolding(crate::specs::Ids::checked_by))]
+pub fn checked_by(
+    s: &[u8],
+    ids: &[u32],
+    places: &[usize],
+    head: JobHead,
+) -> Result<JobHead, Refusal>
     requires { (head.blocks ≤ length ids.now) × (head.blocks ≤ length places.now)
         × BlocksRead s.now (take head.blocks places.now) }
     ensures { result
@@ -176,13 +114,13 @@ pub fn checked_by(s: &[u8], ids: &[u32], places: &[usize], head: JobHead) -> Rea
     let noted = &places[..n];
     let scope = head.scope;
     if crate::apart::neither_applies(s, known, noted, scope) {
-        return ReadJob::Value(head);
+        return Ok(head);
     }
     if repeated(s, known, noted) {
-        return ReadJob::Refused(Refusal::RepeatedId);
+        return Err(Refusal::RepeatedId);
     }
     if unknown(s, known, noted, scope) {
-        return ReadJob::Refused(Refusal::UnknownBlock);
+        return Err(Refusal::UnknownBlock);
     }
-    ReadJob::Value(head)
+    Ok(head)
 }

@@ -1,88 +1,92 @@
 // Writes numbers, entries, heads of paths and copied bytes into a buffer, numbers lowest byte
-// first. Each writer gives the place after what it wrote.
+// first, each behind the one before.
 #![tactic(auto)]
 
-ghost use Rattle.std.specs.Prelude.{◌+◌, ◌-◌, ◌≤◌, ◌<◌, length, ◌≡◌};
-ghost use Rattle.std.proofs.Math.Seq.{slice};
-ghost use Rattle.model.specs.Answer.{number_bytes, flag, step_bytes, entry_bytes, span_width};
-ghost use Rattle.writer.specs.Writes.{Writes, path_head_bytes};
+ghost use Rattle.std.specs.Prelude.{length};
+ghost use Rattle.model.specs.Answer.{number_bytes, step_bytes, entry_bytes, span_width};
+ghost use Rattle.writer.specs.Writes.{HasRoom, Puts, path_head_bytes, rounds_bytes};
 
-use entries::{DependencyPathEntry, IdentifierId};
+use entries::{DependencyPathEntry, IdentifierId, RoundsRun};
 
-// A number in so many bytes.
-pub fn put_number(out: &mut [u8], at: usize, bytes: usize, x: u64) -> usize
-    requires { at + bytes ≤ length out.old }
-    ensures { Writes out.old out.new at (number_bytes bytes x) result }
-{
-    let end = at + bytes;
-    let mut rest = x;
-    let mut i = at;
-    while i < end {
-        out[i] = (rest % 256) as u8;
-        rest = rest / 256;
-        i += 1;
+// A buffer, and the place in it at which the next bytes are written.
+#[derive(Drop)]
+pub struct Writer<'a> {
+    pub out: &'a mut [u8],
+    pub at: usize,
+}
+
+// Design: the room is a clause, and no fact in the type, since each method asks another.
+impl<'a> Writer<'a> {
+    // A number in so many bytes.
+    pub fn number(&mut self, bytes: usize, x: u64)
+        requires { HasRoom self.old bytes }
+        ensures { Puts self.old self.new bytes (number_bytes bytes x) }
+    {
+        let end = self.at + bytes;
+        let mut rest = x;
+        for byte in &mut self.out[self.at..end] {
+            *byte = (rest % 256) as u8;
+            rest = rest / 256;
+        }
+        self.at = end;
     }
-    end
-}
 
-// The bytes of a slice from one place up to another.
-pub fn put_bytes(out: &mut [u8], at: usize, s: &[u8], from: usize, until: usize) -> usize
-    requires { (until ≤ length s.now) × (at + (until - from) ≤ length out.old) }
-    ensures { Writes out.old out.new at (slice from until s.now) result }
-{
-    let mut i = at;
-    let mut j = from;
-    while j < until {
-        out[i] = s[j];
-        i += 1;
-        j += 1;
+    // The bytes of a slice.
+    pub fn bytes(&mut self, s: &[u8])
+        requires { HasRoom self.old (length s.now) }
+        ensures { Puts self.old self.new (length s.now) s.now }
+    {
+        let end = self.at + s.len();
+        self.out[self.at..end].copy_from_slice(s);
+        self.at = end;
     }
-    i
-}
 
-// The number of a yes or no.
-pub fn flag(b: bool) -> u64
-    ensures { (result ≡ flag b) × (result < 2) }
-{
-    if b { 1 } else { 0 }
-}
+    // What stands of an entry before its span: optional, kind and value.
+    pub fn step(&mut self, e: DependencyPathEntry)
+        requires { HasRoom self.old 10 }
+        ensures { Puts self.old self.new 10 (step_bytes e) }
+    {
+        self.number(1, u64::from(e.optional));
+        self.number(1, u64::from(e.property.is_number()));
+        self.number(8, e.property.value());
+    }
 
-// What stands of an entry before its span: optional, kind and value.
-pub fn put_step(out: &mut [u8], at: usize, e: DependencyPathEntry) -> usize
-    requires { at + 10 ≤ length out.old }
-    ensures { Writes out.old out.new at (step_bytes e) result }
-{
-    let property = e.property;
-    let kind_at = put_number(out, at, 1, flag(e.optional));
-    let value_at = put_number(out, kind_at, 1, flag(property.is_number()));
-    put_number(out, value_at, 8, property.value())
-}
+    // A whole entry.
+    pub fn entry(&mut self, e: DependencyPathEntry)
+        requires { HasRoom self.old 14 }
+        ensures { Puts self.old self.new 14 (entry_bytes span_width e) }
+    {
+        self.step(e);
+        self.number(4, e.span);
+    }
 
-// A whole entry.
-pub fn put_entry(out: &mut [u8], at: usize, e: DependencyPathEntry) -> usize
-    requires { at + 14 ≤ length out.old }
-    ensures { Writes out.old out.new at (entry_bytes span_width e) result }
-{
-    let span_at = put_step(out, at, e);
-    put_number(out, span_at, 4, e.span)
-}
+    // What stands before a path's entries, under a mark, and how many entries there are.
+    // Design: no struct of these, since identifier and mark are of a path's root, and the span is
+    // of its last position (`tree::put_path`).
+    pub fn path_head(
+        &mut self,
+        mark: u16,
+        identifier: IdentifierId,
+        reactive: bool,
+        span: u64,
+        entries: usize,
+    )
+        requires { HasRoom self.old 12 }
+        ensures { Puts self.old self.new 12 (path_head_bytes mark identifier reactive span entries) }
+    {
+        self.number(2, u64::from(mark));
+        self.number(4, u64::from(identifier.0));
+        self.number(1, u64::from(reactive));
+        self.number(4, span);
+        self.number(1, entries as u64);
+    }
 
-// What stands before a path's entries, under a mark, and how many entries there are.
-pub fn put_path_head(
-    out: &mut [u8],
-    at: usize,
-    mark: u16,
-    identifier: IdentifierId,
-    reactive: bool,
-    span: u64,
-    entries: usize,
-) -> usize
-    requires { at + 12 ≤ length out.old }
-    ensures { Writes out.old out.new at (path_head_bytes mark identifier reactive span entries) result }
-{
-    let identifier_at = put_number(out, at, 2, mark as u64);
-    let reactive_at = put_number(out, identifier_at, 4, identifier.0 as u64);
-    let span_at = put_number(out, reactive_at, 1, flag(reactive));
-    let count_at = put_number(out, span_at, 4, span);
-    put_number(out, count_at, 1, entries as u64)
+    // What an answer and a sheet say of the rounds.
+    pub fn rounds(&mut self, run: RoundsRun)
+        requires { HasRoom self.old 2 }
+        ensures { Puts self.old self.new 2 (rounds_bytes run.rounds run.settled) }
+    {
+        self.number(1, u64::from(run.rounds));
+        self.number(1, u64::from(run.settled));
+    }
 }

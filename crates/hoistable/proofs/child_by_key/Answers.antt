@@ -1,26 +1,16 @@
 use native.Mathlib.Omega.{arith}
 use mathlib.Core.Path.{refl, sym, ◌∙◌}
-use Rattle.hoistable.specs.Positions.{key_of}
+use Rattle.job.specs.Key.{key_in}
 use Rattle.hoistable.proofs.Positions.{seeking, seeking_hit, seeking_miss, seeking_end}
 use Rattle.hoistable.proofs.child_by_key.Goals as goal
 
 pub loop-j-init : goal.loop-j-init
-loop-j-init c = seeking c.args.ws.now c.args.hoist.now c.args.parent (key_of c.args.n) _ refl c.requires.1
-
-pub is_child-requires : goal.is_child-requires
-is_child-requires c =
-    let counted = c.loop-j.invariant.counted in
-    let below = c.loop-j-test.true in
-    c.requires.0.makers c.loop-j.j (omega arith)
+loop-j-init c = seeking c.args.nodes.words.now c.args.hoist.now c.args.parent (key_in c.args.key) _ refl c.requires.1
 
 pub returns-then-is_child : goal.returns-then-is_child
 returns-then-is_child c =
     let counted = c.loop-j.invariant.counted in
-    let below = c.loop-j-test.true in
-    (seeking_hit c.loop-j.invariant below (sym c.is_child.ensures ∙ c.if-is_child.true), omega arith)
-
-pub loop-j-smaller : goal.loop-j-smaller
-loop-j-smaller c = let below = c.loop-j-test.true in omega arith
+    (seeking_hit c.loop-j.invariant c.loop-j-test.true (sym c.is_child.ensures ∙ c.if-is_child.true), omega arith)
 
 pub loop-j-preserved : goal.loop-j-preserved
 loop-j-preserved c =

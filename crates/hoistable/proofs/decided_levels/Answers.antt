@@ -1,58 +1,35 @@
-use native.Mathlib.Omega.{arith}
-use mathlib.Core.Path.{sym, ◌∙◌}
-use Rattle.rows.proofs.Ahead.{next_nothing, none_past}
+use mathlib.Core.Path.{ap, ◌∙◌}
+use Rattle.rows.specs.Members.{members_from}
+use Rattle.rows.specs.declared.MembersFrom.{MembersFrom}
 use Rattle.hoistable.specs.Candidate.{entries_at}
 use Rattle.hoistable.proofs.Numbers.{holds_small}
 use Rattle.hoistable.proofs.Steps.{agrees_small}
-use Rattle.hoistable.proofs.Deciding.{deciding_start, deciding_end, deciding_inside, deciding_place, deciding_ahead, deciding_rest}
+use Rattle.hoistable.proofs.Deciding.{deciding_start, deciding_end, deciding_ahead, deciding_rest}
 use Rattle.hoistable.proofs.decided_levels.Goals as goal
-use Rattle.hoistable.proofs.decided_levels.Goals.{then-levels-eq1, else-levels-eq1}
 
-pub loop-from-init : goal.loop-from-init
-loop-from-init c =
-    deciding_start c.args.identifier (entries_at c.args.count c.args.s.now c.args.start) c.args.ws.now c.args.set.words
-    c.requires.1 c.none-ahead.ensures c.none-rest.ensures
-
-pub over-requires : goal.over-requires
-over-requires c = (holds_small c.loop-from.invariant.ahead, holds_small c.loop-from.invariant.rest)
-
-pub returns-in_default : goal.returns-in_default
-returns-in_default c =
-    deciding_end c.loop-from.invariant (next_nothing c.args.set.words c.loop-from.from
-    (sym c.next.ensures ∙ c.in_default.is)) c.over.ensures
-
-pub follow-path-requires : goal.follow-path-requires
-follow-path-requires c =
-    (c.requires.0, deciding_inside c.loop-from.invariant _ (sym c.next.ensures ∙ c.in-At.is))
+pub loop-k-init : goal.loop-k-init
+loop-k-init c =
+    deciding_start c.args.candidate.identifier (entries_at c.args.candidate.entries.left c.args.s.now c.args.candidate.entries.at) c.args.nodes.words.now
+    c.args.set.words _ c.requires.1
+    (ap (λ (m : MembersFrom). members_from m.set.now.words m.from) c.into_iter-k-iterator.ensures.into_iter_gives ∙ c.members-k-items.ensures)
+    c.none-ahead.ensures c.none-rest.ensures
 
 pub over-ahead-requires : goal.over-ahead-requires
-over-ahead-requires c =
-    (holds_small c.loop-from.invariant.ahead, agrees_small c.follow-path.ensures)
+over-ahead-requires c = (holds_small c.loop-k.invariant.ahead, agrees_small c.follow.ensures)
 
 pub over-rest-requires : goal.over-rest-requires
-over-rest-requires c =
-    (holds_small c.loop-from.invariant.rest, agrees_small c.follow-path.ensures)
+over-rest-requires c = (holds_small c.loop-k.invariant.rest, agrees_small c.follow.ensures)
 
-pub loop-from-smaller : goal.loop-from-smaller
-loop-from-smaller c =
-    let a = deciding_place c.loop-from.invariant _ (sym c.next.ensures ∙ c.in-At.is) in
-    omega arith
+pub loop-k-preserved-then-levels-eq1 : goal.loop-k-preserved-then-levels-eq1
+loop-k-preserved-then-levels-eq1 c =
+    deciding_ahead c.loop-k.invariant c.in-Some.ensures.steps _ c.follow.ensures.levels _ c.if-levels-eq1.true c.over-ahead.ensures
 
-pub loop-from-preserved : goal.loop-from-preserved
-loop-from-preserved c =
-    let next = sym c.next.ensures ∙ c.in-At.is in
-    elim c.if-levels-eq1.branch [
-      | then-levels-eq1 w ↦
-          rw (w.ahead-is, w.rest-is) (deciding_ahead c.loop-from.invariant _ next c.follow-path.result.levels c.follow-path.ensures.levels w.over-ahead.result
-          w.if-levels-eq1.true w.over-ahead.ensures)
-      | else-levels-eq1 w ↦
-          rw (w.ahead-is, w.rest-is) (deciding_rest c.loop-from.invariant _ next c.follow-path.result.levels c.follow-path.ensures.levels w.over-rest.result
-          w.if-levels-eq1.false w.over-rest.ensures)
-    ]
+pub loop-k-preserved : goal.loop-k-preserved
+loop-k-preserved c =
+    deciding_rest c.loop-k.invariant c.in-Some.ensures.steps _ c.follow.ensures.levels _ c.if-levels-eq1.false c.over-rest.ensures
 
-pub over-requires-2 : goal.over-requires-2
-over-requires-2 c = (holds_small c.loop-from.invariant.ahead, holds_small c.loop-from.invariant.rest)
+pub over-requires : goal.over-requires
+over-requires c = (holds_small c.loop-k.invariant.ahead, holds_small c.loop-k.invariant.rest)
 
 pub returns : goal.returns
-returns c =
-    deciding_end c.loop-from.invariant (none_past c.args.set.words c.loop-from.from c.loop-from-test.false) c.over-2.ensures
+returns c = deciding_end c.loop-k.invariant c.in-None.ensures.steps.0 c.over.ensures

@@ -1,34 +1,24 @@
-use native.Mathlib.Omega.{arith}
-use mathlib.Core.Path.{sym, ◌∙◌}
-use mathlib.Core.Bool.{false≢true}
-use Rattle.rows.proofs.Ahead.{next_nothing, none_past}
-use Rattle.hoistable.proofs.Members.{entering, entering_end, entering_inside, entering_place, entering_more}
+-- A path whose first entry is as said is entered, and another is left for the other loop.
+use mathlib.Core.Bool.{beq}
+use mathlib.Core.Path.{refl, sym, ap, ◌∙◌}
+use Rattle.rows.specs.Members.{members_from}
+use Rattle.rows.specs.declared.MembersFrom.{MembersFrom}
+use Rattle.hoistable.proofs.Members.{entering, entering_more, said_by, path_entered, path_passed}
 use Rattle.hoistable.proofs.enter_members.Goals as goal
 
-pub loop-from-init : goal.loop-from-init
-loop-from-init c = entering c.args.ws.now c.args.set.words c.args.ahead c.args.hoist.now c.requires.0 c.requires.2
+pub loop-k-init : goal.loop-k-init
+loop-k-init c =
+    entering c.args.nodes.words.now c.args.set.words c.args.ahead c.args.hoist.now _ c.requires.0 c.requires.1
+    (ap (λ (m : MembersFrom). members_from m.set.now.words m.from) c.into_iter-k-iterator.ensures.into_iter_gives ∙ c.members-k-items.ensures)
 
-pub returns-in_default : goal.returns-in_default
-returns-in_default c room =
-    entering_end c.loop-from.invariant (next_nothing c.args.set.words c.loop-from.from (sym c.next.ensures ∙ c.in_default.is))
+pub loop-k-preserved : goal.loop-k-preserved
+loop-k-preserved c =
+    entering_more c.loop-k.invariant c.in-Some.ensures.steps refl
+    (path_passed (said_by c.args.ahead _ (ap (λ b. beq b c.args.ahead) (sym c.starts_optional.ensures) ∙ c.if-starts_optional-ahead.false))
+    c.loop-k.invariant.held)
 
-pub enter_member-requires : goal.enter_member-requires
-enter_member-requires c =
-    (c.loop-from.invariant.held, c.requires.1, entering_inside c.loop-from.invariant _ (sym c.next.ensures ∙ c.in-At.is))
-
-pub returns-then-not-enter_member : goal.returns-then-not-enter_member
-returns-then-not-enter_member c room = absurd (false≢true room)
-
-pub loop-from-smaller : goal.loop-from-smaller
-loop-from-smaller c =
-    let place = entering_place c.loop-from.invariant _ (sym c.next.ensures ∙ c.in-At.is) in
-    omega arith
-
-pub loop-from-preserved : goal.loop-from-preserved
-loop-from-preserved c =
-    entering_more c.loop-from.invariant _ (sym c.next.ensures ∙ c.in-At.is)
-    c.enter_member.auto.hoist (c.enter_member.ensures c.if-not-enter_member.false)
-
-pub returns : goal.returns
-returns c room =
-    entering_end c.loop-from.invariant (none_past c.args.set.words c.loop-from.from c.loop-from-test.false)
+pub loop-k-preserved-in_ok-enter_path : goal.loop-k-preserved-in_ok-enter_path
+loop-k-preserved-in_ok-enter_path c =
+    entering_more c.loop-k.invariant c.in-Some.ensures.steps c.enter_path.auto.hoist
+    (path_entered (said_by c.args.ahead _ (ap (λ b. beq b c.args.ahead) (sym c.starts_optional.ensures) ∙ c.if-starts_optional-ahead.true))
+    c.in_ok-enter_path.ensures)

@@ -10,11 +10,9 @@ use Rattle.hoistable.proofs.starts_optional.Given as goal
 
 abbrev pub invariant-loop-p : goal.invariant-loop-p
 invariant-loop-p l =
-    (l.at < count_in l.ws)
-    × (starts_or l.optional (full_path_of (registry_of l.ws) (record { 0 = l.at })).path ≡ starts_optional (full_path_of (registry_of l.ws) (record {
-      0 =
-          l.initial.at;
-    })).path)
+    (l.at.0 < count_in l.nodes.words.now)
+    × (starts_or l.optional (full_path_of (registry_of l.nodes.words.now) l.at).path
+    ≡ starts_optional (full_path_of (registry_of l.nodes.words.now) l.initial.at).path)
 
 abbrev pub decreases-loop-p : goal.decreases-loop-p
-decreases-loop-p l = l.at
+decreases-loop-p l = l.at.0

@@ -1,33 +1,24 @@
+use native.Mathlib.Omega.{arith}
+use mathlib.Core.Path.{sym}
+use Rattle.std.proofs.lemmas.Result.{err_from_is_err_and}
 use Rattle.registry.specs.Words.{registry_of}
-use Rattle.fields.proofs.Reading.{seen}
-use Rattle.job.specs.Answer.{got_entry}
-use Rattle.paths.proofs.Entering.{child_made_at, made_full, entering_end, entry_there, entering_full, entering_more}
+use Rattle.paths.proofs.Entering.{child_made_at, entering_end, entry_there, entering_full, entering_more}
 use Rattle.paths.proofs.enter_entries.Goals as goal
 
-pub loop-left-init : goal.loop-left-init
-loop-left-init c = let p = c.requires in record { held = p.0; inside = p.1; among = p.2; there = p.3; on = λ r us ps h. h }
+pub returns-in_err-entry : goal.returns-in_err-entry
+returns-in_err-entry c = entry_there c.loop.invariant (omega arith) (sym c.in_err-entry.ensures)
 
-pub returns-in_default : goal.returns-in_default
-returns-in_default c =
-    entry_there c.loop-left.invariant c.loop-left-test.true (seen got_entry c.entry_at-field.ensures c.in_default.is)
+pub returns-in_err-node : goal.returns-in_err-node
+returns-in_err-node c =
+    let full = c.in_err-node.ensures in
+    let p = err_from_is_err_and c.from_residual-in_err-node.result c.from_residual-in_err-node.ensures.1 in
+    rw (p.1, p.2, full.0) (entering_full c.loop.invariant (omega arith) (sym c.in_ok-entry.ensures) _ _ full.1)
 
-pub get_or_create_property_entry-child-requires : goal.get_or_create_property_entry-child-requires
-get_or_create_property_entry-child-requires c =
-    (c.loop-left.invariant.held, c.loop-left.invariant.inside)
-
-pub returns-in_default-child : goal.returns-in_default-child
-returns-in_default-child c =
-    let g = c.get_or_create_property_entry-child in
-    entering_full c.loop-left.invariant c.loop-left-test.true (seen got_entry c.entry_at-field.ensures c.in-Value.is) _ _
-    (made_full _ g.result g.new.ws g.new.optional g.ensures c.in_default-child.is)
-
-pub loop-left-preserved : goal.loop-left-preserved
-loop-left-preserved c =
-    let g = c.get_or_create_property_entry-child in
-    let l = c.loop-left in
-    let e = c.in-Value.entry in
-    let made = child_made_at (registry_of l.ws) l.node e g.result g.new.ws g.new.optional g.ensures _ _ c.in-At.is in
-    entering_more l.invariant c.loop-left-test.true (seen got_entry c.entry_at-field.ensures c.in-Value.is) _ _ _ _ made
+pub loop-preserved : goal.loop-preserved
+loop-preserved c =
+    entering_more c.loop.invariant (omega arith) (sym c.in_ok-entry.ensures) _ _ _ _
+    (child_made_at (registry_of c.loop.registry.words) c.loop.path.node c.in_ok-entry.entry
+    c.get_or_create_property_entry.new.self.words _ _ c.in_ok-node.ensures.1) (omega arith)
 
 pub returns : goal.returns
-returns c = entering_end c.loop-left.invariant c.loop-left-test.false
+returns c = entering_end c.loop.invariant (omega arith) _ c.loop.registry.held

@@ -1,5 +1,6 @@
 -- The loop's invariant, `Entering`: what enters the entries that are left from the node reached so
--- far enters them all. The measure is their number.
+-- far enters them all.
+use Prim.Native.Nat.{◌-◌}
 use Rattle.model.specs.ReadingBytes.{read_many}
 use Rattle.model.specs.Job.{read_entry}
 use Rattle.registry.specs.Words.{registry_of}
@@ -7,10 +8,8 @@ use Rattle.paths.specs.Enters.{walk_own}
 use Rattle.paths.proofs.Entering.{Entering}
 use Rattle.paths.proofs.enter_entries.Given as goal
 
-abbrev pub invariant-loop-left : goal.invariant-loop-left
-invariant-loop-left l =
-    Entering (read_many l.count (read_entry 4) l.s l.start)
-    (walk_own (registry_of l.initial.ws) l.initial.node l.initial.made) l.s l.ws l.optional l.node l.made l.at l.left
-
-abbrev pub decreases-loop-left : goal.decreases-loop-left
-decreases-loop-left l = l.left
+abbrev pub invariant-loop : goal.invariant-loop
+invariant-loop l =
+    Entering (read_many l.count (read_entry 4) l.s l.fn.from.next)
+    (walk_own (registry_of l.initial.registry.words) l.fn.from.node l.fn.from.made) l.s l.registry.words l.path.node l.path.made l.path.next
+    (l.count - l.counter)

@@ -7,7 +7,7 @@ use Rattle.reduction.proofs.Steps.{Climbing}
 use Rattle.reduction.proofs.leads_back.Given as goal
 
 abbrev pub invariant-loop-p : goal.invariant-loop-p
-invariant-loop-p l = Climbing l.ws (members_of l.set) l.initial.at l.at
+invariant-loop-p l = Climbing l.registry.words (members_of l.set.words) l.fn.k l.at
 
 abbrev pub decreases-loop-p : goal.decreases-loop-p
 decreases-loop-p l = l.at.0

@@ -1,55 +1,35 @@
-use native.Mathlib.Omega.{arith}
-use mathlib.Core.Path.{subst, ap}
-use Rattle.rows.specs.Members.{members_of}
-use Rattle.rows.proofs.Ahead.{none_past}
-use Rattle.registry.specs.Words.{registry_of}
-use Rattle.reduction.specs.Reduces.{pass_over, GoesOn}
-use Rattle.reduction.proofs.Passes.{along_start, along_end, along_full, along_more}
+use mathlib.Core.Bool.{true}
+use mathlib.Core.Path.{ap, ◌∙◌}
+use Rattle.std.proofs.lemmas.Result.{err_from_is_err_and}
+use Rattle.model.specs.Sets.{insert}
+use Rattle.reduction.proofs.Passes.{along_start, along_back, along_full, along_more, node_inside, node_moved}
+use borrow.Author.Rules.{rules}
 use Rattle.reduction.proofs.pass.Goals as goal
 
-pub loop-from-init : goal.loop-from-init
-loop-from-init c =
-    along_start c.args.ws.now c.args.optional.now c.intersection-snapshot.result.words c.args.set c.requires.0 c.requires.1 c.intersection-snapshot.ensures
+pub loop-k-init : goal.loop-k-init
+loop-k-init c =
+    let a = c.args in
+    along_start a.registry.now.words a.registry.now.optional.words a.set.now.words _ a.registry.now.held c.requires
+    (rw (c.into_iter-k-iterator.ensures.into_iter_gives) (c.members-k-items.ensures ∙ c.intersection-snapshot.ensures))
 
-pub next_to_reduce-requires : goal.next_to_reduce-requires
-next_to_reduce-requires c =
-    let inv = c.loop-from.invariant in
-    (record { sized = inv.held.sized; sound = inv.held.sound }, inv.inside)
+pub loop-k-preserved-then-leads_back : goal.loop-k-preserved-then-leads_back
+loop-k-preserved-then-leads_back c =
+    along_back c.loop-k.invariant c.in-Some.k _ c.in-Some.ensures.steps c.loop-k.registry.held.sound
+    (search rules)
 
-pub returns-in_default : goal.returns-in_default
-returns-in_default c =
-    along_end c.loop-from.invariant
-    (subst (GoesOn c.loop-from.ws (members_of c.loop-from.r.set.words) c.intersection-snapshot.result.words c.loop-from.from)
-    c.in_default.is c.next_to_reduce.ensures)
+pub returns-in_err-q : goal.returns-in_err-q
+returns-in_err-q c =
+    let p = err_from_is_err_and c.from_residual.result c.from_residual.ensures.1 in
+    rw p.1 (p.2 ∙ c.in_err-q.ensures.0, along_full c.loop-k.invariant c.in-Some.k _ c.in-Some.ensures.steps c.in_err-q.ensures.1)
 
-pub reduce_node-r-requires : goal.reduce_node-r-requires
-reduce_node-r-requires c = (
-  c.loop-from.invariant.held,
-  (subst (GoesOn c.loop-from.ws (members_of c.loop-from.r.set.words) c.intersection-snapshot.result.words c.loop-from.from)
-      c.in-At.is c.next_to_reduce.ensures).inside.0,
-)
+pub insert-requires : goal.insert-requires
+insert-requires c =
+    node_inside c.loop-k.registry.words c.loop-k.set.words c.loop-k.changed c.in-Some.k c.walk_again.new.registry.words c.in_ok-q.q _
+    c.in_ok-q.ensures.1 c.loop-k.registry.held.sound c.walk_again.new.registry.held.sized.room
 
-pub returns-then-r : goal.returns-then-r
-returns-then-r c =
-    let r = c.reduce_node-r in
-    along_full c.loop-from.invariant _ (subst (GoesOn c.loop-from.ws (members_of c.loop-from.r.set.words) c.intersection-snapshot.result.words c.loop-from.from)
-    c.in-At.is c.next_to_reduce.ensures) r.result r.new.ws r.new.optional c.if-r.true r.ensures
-
-pub loop-from-smaller : goal.loop-from-smaller
-loop-from-smaller c =
-    let c = (subst (GoesOn c.loop-from.ws (members_of c.loop-from.r.set.words) c.intersection-snapshot.result.words c.loop-from.from)
-    c.in-At.is c.next_to_reduce.ensures) in
-    let a = c.ahead in
-    let b = c.below in
-    omega arith
-
-pub loop-from-preserved : goal.loop-from-preserved
-loop-from-preserved c =
-    let r = c.reduce_node-r in
-    along_more c.loop-from.invariant _ (subst (GoesOn c.loop-from.ws (members_of c.loop-from.r.set.words) c.intersection-snapshot.result.words c.loop-from.from)
-    c.in-At.is c.next_to_reduce.ensures) r.result r.new.ws r.new.optional c.if-r.false r.ensures
-
-pub returns : goal.returns
-returns c =
-    along_end c.loop-from.invariant (λ b. ap (pass_over (registry_of c.loop-from.ws) (members_of c.loop-from.r.set.words) b)
-    (none_past c.intersection-snapshot.result.words c.loop-from.from c.loop-from-test.false))
+pub loop-k-preserved-then-ne : goal.loop-k-preserved-then-ne
+loop-k-preserved-then-ne c =
+    let vs = c.walk_again.new.registry.words in
+    along_more c.loop-k.invariant c.in-Some.k _ c.in-Some.ensures.steps vs c.insert.new.self.words true
+    (node_moved c.loop-k.registry.words c.loop-k.set.words c.loop-k.changed c.in-Some.k vs c.in_ok-q.q _ c.in_ok-q.ensures.1 (search rules)
+    c.insert.new.self.words (c.insert.ensures ∙ ap (insert c.in_ok-q.q) c.remove.ensures))

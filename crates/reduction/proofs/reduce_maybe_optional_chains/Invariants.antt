@@ -6,14 +6,13 @@ use Rattle.rows.specs.Members.{members_of}
 use Rattle.registry.specs.Words.{registry_of}
 use Rattle.model.specs.Reduction.{reduce_maybe_optional_chains}
 use Rattle.reduction.specs.Reduces.{KnownReduced}
-use Rattle.reduction.proofs.Repeats.{Repeating, passes_left}
+use Rattle.reduction.proofs.Repeats.{Repeating, marks_left}
 use Rattle.reduction.proofs.reduce_maybe_optional_chains.Given as goal
 
-abbrev pub invariant-loop-r : goal.invariant-loop-r
-invariant-loop-r l =
-    Repeating (reduce_maybe_optional_chains (registry_of l.initial.ws) (members_of l.initial.r.set.words)) l.ws l.optional l.r
-    × KnownReduced l.known (registry_of l.ws)
-    (members_of l.before.words)
+abbrev pub invariant-loop-set : goal.invariant-loop-set
+invariant-loop-set l =
+    Repeating (reduce_maybe_optional_chains (registry_of l.initial.registry.words) (members_of l.initial.set.words)) l.registry.words l.set.words
+    × KnownReduced l.known (registry_of l.registry.words) (members_of l.before.words)
 
-abbrev pub decreases-loop-r : goal.decreases-loop-r
-decreases-loop-r l = passes_left l.ws l.r
+abbrev pub decreases-loop-set : goal.decreases-loop-set
+decreases-loop-set l = marks_left l.registry.words l.set.words

@@ -1,12 +1,8 @@
 -- The tests are the clauses of `optional_over`: a root has none, then the entry's own mark, then
 -- the parent's bit.
-use mathlib.Core.Path.{sym}
-use Rattle.rows.specs.Members.{has_bit}
-use Rattle.rows.proofs.Members.{contains_members}
 use Rattle.model.specs.Tests.{eqb_equal, eqb_apart}
 use Rattle.registry.specs.Words.{unpack}
 use Rattle.registry.proofs.Pack.{inside_parent}
-use borrow.Author.Rules.{rules}
 use Rattle.registry.proofs.has_optional.Goals as goal
 
 pub returns-then-parent-eq-ROOT : goal.returns-then-parent-eq-ROOT
@@ -18,13 +14,8 @@ unfolding unpack
 returns-then-head-eq1 c = rw (eqb_apart _ _ c.if-parent-eq-ROOT.false, eqb_equal _ _ c.if-head-eq1.true)
 
 pub returns : goal.returns
-unfolding unpack has_bit
-returns c =
-    let other = c.if-parent-eq-ROOT.false in
-    rw (eqb_apart _ _ other, eqb_apart _ _ c.if-head-eq1.false)
-    (sym (contains_members c.args.optional.now _ (inside_parent c.args.head 0 0 512 c.requires other)))
+unfolding unpack
+returns c = rw (eqb_apart _ _ c.if-parent-eq-ROOT.false, eqb_apart _ _ c.if-head-eq1.false) c.contains.ensures
 
-pub bounds-optional-p : goal.bounds-optional-p
-bounds-optional-p c =
-    let small = inside_parent c.args.head 0 0 512 c.requires c.if-parent-eq-ROOT.false in
-    search rules
+pub contains-requires : goal.contains-requires
+contains-requires c = inside_parent c.args.head 0 0 512 c.requires c.if-parent-eq-ROOT.false

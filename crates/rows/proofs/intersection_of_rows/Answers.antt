@@ -1,27 +1,11 @@
-use Prim.Native.Nat.{◌+◌}
 use native.Mathlib.Omega.{arith}
-use Rattle.rows.specs.Rows.{Lent}
-use Rattle.rows.proofs.Intersections.{all_at, none_met, met_first, met_more, met_end}
+use mathlib.Core.Path.{◌∙◌}
+use Rattle.rows.proofs.Intersections.{none_met, met_first}
 use Rattle.rows.proofs.intersection_of_rows.Goals as goal
 
 pub returns-then-places-eq0 : goal.returns-then-places-eq0
-returns-then-places-eq0 c = none_met c.args.ws.now c.args.places.now (omega arith)
+returns-then-places-eq0 c = c.empty.ensures ∙ none_met c.args.ws.now c.args.places.now (omega arith)
 
-pub row-found-requires : goal.row-found-requires
-row-found-requires c =
-    all_at (λ b. Lent (b + 1) c.args.ws.now) c.args.places.now 0 c.requires.0 (omega arith)
-
-pub loop-i-init : goal.loop-i-init
-loop-i-init c =
-    met_first c.args.ws.now c.args.places.now c.row-found.result.words (omega arith) c.row-found.ensures
-
-pub intersection_with_row-found-requires : goal.intersection_with_row-found-requires
-intersection_with_row-found-requires c =
-    all_at (λ b. Lent (b + 1) c.args.ws.now) c.args.places.now c.loop-i.i c.requires.0 (omega arith)
-
-pub loop-i-preserved : goal.loop-i-preserved
-loop-i-preserved c =
-    met_more c.loop-i.invariant (omega arith) c.intersection_with_row-found.result.words c.intersection_with_row-found.ensures
-
-pub returns : goal.returns
-returns c = met_end c.loop-i.invariant (omega arith)
+pub loop-b-init : goal.loop-b-init
+loop-b-init c =
+    met_first c.args.ws.now c.args.places.now c.row-found.result.words (omega arith) (rw c.from.ensures at c.row-found.ensures)

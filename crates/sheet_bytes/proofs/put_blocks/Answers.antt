@@ -1,25 +1,21 @@
-use Prim.Native.Nat.{◌+◌, ◌*◌, ◌-◌}
-use native.Mathlib.Nat.{sub-zero}
-use mathlib.Core.Path.{ap}
-use borrow.Author.Rules.{rules}
-use Rattle.writer.proofs.Bytes.{room_after}
-use Rattle.sheet_bytes.specs.Sheet.{set_records}
-use Rattle.sheet_bytes.proofs.Coming.{coming_start, coming_more, coming_end}
-use Rattle.sheet_bytes.proofs.Blocks.{block_length, blocks_more, blocks_over}
+use Rattle.std.proofs.Common.{◌≡◌, ◌*◌, ap, rules, get_or-take}
+use Rattle.rows.specs.Rows.{row_of}
+use Rattle.writer.proofs.Bytes.{puts_as, puts_none, puts_to, puts_more}
+use Rattle.sheet_bytes.specs.Sheet.{set_record, set_records}
+use Rattle.sheet_bytes.proofs.Blocks.{blocks_none, blocks_next}
 use Rattle.sheet_bytes.proofs.put_blocks.Goals as goal
 
 pub loop-b-init : goal.loop-b-init
-loop-b-init c = (search rules, search rules, coming_start (ap (set_records _ _ 0) (sub-zero c.args.blocks)))
+loop-b-init c = puts_as (blocks_none _ _) (puts_none _)
 
 pub loop-b-preserved : goal.loop-b-preserved
 loop-b-preserved c =
-    let a = c.args in (
-      search rules,
-      room_after 70 (70 * (128 - (c.loop-b.b + 1))) c.put_block-at.ensures (block_length _ _) (search rules),
-      coming_more c.loop-b.invariant.2 (blocks_more a.ids.now a.sets.now c.loop-b.b a.blocks (search rules)) c.put_block-at.ensures,
-    )
+    let a = c.args in
+    let b = c.loop-b.b in
+    let id = ap (λ i. set_record (record { 0 = i }) (row_of a.sets.now b)) (get_or-take a.blocks a.ids.now b 0 (search rules)) in
+    puts_more (search rules) (blocks_next a.ids.now a.sets.now b) c.loop-b.invariant (puts_as id c.put_block.ensures)
 
 pub returns : goal.returns
 returns c =
-    let a = c.args in
-    coming_end c.loop-b.invariant.2 (blocks_over a.ids.now a.sets.now c.loop-b.b a.blocks (search rules))
+    let all : c.loop-b.b ≡ c.args.blocks = search rules in
+    puts_to (ap (λ b. 70 * b) all) (ap (set_records c.args.ids.now c.args.sets.now 0) all) c.loop-b.invariant

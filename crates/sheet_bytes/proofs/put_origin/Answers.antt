@@ -3,7 +3,7 @@ use mathlib.Core.Path.{◌≡◌, refl, sym, ap, ◌∙◌}
 use Rattle.model.specs.Registry.{root}
 use Rattle.model.specs.Answer.{number_bytes, origin_bytes}
 use Rattle.registry.specs.Nodes.{origin_of}
-use Rattle.writer.proofs.Bytes.{writes_as}
+use Rattle.writer.proofs.Bytes.{puts_as}
 use Rattle.sheet_bytes.proofs.put_origin.Goals as goal
 
 zeros : number_bytes 10 0 ≡ origin_bytes root
@@ -11,9 +11,4 @@ unfolding number_bytes
 zeros = refl
 
 pub returns-in-Root : goal.returns-in-Root
-returns-in-Root c =
-    writes_as (zeros ∙ ap (λ n. origin_bytes (origin_of n)) (sym c.in-Root.is)) c.put_number.ensures
-
-pub returns-in-Child : goal.returns-in-Child
-returns-in-Child c =
-    writes_as (ap (λ n. origin_bytes (origin_of n)) (sym c.in-Child.is)) c.put_step.ensures
+returns-in-Root c = puts_as (zeros ∙ ap (λ n. origin_bytes (origin_of n)) (sym c.in-Root.is)) c.number.ensures

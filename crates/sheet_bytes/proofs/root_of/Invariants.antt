@@ -10,7 +10,8 @@ use Rattle.sheet_bytes.proofs.root_of.Given as goal
 
 abbrev pub invariant-loop-identifier : goal.invariant-loop-identifier
 invariant-loop-identifier l =
-    (l.at.0 < count_in l.ws) × (root_of (full_path_of (registry_of l.ws) l.at) ≡ root_of (full_path_of (registry_of l.ws) l.initial.at))
+    (l.at.0 < count_in l.nodes.words.now)
+    × (root_of (full_path_of (registry_of l.nodes.words.now) l.at) ≡ root_of (full_path_of (registry_of l.nodes.words.now) l.initial.at))
 
 abbrev pub decreases-loop-identifier : goal.decreases-loop-identifier
 decreases-loop-identifier l = l.at.0

@@ -1,10 +1,7 @@
--- The loop's invariant, `Comparing`: the entries that are left are equal where all are. The measure
--- is their number.
+-- The loop's invariant, `Comparing`: the entries that are left are equal where all are.
+use Prim.Native.Nat.{◌-◌}
 use Rattle.thin_bytes.proofs.Comparing.{Comparing}
 use Rattle.thin_bytes.proofs.same_entries.Given as goal
 
-abbrev pub invariant-loop-left : goal.invariant-loop-left
-invariant-loop-left l = Comparing l.s l.a l.b l.count l.at l.other_at l.left
-
-abbrev pub decreases-loop-left : goal.decreases-loop-left
-decreases-loop-left l = l.left
+abbrev pub invariant-loop : goal.invariant-loop
+invariant-loop l = Comparing l.s l.a l.b l.count l.at l.other_at (l.count - l.counter)

@@ -1,16 +1,18 @@
-use Rattle.thin_bytes.proofs.Blocks.{writing, writing_end, next_block, writing_more}
+use native.Mathlib.Omega.{arith}
+use mathlib.Core.Path.{subst}
+use Rattle.thin_bytes.proofs.Blocks.{Writing, writing, writing_end, next_block, writing_more}
 use Rattle.thin_bytes.proofs.thin_blocks.Goals as goal
 
-pub loop-left-init : goal.loop-left-init
-loop-left-init c = writing _ _ _ _ _
+pub loop-init : goal.loop-init
+loop-init c = writing _ _ _ _
 
-pub thin_block-places-requires : goal.thin_block-places-requires
-thin_block-places-requires c =
-    next_block c.loop-left.invariant c.loop-left-test.true c.requires
+pub thin_block-at-requires : goal.thin_block-at-requires
+thin_block-at-requires c = next_block c.loop.invariant (omega arith) c.requires
 
-pub loop-left-preserved : goal.loop-left-preserved
-loop-left-preserved c =
-    writing_more c.loop-left.invariant c.loop-left-test.true _ _ c.thin_block-places.ensures
+pub loop-preserved : goal.loop-preserved
+loop-preserved c =
+    subst (Writing c.args.s.now c.args.first c.args.count c.args.w.now c.thin_block-at.new.w c.thin_block-at.result) (omega arith)
+    (writing_more c.loop.invariant (omega arith) _ _ c.thin_block-at.ensures)
 
 pub returns : goal.returns
-returns c = writing_end c.loop-left.invariant c.loop-left-test.false
+returns c = writing_end c.loop.invariant (omega arith)

@@ -3,7 +3,7 @@ use Rattle.thin_bytes.proofs.Thinning.{thinning, thinning_end, next_path, thinni
 use Rattle.thin_bytes.proofs.thin_paths.Goals as goal
 
 pub loop-i-init : goal.loop-i-init
-loop-i-init c = thinning _ _ _ _ _ _
+loop-i-init c = thinning _ _ _ _ _
 
 pub thin_path-done-requires : goal.thin_path-done-requires
 thin_path-done-requires c =

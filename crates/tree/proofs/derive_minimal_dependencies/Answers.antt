@@ -6,7 +6,7 @@ use Rattle.tree.proofs.derive_minimal_dependencies.Goals as goal
 pub collect_minimal_deps_in_subtree-requires : goal.collect_minimal_deps_in_subtree-requires
 collect_minimal_deps_in_subtree-requires c =
     let a = c.args in
-    derivable a.s.now a.tree.now _ a.out.now a.at refl c.requires.0 c.requires.1
+    derivable a.s.now a.tree.now _ a.w.now refl c.requires.0 c.requires.1
 
 pub returns : goal.returns
 returns c =

@@ -8,8 +8,8 @@ use Rattle.tree.proofs.Packed.{packed_parent, packed_key}
 use Rattle.tree.proofs.Seeking.{enters_merged, appendable, enters_made}
 use Rattle.tree.proofs.make_or_merge.Goals as goal
 
-pub seek-sought-requires : goal.seek-sought-requires
-seek-sought-requires c =
+pub seek-requires : goal.seek-requires
+seek-requires c =
     let a = c.args in
     let room = c.requires.2 in
     let short = c.requires.0.short in
@@ -21,14 +21,14 @@ seek-sought-requires c =
       c.requires.4 ∙ sym (packed_key a.parent a.place a.access p< c.requires.3 a.s.now c.pack-step.result c.pack-step.ensures.0),
     )
 
-pub returns-then-number-gt0 : goal.returns-then-number-gt0
-returns-then-number-gt0 c =
+pub returns-in-Ok : goal.returns-in-Ok
+returns-in-Ok c =
     let a = c.args in
     let room = c.requires.2 in
     let short = c.requires.0.short in
     let lies = c.requires.1 in
-    enters_merged a.parent a.place a.access c.pack-step.result c.seek-sought.result c.requires.0 (omega arith) c.requires.3
-    c.pack-step.ensures.0 c.seek-sought.ensures c.if-number-gt0.true _ c.merge_at.ensures
+    enters_merged a.parent a.place a.access c.pack-step.result c.requires.0 (omega arith) c.requires.3
+    c.pack-step.ensures.0 c.in-Ok.ensures _ c.merge_at.ensures
 
 pub append-requires : goal.append-requires
 append-requires c =
@@ -36,14 +36,14 @@ append-requires c =
     let room = c.requires.2 in
     let short = c.requires.0.short in
     let lies = c.requires.1 in
-    appendable a.parent a.place a.access c.pack-step.result c.seek-sought.result c.requires.0 (omega arith) c.requires.3
-    c.pack-step.ensures.0 c.seek-sought.ensures room c.if-number-gt0.false
+    appendable a.parent a.place a.access c.pack-step.result c.requires.0 (omega arith) c.requires.3
+    c.pack-step.ensures.0 room c.in-Err.ensures
 
-pub returns : goal.returns
-returns c =
+pub returns-in-Err : goal.returns-in-Err
+returns-in-Err c =
     let a = c.args in
     let room = c.requires.2 in
     let short = c.requires.0.short in
     let lies = c.requires.1 in
-    enters_made a.parent a.place a.access c.pack-step.result c.seek-sought.result c.requires.0 (omega arith) c.requires.3
-    c.pack-step.ensures.0 c.seek-sought.ensures room c.if-number-gt0.false _ c.append.result c.append.ensures
+    enters_made a.parent a.place a.access c.pack-step.result c.requires.0 (omega arith) c.requires.3
+    c.pack-step.ensures.0 room c.in-Err.ensures _ c.append.result c.append.ensures

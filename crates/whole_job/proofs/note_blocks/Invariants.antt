@@ -9,13 +9,10 @@ use Rattle.job.specs.Passing.{passed, notes}
 use Rattle.job.specs.Kept.{note_place, note_number}
 use Rattle.whole_job.proofs.note_blocks.Given as goal
 
-abbrev pub invariant-loop-i : goal.invariant-loop-i
-invariant-loop-i l =
-    (passed (read_many (l.count - l.i) (read_block 4) l.s l.at) ≡ passed (read_many l.count (read_block 4) l.s l.start))
-    × (sets l.ids l.i (notes note_number (l.count - l.i) (read_block 4) l.s l.at) ≡ sets l.initial.ids 0 (notes note_number l.count (read_block 4) l.s l.start))
-    × (sets l.places l.i (notes note_place (l.count - l.i) (read_block 4) l.s l.at)
+abbrev pub invariant-loop-k : goal.invariant-loop-k
+invariant-loop-k l =
+    (passed (read_many (l.count - l.k) (read_block 4) l.s l.at) ≡ passed (read_many l.count (read_block 4) l.s l.start))
+    × (sets l.ids l.k (notes note_number (l.count - l.k) (read_block 4) l.s l.at) ≡ sets l.initial.ids 0 (notes note_number l.count (read_block 4) l.s l.start))
+    × (sets l.places l.k (notes note_place (l.count - l.k) (read_block 4) l.s l.at)
     ≡ sets l.initial.places 0 (notes note_place l.count (read_block 4) l.s l.start))
     × (l.count ≤ 128)
-
-abbrev pub decreases-loop-i : goal.decreases-loop-i
-decreases-loop-i l = l.count - l.i

@@ -3,8 +3,8 @@
 use Rattle.hoistable.proofs.Numbers.{holds_longer, holds_shorter}
 use Rattle.hoistable.proofs.Levels.over.Goals as goal
 
-pub returns-then-end-other : goal.returns-then-end-other
-returns-then-end-other c xs ys hx hy = holds_longer hx hy c.if-end-other.true
+pub returns-then-self-other : goal.returns-then-self-other
+returns-then-self-other c xs ys hx hy = holds_longer hx hy c.if-self-other.true
 
-pub returns-else-end-other : goal.returns-else-end-other
-returns-else-end-other c xs ys hx hy = holds_shorter hx hy c.if-end-other.false
+pub returns-else-self-other : goal.returns-else-self-other
+returns-else-self-other c xs ys hx hy = holds_shorter hx hy c.if-self-other.false

@@ -7,4 +7,4 @@ use Rattle.rows.proofs.NodeBits.contains.Goals as goal
 
 pub returns : goal.returns
 unfolding has_bit
-returns c = sym (contains_members c.args.self.words c.args.k c.requires)
+returns c = sym (contains_members c.args.self.now.words c.args.k c.requires)

@@ -5,4 +5,4 @@ use borrow.Author.Rules.{rules}
 use Rattle.rows.proofs.NodeBits.insert.Goals as goal
 
 pub returns : goal.returns
-returns c = inserted c.args.self.words c.args.k (search rules) c.requires
+returns c = inserted c.args.self.now.words c.args.k (search rules) c.requires

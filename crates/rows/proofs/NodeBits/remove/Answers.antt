@@ -5,4 +5,4 @@ use borrow.Author.Rules.{rules}
 use Rattle.rows.proofs.NodeBits.remove.Goals as goal
 
 pub returns : goal.returns
-returns c = removed c.args.self.words c.args.k (search rules) c.requires
+returns c = removed c.args.self.now.words c.args.k (search rules) c.requires

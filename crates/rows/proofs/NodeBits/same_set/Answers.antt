@@ -1,22 +1,16 @@
+-- `NodeBits::same_set` meets its contract. Words that differ differ in a bit, so in the test of a
+-- node, and the sets are not the same; where all eight are equal, every test answers the same.
 use mir.Syntax.{w64}
 use mir.Val.{Fits}
-use native.Mathlib.Omega.{arith}
-use mathlib.Core.Path.{sym}
+use mathlib.Core.Path.{◌∙◌}
 use lib.ListN.{get_or}
-use borrow.Author.Count.{below_more}
-use Rattle.rows.proofs.Members.{word_differs, words_agree}
+use Rattle.rows.proofs.Members.{words_equal}
 use borrow.Author.Rules.{rules}
 use Rattle.rows.proofs.NodeBits.same_set.Goals as goal
 
-pub returns-then-a-i : goal.returns-then-a-i
-returns-then-a-i c =
-    let a : Fits w64 (get_or c.args.self.words c.loop-i.i 0) = search rules in
-    let b : Fits w64 (get_or c.args.other.words c.loop-i.i 0) = search rules in
-    sym (word_differs c.args.self.words c.args.other.words c.loop-i.i c.loop-i-test.true a.fits b.fits c.if-a-i.true)
-
-pub loop-i-preserved : goal.loop-i-preserved
-loop-i-preserved c = (search rules, below_more _ _ c.loop-i.invariant.1 c.if-a-i.false)
-
 pub returns : goal.returns
 returns c =
-    sym (words_agree c.args.self.words c.args.other.words (λ i h. c.loop-i.invariant.1 i (omega arith)))
+    c.eq.ensures
+    ∙ words_equal c.args.self.words c.args.other.words (search rules) (search rules)
+    (λ i. let a : Fits w64 (get_or c.args.self.words i 0) = search rules in a.fits)
+    (λ i. let b : Fits w64 (get_or c.args.other.words i 0) = search rules in b.fits)

@@ -1,24 +1,15 @@
--- What each of the three tests rules out, together.
-use mathlib.Core.Path.{refl}
-use Rattle.model.specs.Tests.{never}
+-- What each of the three tests rules out, together: all go by one index.
+use Rattle.std.proofs.Common.{◌≡◌, not, sym, ap, ◌∙◌}
+use Rattle.std.specs.Option.{is_some}
 use Rattle.whole_job.proofs.Stamps.{neither}
 use Rattle.whole_job.proofs.apart.neither_applies.Goals as goal
 
-pub returns-then-ids-gt128 : goal.returns-then-ids-gt128
-returns-then-ids-gt128 c = λ e. never e refl
-
-pub returns-then-places-gt128 : goal.returns-then-places-gt128
-returns-then-places-gt128 c = λ e. never e refl
-
-pub returns-then-not-ids_apart : goal.returns-then-not-ids_apart
-returns-then-not-ids_apart c = λ e. never e refl
-
-pub returns-then-not-all_apart : goal.returns-then-not-all_apart
-returns-then-not-all_apart c = λ e. never e refl
-
-pub returns : goal.returns
-returns c =
-    let once = c.ids_apart.ensures c.if-not-ids_apart.false in
-    let all = c.all_apart.ensures c.if-not-all_apart.false in
+pub returns-then-ids_apart : goal.returns-then-ids_apart
+returns-then-ids_apart c =
     let a = c.args in
-    λ e. neither a.s.now a.ids.now a.places.now _ a.scope once all c.place_of.ensures e
+    let index = c.new.result in
+    let ids : index.ids.now ≡ a.ids.now = ap (λ r. r.now) c.new.ensures in
+    let found = ap is_some (sym c.place_of.ensures) ∙ c.is_none.ensures ∙ ap not c.if-is_none.false in
+    let once = c.ids_apart.ensures c.if-ids_apart.true in
+    λ e. let all = rw once.0 at (c.all_apart.ensures e) in
+    rw (← ids) (neither a.s.now index.ids.now a.places.now index.bytes a.scope once.1 all found)

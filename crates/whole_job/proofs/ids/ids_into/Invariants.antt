@@ -13,6 +13,3 @@ invariant-loop-i l =
     (sets l.out l.i (notes note_value (l.count - l.i) (read_number 4) l.s l.at) ≡ sets l.initial.out 0 (notes note_value l.count (read_number 4) l.s l.start))
     × IsRead (read_many (l.count - l.i) read_block_id l.s l.at)
     × (l.count ≤ 64)
-
-abbrev pub decreases-loop-i : goal.decreases-loop-i
-decreases-loop-i l = l.count - l.i

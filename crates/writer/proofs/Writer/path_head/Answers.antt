@@ -1,0 +1,14 @@
+-- Five numbers, one after the other.
+use Rattle.std.proofs.Common.{refl}
+use Rattle.writer.proofs.Bytes.{puts_then, puts_number, puts_flag}
+use Rattle.writer.proofs.Writer.path_head.Goals as goal
+
+pub returns : goal.returns
+returns c =
+    puts_then
+    (puts_then
+    (puts_then
+    (puts_then (puts_number c.from.ensures c.number.ensures) (puts_number c.from-2.ensures c.number-2.ensures))
+    (puts_flag _ _ c.from-3.ensures refl c.number-3.ensures))
+    c.number-4.ensures)
+    c.number-5.ensures
