@@ -55,6 +55,15 @@ impl PropertyLiteral {
             PropertyLiteral::Number(v) => v,
         }
     }
+
+    // The same kind and the same 64 bits.
+    // Design: a method beside the derived `==`, since its contract says that this is the model's
+    // test of properties.
+    pub fn same(self, other: PropertyLiteral) -> bool
+        ensures { result ≡ same_property self other }
+    {
+        self == other
+    }
 }
 
 // One step of a path: `.property`, or `?.property` where `optional`. The span is the host's number
@@ -73,7 +82,7 @@ impl DependencyPathEntry {
     pub fn same(self, other: DependencyPathEntry) -> bool
         ensures { result ≡ same_entry self other }
     {
-        self.property == other.property && self.optional == other.optional
+        self.property.same(other.property) && self.optional == other.optional
     }
 }
 

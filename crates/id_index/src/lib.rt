@@ -17,18 +17,28 @@ pub struct IdIndex<'a> {
 }
 
 impl<'a> IdIndex<'a> {
-    // The index of these ids, entered one after the other.
+    // An index of these ids that leads to none yet.
+    // Design: apart from `enter`: an index that is returned when its bytes are filled is moved by
+    // `memcpy`, and the C interface calls nothing from outside but `memset`.
     pub fn new(ids: &'a [u32]) -> IdIndex<'a>
         requires { length ids.now ≤ 128 }
         ensures { result.ids ≡ ids.entry }
     {
-        let mut bytes = [255; 256];
-        for (k, id) in ids.iter().enumerate() {
-            let bucket = (*id % 128) as usize;
-            bytes[128 + k] = bytes[bucket];
-            bytes[bucket] = k as u8;
+        IdIndex {
+            ids,
+            bytes: [255; 256],
         }
-        IdIndex { ids, bytes }
+    }
+
+    // The ids are entered, one after the other.
+    pub fn enter(&mut self)
+        ensures { self.new.ids ≡ self.old.ids }
+    {
+        for (k, id) in self.ids.iter().enumerate() {
+            let bucket = (*id % 128) as usize;
+            self.bytes[128 + k] = self.bytes[bucket];
+            self.bytes[bucket] = k as u8;
+        }
     }
 
     // The place of the block with an id to which the index leads.

@@ -11,7 +11,7 @@ use lib.Seq.{sets-eq}
 use Rattle.entries.specs.declared.Refusal.{Refusal}
 use Rattle.entries.specs.declared.Refusal.TheVariants.{ManyNodes}
 use Rattle.model.specs.Tests.{ltb_less, ltb_not_less}
-use Rattle.model.specs.ReadingBytes.{got}
+use Rattle.model.specs.ReadingBytes.{got, refused}
 use Rattle.model.specs.Registry.{node_limit}
 use Rattle.model.specs.Rounds.{Rounds}
 use Rattle.model.specs.Strict.{strict_neighbours, strict_answer_of, strict_sheet_of}
@@ -65,6 +65,12 @@ module _ (rule : JoiningRule) (op : Operation) (s : List ℕ) (j : Job) (end : �
       let room = x.stands.held.sized.room in
       read_verdict ∙ ap (λ b. cond b (turns_back ManyNodes) (writes bytes))
       (ltb_not_less node_limit (length p.work.registry) (omega arith))
+
+-- What the reader refuses is turned back, where neither 1 nor 2 applies.
+pub read_turned_back : (least : ℕ) (s out : List ℕ) {r : Refusal} → least ≤ length out → length s ≤ longest_job
+    → read_job HD span_width s ≡ refused r → TurnedBack least s out r
+read_turned_back least s out {r} wide short e = λ rest turned.
+    rw (ltb_not_less (length out) least wide, ltb_not_less longest_job (length s) short) (ap rest e ∙ turned r)
 
 -- Any bytes and any buffer.
 

@@ -2,7 +2,8 @@
 // strict one, and its thin job, written into an out buffer, or the refusal.
 #![tactic(auto)]
 
-ghost use Rattle.std.specs.Prelude.{◌≡◌, ◌≤◌, ◌<◌, length, take, Some, IfOk, IfErr};
+ghost use Rattle.std.specs.Prelude.{◌≡◌, ◌≤◌, ◌<◌, length, take, Some, IfOk, IfErr, OnOk};
+ghost use Rattle.model.specs.ReadingBytes.{refused};
 ghost use Rattle.std.specs.Coded.{Coded-set, coded_option};
 ghost use Rattle.model.specs.Job.{HD, read_job};
 ghost use Rattle.model.specs.Answer.{longest_job, span_width, least_buffer, answer_of, sheet_of, buffer_after, number_returned};
@@ -70,24 +71,16 @@ struct Accepted<'a> {
 }
 
 impl<'a> Accepted<'a> {
-    // What each operation does first: a short buffer and a long job are refused, and the job is
-    // read.
+    // The job is read.
     fn open(
-        least: usize,
         s: &'a [u8],
-        out: &[u8],
         ids: &'a mut [u32; 128],
         places: &'a mut [usize; 128],
     ) -> Result<Accepted<'a>, Refusal>
-        ensures ok { IfOk result (λ job. (job.s ≡ s.entry) × (least ≤ length out.now)) }
-        ensures err { IfErr result (TurnedBack least s.now out.now) }
+        requires { length s.now ≤ longest_job }
+        ensures ok { IfOk result (λ job. job.s ≡ s.entry) }
+        ensures err { IfErr result (λ r. read_job HD span_width s.now ≡ refused r) }
     {
-        if out.len() < least {
-            return Err(Refusal::ShortBuffer);
-        }
-        if 32768 < s.len() {
-            return Err(Refusal::LongJob);
-        }
         let head = reader::read_job(s, ids, places)?;
         Ok(Accepted {
             s,
@@ -246,6 +239,21 @@ impl<'a> Accepted<'a> {
     }
 }
 
+// What each operation does first: a short buffer and a long job are refused.
+// Design: apart from `Accepted::open`, so that no array is cleared for them.
+fn within_lengths(least: usize, s: &[u8], out: &[u8]) -> Result<(), Refusal>
+    ensures ok { OnOk result ((least ≤ length out.now) × (length s.now ≤ longest_job)) }
+    ensures err { IfErr result (TurnedBack least s.now out.now) }
+{
+    if out.len() < least {
+        return Err(Refusal::ShortBuffer);
+    }
+    if 32768 < s.len() {
+        return Err(Refusal::LongJob);
+    }
+    Ok(())
+}
+
 // The operation on any bytes and any buffer, by the propagation of a joining rule.
 pub fn perform(
     joining: Joining,
@@ -256,9 +264,10 @@ pub fn perform(
     ensures { Meets (verdict_of (rule_of joining) operation s.now out.old) result out.old
         out.new }
 {
+    within_lengths(LEAST_OUT, s, out)?;
     let mut ids = [0u32; 128];
     let mut places = [0usize; 128];
-    let job = Accepted::open(LEAST_OUT, s, out, &mut ids, &mut places)?;
+    let job = Accepted::open(s, &mut ids, &mut places)?;
     job.perform(joining, operation, out)
 }
 
@@ -301,9 +310,10 @@ pub fn strict_sheet(s: &[u8], out: &mut [u8]) -> Result<usize, Refusal>
 pub fn thin(s: &[u8], out: &mut [u8]) -> Result<usize, Refusal>
     ensures { Meets (thin_of s.now out.old) result out.old out.new }
 {
+    within_lengths(LEAST_THIN_OUT, s, out)?;
     let mut ids = [0u32; 128];
     let mut places = [0usize; 128];
-    let job = Accepted::open(LEAST_THIN_OUT, s, out, &mut ids, &mut places)?;
+    let job = Accepted::open(s, &mut ids, &mut places)?;
     Ok(thin_bytes::put_thin(s, job.head, out))
 }
 

@@ -109,6 +109,7 @@ pub fn neither_applies(s: &[u8], ids: &[u32], places: &[usize], scope: BlockId) 
         index: IdIndex::new(ids),
         stamps: [255; 128],
     };
+    stamps.index.enter();
     if stamps.index.place_of(scope.0).is_none() {
         return false;
     }

@@ -38,13 +38,17 @@ fn unknown_in(ids: &[u32], known: &[u32]) -> bool
 // `count` ids from a place on, which were read before, stored.
 // Design: an array of the most ids with a count, since memory is fixed; and a place that moves,
 // since the clause speaks of the notes of `read_many`, which moves it.
+// Design: no `unwrap`, with which the compiled loop is a `memcpy`: the C interface calls nothing
+// from outside but `memset`.
 fn ids_into(s: &[u8], start: usize, count: u8, out: &mut [u32; 64])
     requires { (count ≤ 64) × IsRead (read_many count read_block_id s.now start) }
     ensures { out.new ≡ sets out.old 0 (notes note_value count (read_number 4) s.now start) }
 {
     let mut at = start;
     for i in 0..count {
-        let (id, next) = fields::number_at::<u32>(s, at).unwrap();
+        let Ok((id, next)) = fields::number_at::<u32>(s, at) else {
+            return;
+        };
         out[usize::from(i)] = id;
         at = next;
     }

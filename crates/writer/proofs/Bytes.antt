@@ -35,13 +35,24 @@ bytes_over : (l : List ℕ) (i end x : ℕ) → end ≤ i → sets l i (number_b
 unfolding number_bytes
 bytes_over l i end x h = let e : end - i ≡ 0 = omega arith in rw e
 
+-- as many bytes as a list has, stored from its start on, are the list
+all_replaced : (first bytes : List ℕ) → length first ≡ length bytes → sets first 0 bytes ≡ bytes
+all_replaced first bytes size =
+    sets-eq bytes first 0 (omega arith)
+    ∙ ap (λ (l : List ℕ). bytes ++ l) (drop_all (0 + length bytes) first (omega arith)) ∙ append-nil bytes
+
 -- where all bytes are stored in a part of as many, that is the number
 pub all_stored : (first part : List ℕ) (i n rest x : ℕ) → n ≤ i → length first ≡ n
     → sets part i (number_bytes (n - i) rest) ≡ sets first 0 (number_bytes n x) → part ≡ number_bytes n x
 all_stored first part i n rest x over size stored =
     let long = number_length n x in
-    sym (bytes_over part i n rest over) ∙ stored ∙ sets-eq (number_bytes n x) first 0 (omega arith)
-    ∙ ap (λ (l : List ℕ). number_bytes n x ++ l) (drop_all (0 + length (number_bytes n x)) first (omega arith)) ∙ append-nil (number_bytes n x)
+    sym (bytes_over part i n rest over) ∙ stored ∙ all_replaced first (number_bytes n x) (omega arith)
+
+-- where all bytes of a slice are copied into a part of as many, the part is the slice
+pub all_copied : (first part s : List ℕ) (i : ℕ) → length s ≤ i → length first ≡ length s
+    → sets part i (drop i s) ≡ sets first 0 s → part ≡ s
+all_copied first part s i over size copied =
+    sym (ap (λ (l : List ℕ). sets part i l) (drop_all i s over)) ∙ copied ∙ all_replaced first s size
 
 sets_append : (l : List ℕ) (i : ℕ) (xs ys : List ℕ) → sets l i (xs ++ ys) ≡ sets (sets l i xs) (i + length xs) ys
 sets_append l i [] ys = rw (add-zero i)

@@ -32,12 +32,17 @@ impl<'a> Writer<'a> {
     }
 
     // The bytes of a slice.
+    // Design: a loop and no `copy_from_slice`, which calls `memmove`: the C interface calls nothing
+    // from outside but `memset`.
     pub fn bytes(&mut self, s: &[u8])
         requires { HasRoom self.old (length s.now) }
         ensures { Puts self.old self.new (length s.now) s.now }
     {
         let end = self.at + s.len();
-        self.out[self.at..end].copy_from_slice(s);
+        let part = &mut self.out[self.at..end];
+        for (i, byte) in s.iter().enumerate() {
+            part[i] = *byte;
+        }
         self.at = end;
     }
 

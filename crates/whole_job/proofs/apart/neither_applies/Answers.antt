@@ -7,8 +7,8 @@ use Rattle.whole_job.proofs.apart.neither_applies.Goals as goal
 pub returns-then-ids_apart : goal.returns-then-ids_apart
 returns-then-ids_apart c =
     let a = c.args in
-    let index = c.new.result in
-    let ids : index.ids.now ≡ a.ids.now = ap (λ r. r.now) c.new.ensures in
+    let index = c.enter.new.self in
+    let ids : index.ids.now ≡ a.ids.now = ap (λ r. r.now) (c.enter.ensures ∙ c.new.ensures) in
     let found = ap is_some (sym c.place_of.ensures) ∙ c.is_none.ensures ∙ ap not c.if-is_none.false in
     let once = c.ids_apart.ensures c.if-ids_apart.true in
     λ e. let all = rw once.0 at (c.all_apart.ensures e) in
