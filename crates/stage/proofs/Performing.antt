@@ -3,7 +3,7 @@
 use Prim.Native.Nat.{ℕ, ◌≤◌, ◌<◌}
 use native.Mathlib.Omega.{arith}
 use native.Mathlib.Nat.{zero-add}
-use mathlib.Core.Path.{◌≡◌, refl, sym, ap, subst, ◌∙◌}
+use mathlib.Core.Path.{◌≡◌, refl, sym, ap, ◌∙◌}
 use mathlib.Core.Bool.{cond}
 use mathlib.Core.List.{List, ◌++◌}
 use lib.ListN.{length, drop}
@@ -18,7 +18,20 @@ use Rattle.model.specs.Strict.{strict_neighbours, strict_answer_of, strict_sheet
 use Rattle.model.specs.Propagation.{Work, JoiningRule, done_neighbours}
 use Rattle.model.specs.Job.{HD, Job, read_job}
 use Rattle.model.specs.Stage.{start_of, propagated}
-use Rattle.model.specs.Answer.{Verdict, writes, turns_back, within_nodes, on_job, least_buffer, longest_job, span_width, buffer_after, answer_of, sheet_of}
+use Rattle.model.specs.Answer.{
+  Verdict,
+  writes,
+  turns_back,
+  within_lengths,
+  within_nodes,
+  on_job,
+  least_buffer,
+  longest_job,
+  span_width,
+  buffer_after,
+  answer_of,
+  sheet_of,
+}
 use Rattle.registry.proofs.View.{registry_length}
 use Rattle.writer.specs.Writes.{Writes}
 use Rattle.entries.specs.declared.RoundsRun.{RoundsRun}
@@ -27,7 +40,6 @@ use Rattle.propagation.proofs.Answers.{propagated_registry}
 use Rattle.stage.specs.declared.Operation.{Operation}
 use Rattle.stage.specs.declared.Operation.TheVariants as operation
 use Rattle.std.specs.Prelude.{Result, Ok, Err}
-use Rattle.stage.specs.declared.Accepted.{Accepted}
 use Rattle.stage.specs.Jobs.{operation_bytes, outcome_of, TurnedBack, Meets, verdict_of, job_verdict}
 
 -- a verdict that turns back leaves the buffer
@@ -66,11 +78,15 @@ module _ (rule : JoiningRule) (op : Operation) (s : List ℕ) (j : Job) (end : �
       read_verdict ∙ ap (λ b. cond b (turns_back ManyNodes) (writes bytes))
       (ltb_not_less node_limit (length p.work.registry) (omega arith))
 
--- What the reader refuses is turned back, where neither 1 nor 2 applies.
+-- Where neither 1 nor 2 applies, the verdict is the rest.
+pub lengths_pass : (least : ℕ) (s out : List ℕ) (rest : Verdict) → least ≤ length out → length s ≤ longest_job
+    → within_lengths least longest_job s out rest ≡ rest
+lengths_pass least s out rest wide short = rw (ltb_not_less (length out) least wide, ltb_not_less longest_job (length s) short)
+
+-- There what the reader refuses is turned back.
 pub read_turned_back : (least : ℕ) (s out : List ℕ) {r : Refusal} → least ≤ length out → length s ≤ longest_job
     → read_job HD span_width s ≡ refused r → TurnedBack least s out r
-read_turned_back least s out {r} wide short e = λ rest turned.
-    rw (ltb_not_less (length out) least wide, ltb_not_less longest_job (length s) short) (ap rest e ∙ turned r)
+read_turned_back least s out {r} wide short e = λ rest turned. lengths_pass least s out _ wide short ∙ ap rest e ∙ turned r
 
 -- Any bytes and any buffer.
 
@@ -80,12 +96,10 @@ module _ (rule : JoiningRule) (op : Operation) (s out : List ℕ) where
   unfolding verdict_of
   turned_back t = t (on_job rule (operation_bytes op span_width)) (λ q. refl)
 
-  -- and the verdict on what is read is the operation's
-  pub by_job : (o : Accepted) → o.s.now ≡ s → least_buffer ≤ length out → verdict_of rule op s out ≡ job_verdict rule op o.s.now
+  -- and where neither 1 nor 2 applies, the verdict is that on the job
+  pub by_job : least_buffer ≤ length out → length s ≤ longest_job → verdict_of rule op s out ≡ job_verdict rule op s
   unfolding verdict_of job_verdict
-  by_job o same wide =
-      let short : length s ≤ longest_job = subst (λ (l : List ℕ). length l ≤ longest_job) same o.short in
-      rw (same, ltb_not_less (length out) least_buffer wide, ltb_not_less longest_job (length s) short)
+  by_job = lengths_pass least_buffer s out _
 
 -- The operations, each under its rule.
 

@@ -7,7 +7,6 @@ use mathlib.Core.Path.{◌≡◌, refl, subst, ap, ◌∙◌}
 use mathlib.Core.List.{List}
 use lib.ListN.{length}
 use Rattle.entries.specs.declared.Refusal.{Refusal}
-use Rattle.model.specs.Tests.{ltb_not_less}
 use Rattle.model.specs.Job.{HD, read_job}
 use Rattle.model.specs.JobBytes.{job_bytes}
 use Rattle.model.specs.Answer.{turns_back, longest_job, span_width}
@@ -19,7 +18,7 @@ use Rattle.std.specs.Prelude.{Ok}
 use Rattle.stage.specs.declared.Accepted.{Accepted}
 use Rattle.stage.proofs.Accepting.{kept}
 use Rattle.stage.specs.Jobs.{TurnedBack, Meets}
-use Rattle.stage.proofs.Performing.{stands_written}
+use Rattle.stage.proofs.Performing.{lengths_pass, stands_written}
 
 module _ (s out : List ℕ) where
   pub thin_turned_back : {r : Refusal} → TurnedBack least_thin_buffer s out r → thin_of s out ≡ turns_back r
@@ -33,7 +32,7 @@ module _ (s out : List ℕ) where
 
     by_reading : thin_of s out ≡ on_thin_job HD span_width (read_job HD span_width s)
     unfolding thin_of
-    by_reading = rw (ltb_not_less (length out) least_thin_buffer wide, ltb_not_less longest_job (length s) short)
+    by_reading = lengths_pass least_thin_buffer s out _ wide short
 
     there : IsAccepted s o.head
     there = accepted s (subst (λ (l : List ℕ). Ok o.head ≡ kept_of l (read_job HD 4 l)) same (kept o))

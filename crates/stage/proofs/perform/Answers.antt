@@ -1,9 +1,9 @@
 -- What is turned back before it is performed is turned back by the operation; what was opened is
 -- performed.
-use Rattle.std.proofs.Common.{Bor, List, ℕ, rules, ◌≡◌, ap, sym, subst, Err}
+use Rattle.std.proofs.Common.{Bor, List, ℕ, rules, ◌≡◌, ap, sym, subst, ◌∙◌, Err}
 use Rattle.model.specs.Answer.{Verdict, least_buffer}
 use Rattle.propagation.specs.Rules.{rule_of}
-use Rattle.stage.specs.Jobs.{Meets}
+use Rattle.stage.specs.Jobs.{Meets, job_verdict}
 use Rattle.stage.proofs.Performing.{refuses, turned_back, read_turned_back, by_job}
 use Rattle.stage.proofs.perform.Goals as goal
 
@@ -23,7 +23,9 @@ returns-in_err-job c =
 
 pub returns : goal.returns
 returns c =
+    let a = c.args in
     let w = c.in_ok-within_lengths.ensures.ok in
-    let same = ap (λ (b : Bor (List ℕ)). b.now) c.in_ok-job.ensures.ok in
-    let e = by_job (rule_of c.args.joining) c.args.operation c.args.s.now c.args.out.now c.in_ok-job.job same w.0 in
-    subst (λ (v : Verdict). Meets v c.perform.result c.args.out.now c.perform.new.out) (sym e) c.perform.ensures
+    let rule = rule_of a.joining in
+    let same = ap (λ (b : Bor (List ℕ)). job_verdict rule a.operation b.now) c.in_ok-job.ensures.ok in
+    let e = by_job rule a.operation a.s.now a.out.now w.0 w.1 ∙ sym same in
+    subst (λ (v : Verdict). Meets v c.perform.result a.out.now c.perform.new.out) (sym e) c.perform.ensures
